@@ -1,0 +1,14 @@
+# make test   proves everything, tries every must-fail edit, reads the machine code, runs the Rust tests
+# make lib    builds the static libraries that can be linked
+# make listing   prints the machine code that the tests look at
+
+.PHONY: test lib listing
+
+test:
+	@tests/run
+
+lib:
+	rt staticlib listing
+
+listing: lib
+	objdump -d --no-show-raw-insn target/staticlib/liblisting.a

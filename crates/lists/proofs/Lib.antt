@@ -1,0 +1,4 @@
+pub mod Tests
+pub mod Tables
+pub mod Searches
+pub mod Members
