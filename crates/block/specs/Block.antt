@@ -86,7 +86,7 @@ checked b =
     (Refused 33)) (Refused 32)) (Refused 31)) (Refused 30)
 
 -- document 01's number of each case
-unfoldable pub checkedNumber : Checked → ℕ
+abbrev pub checkedNumber : Checked → ℕ
 checkedNumber (Pass c) = 0
 checkedNumber (Refused k) = k
 

@@ -4,7 +4,7 @@ ghost use mathlib.Core.Bool.{true};
 ghost use Prim.Native.Nat.{_+_, _*_, _≤_, _<_};
 ghost use lib.ListN.{length};
 ghost use Rattle.lists.specs.Lists.{at, sum};
-ghost use Rattle.block.specs.Block.{Readable, countIn, sequenceIn, checksumOf, startAt, spaced, tableGood, controlAmong, idleBlock, checked};
+ghost use Rattle.block.specs.Block.{Readable, countIn, sequenceIn, checksumOf, startAt, spaced, tableGood, controlAmong, idleBlock, checked, checkedNumber};
 ghost use Rattle.block.specs.Sequence.{arrivalOf};
 
 /// A block's lengths. Header: version 1, message count 1, length 2, sequence number 4, checksum 2; then a table of 2 bytes a message.
@@ -26,6 +26,16 @@ impl Block {
 pub enum Checked {
     Pass(usize),
     Refused(u8),
+}
+
+/// Document 01's number of what the checks give: 0 for a pass.
+pub fn number(checked: Checked) -> u8
+    ensures { λ r. ⌜ r ≡ checkedNumber checked ⌝ }
+{
+    match checked {
+        Checked::Pass(_) => 0,
+        Checked::Refused(number) => number,
+    }
 }
 
 /// Checks 30 to 34 in their order, on any bytes.

@@ -10,7 +10,7 @@ use native.Mathlib.Nat.{sub-zero, eq-or-lt-of-le}
 use native.Mathlib.Numerals.{add-one}
 use lib.ListN.{length, getD, drop, drop-of-length-le}
 use lib.Seq.{drop-cons}
-use Rattle.lists.specs.Lists.{all, firstFrom, sum}
+use Rattle.lists.specs.Lists.{all, firstFrom, every, sum}
 use Rattle.lists.specs.declared.Found.{Found}
 use Rattle.lists.specs.declared.Found.the-variants.{At, Nothing}
 use Rattle.lists.proofs.Tests.{and-true}
@@ -96,6 +96,23 @@ first-hit p i (suc k) j e =
     (λ w. let h : Hit p (i + 1) k j = first-hit p (i + 1) k j (w .1) in
     record { low = omega arith; high = omega arith; holds = h .holds })
     (cond-at (p i) i j (firstFrom p (i + 1) k) e)
+
+-- ---- every element, as a loop looks at them
+
+module _ (p : ℕ → Bool) (s : List ℕ) (w : Bool) (i : ℕ) where
+  every-step : i < length s → every p (drop i s) ≡ (p (getD s i 0) && every p (drop (i + 1) s))
+  unfolding every
+  every-step h = rw (add-one, drop-cons s i 0)
+
+  pub every-fails : i < length s → every p (drop i s) ≡ w → p (getD s i 0) ≡ false → false ≡ w
+  every-fails h inv e = sym (ap (λ (t : Bool). t && every p (drop (i + 1) s)) e) ∙ sym (every-step h) ∙ inv
+
+  pub every-again : i < length s → every p (drop i s) ≡ w → p (getD s i 0) ≡ true → every p (drop (i + 1) s) ≡ w
+  every-again h inv e = sym (ap (λ (t : Bool). t && every p (drop (i + 1) s)) e) ∙ sym (every-step h) ∙ inv
+
+  pub every-end : length s ≤ i → every p (drop i s) ≡ w → true ≡ w
+  unfolding every
+  every-end h inv = rw (drop-of-length-le s h) at inv
 
 -- ---- sums, as a loop adds them
 

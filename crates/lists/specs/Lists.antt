@@ -58,6 +58,13 @@ sum (x ∷ xs) = x + sum xs
 
 -- ---- tests
 
+abbrev pub between : ℕ → ℕ → ℕ → Bool
+between low high x = leb low x && leb x high
+
+-- A to Z
+abbrev pub upper : ℕ → Bool
+upper x = between 65 90 x
+
 -- a number is in a table
 unfoldable pub member : List ℕ → ℕ → Bool
 member [] x = false

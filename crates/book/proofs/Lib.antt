@@ -1,0 +1,13 @@
+pub mod OpeningLaws
+pub mod PageLaws
+pub mod PartLaws
+pub mod LineLaws
+pub mod DayLaws
+pub mod FreshLaws
+pub mod AddLaws
+pub mod NumberLaws
+pub mod SoundLaws
+pub mod PlaceLaws
+pub mod WorkLaws
+pub mod FlagLaws
+pub mod TakeLaws

@@ -1,0 +1,164 @@
+-- The number of a call on a sound book, and what a call that is done was.
+-- Assumes nothing.
+use Prim.Native.Nat.{ℕ, zero, suc, _<_}
+use mathlib.Core.Path.{_≡_, refl, sym, ap, _∙_}
+use mathlib.Core.Bool.{Bool, true, false, _&&_, cond}
+use mathlib.Core.List.{List, [], _∷_}
+use mathlib.Core.Option.{none}
+use native.Mathlib.Omega.{arith}
+use lib.Dec.{ltb, leb, eqb, lit<}
+use lib.ListN.{length, length-map}
+use borrow.Author.Tests.{ltb-true, leb-true, le-leb, eqb-true, eq-eqb, ne-eqb}
+use Rattle.field.specs.Field.{Bytes, be, beBytes}
+use Rattle.field.proofs.Laws.{beBytes-be}
+use Rattle.lists.specs.Lists.{at, member, isSome, between, upper, every}
+use Rattle.lists.proofs.Tests.{clash, and-true, Cut, equal, apart, cut}
+use Rattle.message.specs.Form.{space, padded, symbolGood, letterGood}
+use Rattle.page.specs.Page.{readingOf}
+use Rattle.page.proofs.TableLaws.{length-range}
+use Rattle.page.proofs.CellLaws.{member-below}
+use Rattle.book.specs.Opening.{symbolsOf, countOf, bookLength, sound, Rest, restIn, pageAt, pagesIn}
+use Rattle.book.specs.Call.{Call, make, add, openLine, startDay, endDay, take, read, Listed, isListed, listing, listedOf, lots, numberOf, done, makeGood, isMake, numberOn}
+use Rattle.book.proofs.OpeningLaws.{Sound, sound-is}
+
+-- ---- on a sound book every number is worked out from n, lines, day and symbols
+
+module _ (n : ℕ) (b : List ℕ) (sd : Sound n b) where
+  make-same : (k : ℕ) → makeGood b k ≡ eqb k (symbolsOf b)
+  unfolding makeGood
+  make-same k = rw (sd .symbols) (go (cut k n))
+    where
+      last : (x y : Bool) → (x && (y && false)) ≡ false
+      last true true = refl
+      last true false = refl
+      last false y = refl
+
+      go : Cut k n → (leb 1 k && (leb k 64 && eqb (length b) (bookLength k))) ≡ eqb k n
+      go (equal t e) = rw (t, e, le-leb 1 n (sd .low), le-leb n 64 (sd .up), eq-eqb (length b) (bookLength n) (sd .size))
+      go (apart t e) = rw (t, ne-eqb (length b) (bookLength k) (λ z. e (omega (arith, z, sd .size)))) (last (leb 1 k) (leb k 64))
+
+  make-number : (k : ℕ) → cond (makeGood b k) 0 2 ≡ numberOf (restIn b) (listedOf (pagesIn b)) (make k)
+  unfolding numberOf restIn
+  make-number k = ap (λ (t : Bool). cond t 0 2) (make-same k)
+
+  pub number-same : (c : Call) → numberOn b c ≡ numberOf (restIn b) (listedOf (pagesIn b)) c
+  unfolding numberOn
+  number-same (make k) = make-number k
+  number-same (add x k) = rw (sound-is n b sd)
+  number-same (openLine i l) = rw (sound-is n b sd)
+  number-same startDay = rw (sound-is n b sd)
+  number-same endDay = rw (sound-is n b sd)
+  number-same (take i x k) = rw (sound-is n b sd)
+  number-same (read x k) = rw (sound-is n b sd)
+
+  rest-n : restIn b .n ≡ n
+  unfolding restIn
+  rest-n = sd .symbols
+
+  pub make-done : (k : ℕ) → done (numberOf (restIn b) (listedOf (pagesIn b)) (make k)) ≡ true → k ≡ n
+  unfolding numberOf done
+  make-done k d = go (cut k (restIn b .n)) d
+    where
+      go : Cut k (restIn b .n) → done (cond (eqb k (restIn b .n)) 0 2) ≡ true → k ≡ n
+      go (equal t e) d = e ∙ rest-n
+      go (apart t e) d = clash (sym (rw t at d))
+
+  pub listed-length : length (listedOf (pagesIn b)) ≡ countOf b
+  unfolding listedOf pagesIn
+  listed-length = length-map (pagesIn b) listing ∙ length-range (λ k. readingOf (pageAt b k)) (countOf b) 0
+
+  pub page-free : ltb (length (listedOf (pagesIn b))) (restIn b .n) ≡ true → countOf b < n
+  page-free h = omega (arith, ltb-true (length (listedOf (pagesIn b))) (restIn b .n) h, listed-length, rest-n)
+
+-- an unsound book does nothing
+pub unsound : (b : List ℕ) (c : Call) → sound b ≡ false → isMake c ≡ false → done (numberOn b c) ≡ false
+unfolding numberOn done
+unsound b c e m = rw (m, e)
+
+-- ---- what a call that is done was
+
+module _ (r : Rest) (ls : List Listed) where
+  pub record AddDone (s : List ℕ) (k : ℕ) : Type 0 where
+    pub good : symbolGood s ≡ true
+    pub lot : member lots k ≡ true
+    pub new : isListed (be s) ls ≡ false
+    pub room : ltb (length ls) (r .n) ≡ true
+
+  pub add-done : (s : List ℕ) (k : ℕ) → done (numberOf r ls (add s k)) ≡ true → AddDone s k
+  unfolding done numberOf
+  add-done s k = go (symbolGood s) refl (member lots k) refl (isListed (be s) ls) refl (ltb (length ls) (r .n)) refl
+    where
+      go : (a : Bool) → symbolGood s ≡ a → (b : Bool) → member lots k ≡ b → (c : Bool) → isListed (be s) ls ≡ c → (d : Bool) → ltb (length ls) (r .n) ≡ d
+          → done (cond a (cond b (cond c 4 (cond d 0 5)) 6) 3) ≡ true → AddDone s k
+      go true x true w false y true z e = record { good = x; lot = w; new = y; room = z }
+      go true x true w false y false z e = clash (sym e)
+      go true x true w true y d z e = clash (sym e)
+      go true x false w c y d z e = clash (sym e)
+      go false x b w c y d z e = clash (sym e)
+
+  pub open-done : (i l : ℕ) → done (numberOf r ls (openLine i l)) ≡ true → (i < 64) × (letterGood l ≡ true)
+  unfolding done numberOf
+  open-done i l d =
+      let e : (ltb i 64 && letterGood l) ≡ true = go (ltb i 64 && letterGood l) (isSome (r .lines i)) d in
+      let t = and-true (ltb i 64) (letterGood l) e in
+      (ltb-true i 64 (t .0), t .1)
+    where
+      go : (a b : Bool) → done (cond a (cond b 8 0) 7) ≡ true → a ≡ true
+      go true b e = refl
+      go false b e = clash (sym e)
+
+  pub take-done : (i : ℕ) (b : List ℕ) (k : ℕ) → done (numberOf r ls (take i b k)) ≡ true → r .lines i ≡ none → ⊥
+  unfolding done numberOf
+  take-done i b k d e = go (ltb k 180) (rw e at d)
+    where
+      go : (t : Bool) → done (cond t 9 21) ≡ true → ⊥
+      go true d = clash (sym d)
+      go false d = clash (sym d)
+
+  pub read-done : (s : List ℕ) (k : ℕ) → done (numberOf r ls (read s k)) ≡ true → (symbolGood s ≡ true) × (isListed (be s) ls ≡ true)
+  unfolding done numberOf
+  read-done s k = go (ltb k 96) (symbolGood s) (isListed (be s) ls)
+    where
+      go : (a b c : Bool) → done (cond a 9 (cond (b && c) 0 10)) ≡ true → (b ≡ true) × (c ≡ true)
+      go true b c e = clash (sym e)
+      go false true true e = (refl, refl)
+      go false true false e = clash (sym e)
+      go false false c e = clash (sym e)
+
+-- ---- what they say of the arguments' bytes
+
+pub lot-fits : (k : ℕ) → member lots k ≡ true → k < 256
+unfolding every
+lot-fits k e = member-below lots 256 k refl e
+
+spaces : (s : List ℕ) → every space s ≡ true → Bytes s
+unfolding every
+spaces [] e i = lit< tt
+spaces (x ∷ s) e zero = omega (arith, eqb-true x 32 (and-true (eqb x 32) (every space s) e .0))
+spaces (x ∷ s) e (suc i) = spaces s (and-true (eqb x 32) (every space s) e .1) i
+
+padded-bytes : (low high : ℕ) → high < 256 → (s : List ℕ) → padded low high s ≡ true → Bytes s
+unfolding padded
+padded-bytes low high h [] e = λ i. lit< tt
+padded-bytes low high h (x ∷ s) e = go (between low high x) refl (padded-bytes low high h s) e
+  where
+    head : x < 256 → Bytes s → Bytes (x ∷ s)
+    head a b zero = a
+    head a b (suc i) = b i
+
+    go : (t : Bool) → between low high x ≡ t → (padded low high s ≡ true → Bytes s) → cond t (padded low high s) (every space (x ∷ s)) ≡ true → Bytes (x ∷ s)
+    go true t down e = head (omega (arith, leb-true x high (and-true (leb low x) (leb x high) t .1))) (down e)
+    go false t down e = spaces (x ∷ s) e
+
+pub symbol-eleven : (s : List ℕ) → symbolGood s ≡ true → length s ≡ 11
+unfolding symbolGood
+symbol-eleven s e = eqb-true (length s) 11 (and-true (eqb (length s) 11) (upper (at s 0) && padded 33 126 s) e .0)
+
+pub symbol-bytes : (s : List ℕ) → symbolGood s ≡ true → Bytes s
+unfolding symbolGood
+symbol-bytes s e =
+    padded-bytes 33 126 (lit< tt) s (and-true (upper (at s 0)) (padded 33 126 s) (and-true (eqb (length s) 11) (upper (at s 0) && padded 33 126 s) e .1) .1)
+
+-- the bytes of a symbol's number are the symbol
+pub symbol-back : (s : List ℕ) → symbolGood s ≡ true → beBytes 11 (be s) ≡ s
+symbol-back s g = ap (λ (n : ℕ). beBytes n (be s)) (sym (symbol-eleven s g)) ∙ beBytes-be s (symbol-bytes s g)

@@ -1,0 +1,87 @@
+-- Writing the entries moves no quote, maker or level; and a page with nothing in it has six entries of none.
+-- Assumes nothing.
+use Prim.Native.Nat.{ℕ, zero, suc, _+_, _*_, _-_, _^_, _≤_, _<_}
+use mathlib.Core.Path.{_≡_, refl, sym, ap, ap₂, _∙_, fun-ext}
+use mathlib.Core.Bool.{Bool, true, false, _&&_, cond}
+use mathlib.Core.List.{List, [], _∷_, _++_, map}
+use mathlib.Core.Option.{Option, none, some}
+use native.Mathlib.Omega.{arith}
+use lib.Dec.{eqb}
+use lib.ListN.{length, getD, take, drop}
+use lib.Seq.{getD-drop}
+use Rattle.lists.specs.Lists.{member, mapOption, collect, gather, range, upper}
+use Rattle.field.specs.Field.{Bytes, be, part, field, splice}
+use Rattle.field.proofs.Laws.{length-splice, part-before, part-behind, part-put, splice-part, bytes-splice}
+use Rattle.ranking.specs.declared.Side.{Side}
+use Rattle.ranking.specs.declared.Side.the-variants.{Bid, Offer}
+use Rattle.ranking.specs.declared.Candidate.{Candidate}
+use Rattle.ranking.specs.Ranking.{better, best}
+use Rattle.quote.specs.declared.Level.{Level}
+use Rattle.quote.specs.declared.Quote.{Quote}
+use Rattle.quote.specs.Quote.{noLevel, noQuote, sideOf, counts, candidateOf, levelIn, quoteIn}
+use Rattle.levels.specs.Levels.{Standing, noLevels, sideLevels, ranked, cellsIn, sideIn, levelsIn}
+use Rattle.entries.specs.Entries.{Maker, Entries, letters, finraBest, letterCandidate, nationalBest, oddCandidate, letterLevels, oddBest, entriesBy, entriesOf}
+use Rattle.entries.specs.Publication.{noEntry, noEntries, publication}
+use Rattle.entries.specs.Page.{slotAt, cellAt, quotesIn, levelsFor, makerIn, makersIn, occupied, pageEntries, refreshed}
+use Rattle.entries.proofs.PublicationLaws.{length-publication, bytes-publication}
+
+-- ---- 96 bytes written at 12
+
+module _ (p b : List ℕ) (h : length b ≡ 96) where
+  part-kept : (at w : ℕ) → 108 ≤ at → part (splice p 12 b) at w ≡ part p at w
+  part-kept at w l = part-behind p 12 b at w (omega arith)
+
+  pub quotes-kept : quotesIn (splice p 12 b) ≡ quotesIn p
+  unfolding quotesIn
+  quotes-kept = fun-ext (λ l. ap (λ (x : List ℕ). cond (upper l) (quoteIn x) noQuote) (part-kept (slotAt l) 41 (omega arith)))
+
+  pub levels-kept : levelsFor (splice p 12 b) ≡ levelsFor p
+  unfolding levelsFor
+  levels-kept = fun-ext (λ l. ap (λ (x : List ℕ). cond (upper l) (levelsIn x) noLevels) (part-kept (slotAt l + 41) 160 (omega arith)))
+
+  pub makers-kept : makersIn (splice p 12 b) ≡ makersIn p
+  unfolding makersIn
+  makers-kept = ap (λ (g : ℕ → Option Maker). map g (range 16 0)) (fun-ext (λ k. ap makerIn (part-kept (cellAt k) 45 (omega arith))))
+
+  pub entries-kept : pageEntries (splice p 12 b) ≡ pageEntries p
+  unfolding pageEntries
+  entries-kept = λ i. entriesOf (quotes-kept i) (occupied (makers-kept i)) (levels-kept i)
+
+-- ---- a refreshed page
+
+module _ (p : List ℕ) where
+  pub refreshed-entries : pageEntries (refreshed p) ≡ pageEntries p
+  unfolding refreshed
+  refreshed-entries = entries-kept p (publication (pageEntries p)) (length-publication (pageEntries p))
+
+  -- symbol and round lot, and all quotes, stay
+  pub refreshed-before : (i w : ℕ) → 12 ≤ length p → i + w ≤ 12 → part (refreshed p) i w ≡ part p i w
+  unfolding refreshed
+  refreshed-before i w l h = part-before p 12 (publication (pageEntries p)) i w l h
+
+  pub refreshed-behind : (i w : ℕ) → 108 ≤ i → part (refreshed p) i w ≡ part p i w
+  unfolding refreshed
+  refreshed-behind i w h = part-kept p (publication (pageEntries p)) (length-publication (pageEntries p)) i w h
+
+  pub refreshed-bytes : Bytes p → Bytes (refreshed p)
+  unfolding refreshed
+  refreshed-bytes b = bytes-splice p 12 (publication (pageEntries p)) b (bytes-publication (pageEntries p))
+
+  pub refreshed-part : 12 ≤ length p → part (refreshed p) 12 96 ≡ publication (pageEntries p)
+  unfolding refreshed
+  refreshed-part h = part-put p 12 (publication (pageEntries p)) 96 (length-publication (pageEntries p)) h
+
+  module _ (h : 108 ≤ length p) where
+    pub refreshed-length : length (refreshed p) ≡ length p
+    unfolding refreshed
+    refreshed-length = length-splice p 12 (publication (pageEntries p)) (omega (arith, length-publication (pageEntries p)))
+
+-- a page whose entries are those worked out from its quotes stays as it is
+pub refreshed-same : (p : List ℕ) → 108 ≤ length p → part p 12 96 ≡ publication (pageEntries p) → refreshed p ≡ p
+unfolding refreshed
+refreshed-same p h e = rw (← e) (splice-part p 12 96 h)
+
+pub refreshed-twice : (p : List ℕ) → 108 ≤ length p → refreshed (refreshed p) ≡ refreshed p
+refreshed-twice p h =
+    let l : 12 ≤ length p = omega arith in
+    refreshed-same (refreshed p) (rw (refreshed-length p h) h) (refreshed-part p l ∙ ap publication (sym (refreshed-entries p)))

@@ -1,0 +1,82 @@
+-- Where the numbers of a level, a quote, a maker and a letter's levels stand in a page.
+-- Assumes nothing.
+use Prim.Native.Nat.{ℕ, _+_, _*_, _-_, _≤_, _<_}
+use mathlib.Core.Path.{_≡_, refl, sym, ap, _∙_}
+use mathlib.Core.Bool.{Bool, true, false, _&&_, cond}
+use mathlib.Core.List.{List, [], _∷_}
+use mathlib.Core.Option.{Option, none, some}
+use native.Mathlib.Omega.{arith}
+use lib.Dec.{eqb, leb, lit≤}
+use native.Mathlib.Nat.{add-zero}
+use lib.ListN.{take, drop}
+use borrow.Author.Tests.{ne-eqb, le-leb}
+use Rattle.lists.specs.Lists.{member, upper}
+use Rattle.field.specs.Field.{part, field}
+use Rattle.field.proofs.Laws.{part-part, field-part, field-part-0}
+use Rattle.ranking.specs.declared.Side.{Side}
+use Rattle.ranking.specs.declared.Side.the-variants.{Bid, Offer}
+use Rattle.quote.specs.declared.Level.{Level}
+use Rattle.quote.specs.declared.Quote.{Quote}
+use Rattle.quote.specs.Quote.{noQuote, sideOf, levelIn, quoteIn}
+use Rattle.levels.specs.Levels.{sideLevels, noLevels, emptyCell, behind, ranked, cellsIn, sideIn, levelsIn}
+use Rattle.entries.specs.Entries.{Maker, letterLevels}
+use Rattle.entries.specs.Page.{slotAt, quotesIn, levelsFor, makerIn}
+use Rattle.entries.specs.Walk.{inQuote, inLevels, firstOf}
+
+module _ (p : List ℕ) (at : ℕ) where
+  pub level-at : _≡_ {A = Level} (levelIn (part p at 20)) (record { price = field p at 8; size = field p (at + 8) 4; time = field p (at + 12) 8 })
+  unfolding levelIn
+  level-at = λ i. record { price = field-part-0 p at 20 8 (lit≤ tt) i; size = field-part p at 20 8 4 (lit≤ tt) i; time = field-part p at 20 12 8 (lit≤ tt) i }
+
+  pub quote-side : (s : Side) → levelIn (part p (at + inQuote s) 20) ≡ sideOf s (quoteIn (part p at 41))
+  unfolding quoteIn
+  quote-side Bid = ap levelIn (sym (part-part p at 41 1 20 (lit≤ tt)))
+  quote-side Offer = ap levelIn (sym (part-part p at 41 21 20 (lit≤ tt)))
+
+  pub quote-condition : field p at 1 ≡ quoteIn (part p at 41) .condition
+  unfolding quoteIn
+  quote-condition = sym (field-part-0 p at 41 1 (lit≤ tt))
+
+  pub maker-at : makerIn (part p at 45)
+      ≡ cond (member (76 ∷ 82 ∷ []) (field p (at + 4) 1)) (some (record { name = field p at 4; quote = quoteIn (part p (at + 4) 41) })) none
+  unfolding makerIn
+  maker-at =
+      rw (field-part p at 45 4 1 (lit≤ tt), field-part-0 p at 45 4 (lit≤ tt), part-part p at 45 4 41 (lit≤ tt))
+
+  pub front : (w n : ℕ) → w ≤ n → part (part p at n) 0 w ≡ part p at w
+  front w n h = part-part p at n 0 w (omega arith) ∙ ap (λ (a : ℕ). part p a w) (add-zero at)
+
+-- the first of a side's levels, if its cell is not empty
+first-cell : (s : Side) (b : List ℕ) → firstOf (sideIn s b) ≡ cond (emptyCell (levelIn (part b 0 20))) none (some (levelIn (part b 0 20)))
+unfolding sideIn cellsIn ranked part
+first-cell s b = go (emptyCell (levelIn (take 20 b)))
+  where
+    go : (t : Bool) → firstOf (cond t [] (levelIn (take 20 b) ∷ ranked s (some (levelIn (take 20 b))) (cellsIn 3 (drop 20 b)))) ≡ cond t none (some (levelIn (take 20 b)))
+    go true = refl
+    go false = refl
+
+pub first-level : (p : List ℕ) (at : ℕ) (s : Side) → firstOf (sideLevels s (levelsIn (part p at 160)))
+    ≡ cond (emptyCell (levelIn (part p (at + inLevels s) 20))) none (some (levelIn (part p (at + inLevels s) 20)))
+unfolding levelsIn
+first-level p at s =
+    ap firstOf (side s) ∙ first-cell s (part p (at + inLevels s) 80)
+    ∙ ap (λ (b : List ℕ). cond (emptyCell (levelIn b)) none (some (levelIn b))) (front p (at + inLevels s) 20 80 (lit≤ tt))
+  where
+    side : (s : Side) → sideLevels s (record { bids = sideIn Bid (part (part p at 160) 0 80); offers = sideIn Offer (part (part p at 160) 80 80) }) ≡ sideIn s (part p (at + inLevels s) 80)
+    side Bid = ap (sideIn Bid) (part-part p at 160 0 80 (lit≤ tt))
+    side Offer = ap (sideIn Offer) (part-part p at 160 80 80 (lit≤ tt))
+
+-- ---- a letter A to Z
+
+module _ (p : List ℕ) (l : ℕ) (h : 65 ≤ l) (k : l < 91) where
+  is-upper : upper l ≡ true
+  is-upper = let z : l ≤ 90 = omega arith in rw (le-leb 65 l h, le-leb l 90 z)
+
+  pub quotes-at : quotesIn p l ≡ quoteIn (part p (slotAt l) 41)
+  unfolding quotesIn
+  quotes-at = rw is-upper
+
+  pub first-of : (s : Side) → (l ≡ 83 → ⊥) → firstOf (letterLevels s (levelsFor p) l)
+      ≡ cond (emptyCell (levelIn (part p (slotAt l + 41 + inLevels s) 20))) none (some (levelIn (part p (slotAt l + 41 + inLevels s) 20)))
+  unfolding letterLevels levelsFor
+  first-of s n = rw (ne-eqb l 83 n, is-upper) (first-level p (slotAt l + 41) s)

@@ -1,0 +1,15 @@
+-- `entries::as_d` meets its contract.
+use mathlib.Core.Path.{refl}
+use Rattle.entries.specs.Entries.{asD}
+use Rattle.entries.proofs.as_d.Statement.{statement}
+use Rattle.entries.proofs.as_d.Tie as tie
+
+returns : tie.Need-returns
+unfolding asD
+returns c = refl
+
+pub as-d-spec : {M : Type 1} → statement M
+as-d-spec =
+    tie.close
+    (tie.spec
+    returns)

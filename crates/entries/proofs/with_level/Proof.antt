@@ -1,0 +1,27 @@
+-- `entries::with_level` meets its contract.
+use borrow.Author.Needs.{needs}
+use Rattle.entries.proofs.StepLaws.{level-behind, level-read}
+use Rattle.entries.proofs.with_level.Statement.{statement}
+use Rattle.entries.proofs.with_level.Tie as tie
+
+returns : tie.Need-returns
+returns c = level-behind _ _ _ _ _ _ _ _ (c .before .before .get64 .ensures) (c .before .is-behind .ensures) (c .if1 .taken)
+
+returns-2 : tie.Need-returns-2
+returns-2 c =
+    level-read _ _ _ _ _ _ _ _ _ _ (c .before .before .before .before .before .get64 .ensures) (c .before .before .get32 .ensures) (c .before .get642 .ensures)
+    (c .choose .ensures)
+
+pub with-level-spec : {M : Type 1} → statement M
+with-level-spec =
+    tie.close
+    (tie.spec
+    (λ c κs. search needs)
+    (λ c κs. search needs)
+    returns
+    (λ c. search needs)
+    (λ c κs. search needs)
+    (λ c. search needs)
+    (λ c κs. search needs)
+    (λ c κs. search needs)
+    returns-2)

@@ -1,0 +1,70 @@
+-- The six best entries of a symbol (document 01, "Best entries"), from its letters' quotes, the makers that stand and its letters' levels.
+-- Assumes nothing.
+use Prim.Native.Nat.{ℕ}
+use mathlib.Core.Bool.{Bool, true, false, cond}
+use mathlib.Core.List.{List, []}
+use mathlib.Core.Option.{Option, none, some}
+use lib.Dec.{eqb}
+use Rattle.lists.specs.Lists.{mapOption, collect, gather, range}
+use Rattle.ranking.specs.declared.Side.{Side}
+use Rattle.ranking.specs.declared.Candidate.{Candidate}
+use Rattle.ranking.specs.Ranking.{ahead, better, best}
+use Rattle.quote.specs.declared.Level.{Level}
+use Rattle.quote.specs.declared.Quote.{Quote}
+use Rattle.quote.specs.Quote.{candidateOf, levelCandidate}
+use Rattle.levels.specs.Levels.{Standing, sideLevels}
+
+-- a maker's standing quote; the name is its four bytes as one number, so that lower names are lower numbers
+pub record Maker : Type 0 where
+  pub name : ℕ
+  pub quote : Quote
+
+-- each entry a candidate or none
+pub record Entries : Type 0 where
+  pub national : Side → Option Candidate
+  pub finra : Side → Option Candidate
+  pub odd : Side → Option Candidate
+
+-- A to Z
+unfoldable pub letters : List ℕ
+letters = range 26 65
+
+-- "FINRA best: over makers' counting sides"
+unfoldable pub makerCandidate : Side → Maker → Option Candidate
+makerCandidate s m = candidateOf s (m .name) (m .quote)
+
+unfoldable pub finraBest : List Maker → Side → Option Candidate
+finraBest ms s = best (better s) (collect (makerCandidate s) ms)
+
+-- "D standing with its FINRA best and that maker's condition"
+unfoldable pub asD : Candidate → Candidate
+asD c = record { name = 68; price = c .price; size = c .size; time = c .time; condition = c .condition }
+
+-- D (68) by its FINRA best; S (83), the processor, has nothing; any other letter by its quote
+unfoldable pub letterCandidate : Side → (ℕ → Quote) → Option Candidate → ℕ → Option Candidate
+letterCandidate s quotes fb l = cond (eqb l 68) (mapOption asD fb) (cond (eqb l 83) none (candidateOf s l (quotes l)))
+
+-- "National best: the same over letters"
+unfoldable pub nationalBest : (ℕ → Quote) → (Side → Option Candidate) → Side → Option Candidate
+nationalBest quotes fb s = best (better s) (collect (letterCandidate s quotes (fb s)) letters)
+
+-- "priced above the national bid (below the national offer; any level if that side has none)"
+abbrev pub beyond : Side → Option Candidate → ℕ → Bool
+beyond s none p = true
+beyond s (some c) p = ahead s p (c .price)
+
+unfoldable pub oddCandidate : Side → Option Candidate → ℕ → Level → Option Candidate
+oddCandidate s nb l v = cond (beyond s nb (v .price)) (some (levelCandidate l 32 v)) none
+
+unfoldable pub letterLevels : Side → (ℕ → Standing) → ℕ → List Level
+letterLevels s levels l = cond (eqb l 83) [] (sideLevels s (levels l))
+
+-- "Odd best: over all letters' levels", ordered likewise
+unfoldable pub oddBest : (ℕ → Standing) → (Side → Option Candidate) → Side → Option Candidate
+oddBest levels nb s = best (better s) (gather (λ l. collect (oddCandidate s (nb s) l) (letterLevels s levels l)) letters)
+
+unfoldable pub entriesBy : (ℕ → Quote) → (Side → Option Candidate) → (ℕ → Standing) → Entries
+entriesBy quotes fb levels = record { national = nationalBest quotes fb; finra = fb; odd = oddBest levels (nationalBest quotes fb) }
+
+unfoldable pub entriesOf : (ℕ → Quote) → List Maker → (ℕ → Standing) → Entries
+entriesOf quotes makers levels = entriesBy quotes (finraBest makers) levels

@@ -1,0 +1,5 @@
+pub mod Entries
+pub mod Publication
+pub mod Page
+pub mod Walk
+pub mod Entry

@@ -1,0 +1,63 @@
+-- A publication's 96 bytes, and which of its entries changed (document 01, "Publication" and the change flags).
+-- Assumes nothing.
+use Prim.Native.Nat.{ℕ, _+_, _*_, _^_}
+use mathlib.Core.Bool.{Bool, true, false, _&&_}
+use mathlib.Core.List.{List, [], _∷_, _++_}
+use mathlib.Core.Option.{Option, none, some}
+use lib.Dec.{eqb}
+use lib.ListN.{replicate}
+use Rattle.field.specs.Field.{field, beBytes}
+use Rattle.ranking.specs.declared.Side.the-variants.{Bid, Offer}
+use Rattle.ranking.specs.declared.Candidate.{Candidate}
+use Rattle.entries.specs.Entries.{Entries}
+
+-- "None is four spaces and zeros"
+unfoldable pub noEntry : List ℕ
+noEntry = 32 ∷ 32 ∷ 32 ∷ 32 ∷ replicate 12 0
+
+-- "4 bytes of name, price 8, size 4"
+abbrev pub entryBytes : (Candidate → List ℕ) → Option Candidate → List ℕ
+entryBytes name none = noEntry
+entryBytes name (some c) = name c ++ (beBytes 8 (c .price) ++ beBytes 4 (c .size))
+
+-- "national: letter, condition, two spaces"
+abbrev pub nationalName : Candidate → List ℕ
+nationalName c = beBytes 1 (c .name) ++ beBytes 1 (c .condition) ++ (32 ∷ 32 ∷ [])
+
+-- "FINRA: maker"
+abbrev pub finraName : Candidate → List ℕ
+finraName c = beBytes 4 (c .name)
+
+-- "odd: letter, three spaces"
+abbrev pub oddName : Candidate → List ℕ
+oddName c = beBytes 1 (c .name) ++ (32 ∷ 32 ∷ 32 ∷ [])
+
+-- "national bid, offer, FINRA bid, offer, odd bid, offer"
+unfoldable pub publication : Entries → List ℕ
+publication e =
+    entryBytes nationalName (e .national Bid)
+    ++ (entryBytes nationalName (e .national Offer)
+    ++ (entryBytes finraName (e .finra Bid)
+    ++ (entryBytes finraName (e .finra Offer)
+    ++ (entryBytes oddName (e .odd Bid)
+    ++ entryBytes oddName (e .odd Offer)))))
+
+unfoldable pub noEntries : List ℕ
+noEntries = noEntry ++ (noEntry ++ (noEntry ++ (noEntry ++ (noEntry ++ noEntry))))
+
+-- ---- change flags, from a publication before and after
+
+-- entry k: name, price and size
+abbrev pub sameEntry : List ℕ → List ℕ → ℕ → Bool
+sameEntry a b k =
+    eqb (field a (16 * k) 4) (field b (16 * k) 4) && eqb (field a (16 * k + 4) 8) (field b (16 * k + 4) 8) && eqb (field a (16 * k + 12) 4) (field b (16 * k + 12) 4)
+
+-- "1 national bid, 2 national offer, 4 FINRA bid, 8 FINRA offer, 16 odd bid, 32 odd offer, set exactly if that published entry changed"
+abbrev pub flag : ℕ → Bool → ℕ
+flag k true = 0
+flag k false = 2 ^ k
+
+unfoldable pub changeFlags : List ℕ → List ℕ → ℕ
+changeFlags a b =
+    flag 0 (sameEntry a b 0) + flag 1 (sameEntry a b 1) + flag 2 (sameEntry a b 2) + flag 3 (sameEntry a b 3)
+    + flag 4 (sameEntry a b 4) + flag 5 (sameEntry a b 5)

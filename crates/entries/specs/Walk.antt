@@ -1,0 +1,68 @@
+-- What the walk looks at, one candidate after another, in the words of Entries and Page: for the contracts of its steps.
+-- Assumes nothing.
+use Prim.Native.Nat.{ℕ}
+use mathlib.Core.Bool.{Bool, true, false, cond}
+use mathlib.Core.List.{List, [], _∷_}
+use mathlib.Core.Option.{Option, none, some}
+use lib.Dec.{eqb}
+use Rattle.field.specs.Field.{part}
+use Rattle.lists.specs.Lists.{mapOption, bindOption}
+use Rattle.ranking.specs.declared.Side.{Side}
+use Rattle.ranking.specs.declared.Side.the-variants.{Bid, Offer}
+use Rattle.ranking.specs.declared.Candidate.{Candidate}
+use Rattle.ranking.specs.declared.Sides.{Sides}
+use Rattle.ranking.specs.Choice.{orNone, live, ofSide, bothSides, noSides, sidesFrom, stepSides}
+use Rattle.quote.specs.declared.Level.{Level}
+use Rattle.quote.specs.Quote.{levelCandidate}
+use Rattle.entries.specs.declared.Tops.{Tops}
+use Rattle.entries.specs.declared.BestEntries.{BestEntries}
+use Rattle.entries.specs.Entries.{Entries, makerCandidate, letterCandidate, letterLevels}
+use Rattle.entries.specs.Page.{cellAt, quotesIn, levelsFor, makerIn}
+
+-- where a side's level stands in a quote, and its first level among the levels of a letter
+abbrev pub inQuote : Side → ℕ
+inQuote Bid = 1
+inQuote Offer = 21
+
+abbrev pub inLevels : Side → ℕ
+inLevels Bid = 0
+inLevels Offer = 80
+
+-- maker cell k
+unfoldable pub makerAt : List ℕ → Side → ℕ → Option Candidate
+makerAt p s k = bindOption (makerIn (part p (cellAt k) 45)) (makerCandidate s)
+
+-- a letter, D by these FINRA bests
+unfoldable pub letterAt : List ℕ → Sides → Side → ℕ → Option Candidate
+letterAt p f s l = letterCandidate s (quotesIn p) (live (ofSide s f)) l
+
+abbrev pub firstOf : List Level → Option Level
+firstOf [] = none
+firstOf (x ∷ xs) = some x
+
+-- a letter's first level: its best
+unfoldable pub firstAt : List ℕ → Side → ℕ → Option Candidate
+firstAt p s l = mapOption (levelCandidate l 32) (firstOf (letterLevels s (levelsFor p) l))
+
+-- with none as price 0
+abbrev pub orNones : (Side → ℕ → Option Candidate) → Side → ℕ → Candidate
+orNones f s k = orNone (f s k)
+
+abbrev pub noTops : Tops
+noTops = record { national = noSides; odd = noSides }
+
+-- one letter more, and the k letters from letter l on
+unfoldable pub stepTops : List ℕ → Sides → ℕ → Tops → Tops
+stepTops p f l t = record { national = stepSides (orNones (letterAt p f)) l (t .national); odd = stepSides (orNones (firstAt p)) l (t .odd) }
+
+unfoldable pub topsFrom : List ℕ → Sides → ℕ → ℕ → Tops → Tops
+topsFrom p f l k t = record { national = sidesFrom (orNones (letterAt p f)) l k (t .national); odd = sidesFrom (orNones (firstAt p)) l k (t .odd) }
+
+-- the six entries, none as price 0
+unfoldable pub bestsOf : Entries → BestEntries
+bestsOf e =
+    record {
+      national = bothSides (λ s. orNone (e .national s));
+      finra = bothSides (λ s. orNone (e .finra s));
+      odd = bothSides (λ s. orNone (e .odd s));
+    }

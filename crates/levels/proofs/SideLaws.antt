@@ -1,0 +1,171 @@
+-- Levels of a side in bytes: their length, that they read back, and what any bytes read as.
+-- Assumes nothing.
+use Prim.Native.Nat.{ℕ, zero, suc, _+_, _*_, _≤_}
+use mathlib.Core.Path.{_≡_, refl, sym, ap, ap₂, _∙_}
+use mathlib.Core.Bool.{Bool, true, false, cond}
+use mathlib.Core.List.{List, [], _∷_, _++_, append-nil}
+use mathlib.Core.Option.{Option, none, some}
+use native.Mathlib.Omega.{arith}
+use lib.Dec.{lit≤}
+use lib.ListN.{length, take, drop, replicate, length-append, length-replicate, length-drop}
+use lib.Seq.{take-at, drop-at, length-take-le}
+use Rattle.field.specs.Field.{Bytes, part}
+use Rattle.field.proofs.Laws.{bytes-append, bytes-take, bytes-drop, bytes-part, length-part}
+use Rattle.ranking.specs.declared.Side.{Side}
+use Rattle.ranking.specs.declared.Side.the-variants.{Bid, Offer}
+use Rattle.quote.specs.declared.Level.{Level}
+use Rattle.quote.specs.Quote.{levelBytes}
+use Rattle.quote.proofs.QuoteLaws.{length-level, bytes-level, level-back, level-fits, zero-level, no-level-bytes}
+use Rattle.levels.specs.Levels.{Standing, emptyCell, behind, ranked, cellsIn, sideIn, levelsIn, cellsBytes, levelsBytes}
+use Rattle.levels.specs.Cells.{padded, cellsOf, bytesOf}
+use Rattle.levels.proofs.LevelLaws.{Behind, Ranked, Fit, SideGood, LevelsGood, behind-trans}
+
+-- ---- the reading of any cells
+
+pub ranked-elim : (s : Side) (P : List Level → Type 0) (y : Option Level) (x : Level) (xs : List Level)
+    → P [] → (emptyCell x ≡ false → behind s y x ≡ true → P (x ∷ ranked s (some x) xs)) → P (ranked s y (x ∷ xs))
+unfolding ranked
+ranked-elim s P y x xs cut kept = go (emptyCell x) refl (behind s y x) refl
+  where
+    go : (a : Bool) → emptyCell x ≡ a → (b : Bool) → behind s y x ≡ b → P (cond a [] (cond b (x ∷ ranked s (some x) xs) []))
+    go true e b f = cut
+    go false e true f = kept e f
+    go false e false f = cut
+
+module _ (s : Side) where
+  ranked-behind : (y : Level) (xs : List Level) → Behind s (y .price) (ranked s (some y) xs)
+  unfolding ranked
+  ranked-behind y [] = tt
+  ranked-behind y (x ∷ xs) = ranked-elim s (Behind s (y .price)) (some y) x xs tt (λ e f. (f, behind-trans s (y .price) (x .price) (ranked s (some x) xs) f (ranked-behind x xs)))
+
+  -- best first, no price twice, none empty
+  pub ranked-falls : (y : Option Level) (xs : List Level) → Ranked s (ranked s y xs)
+  unfolding ranked
+  ranked-falls y [] = tt
+  ranked-falls y (x ∷ xs) = ranked-elim s (Ranked s) y x xs tt (λ e f. (e, ranked-behind x xs, ranked-falls (some x) xs))
+
+  pub ranked-short : (y : Option Level) (xs : List Level) → length (ranked s y xs) ≤ length xs
+  unfolding ranked
+  ranked-short y [] = omega arith
+  ranked-short y (x ∷ xs) = ranked-elim s (λ l. length l ≤ suc (length xs)) y x xs (omega arith) (λ e f. omega (arith, ranked-short (some x) xs))
+
+  ranked-fit : (y : Option Level) (xs : List Level) → Fit xs → Fit (ranked s y xs)
+  unfolding ranked
+  ranked-fit y [] f = tt
+  ranked-fit y (x ∷ xs) f = ranked-elim s Fit y x xs tt (λ e b. (f .0, ranked-fit (some x) xs (f .1)))
+
+  cells-length : (k : ℕ) (b : List ℕ) → length (cellsIn k b) ≡ k
+  unfolding cellsIn
+  cells-length zero b = refl
+  cells-length (suc k) b = ap suc (cells-length k (drop 20 b))
+
+  pub side-falls : (b : List ℕ) → Ranked s (sideIn s b)
+  unfolding sideIn
+  side-falls b = ranked-falls none (cellsIn 4 b)
+
+  pub side-short : (b : List ℕ) → length (sideIn s b) ≤ 4
+  unfolding sideIn
+  side-short b = omega (arith, ranked-short none (cellsIn 4 b), cells-length 4 b)
+
+cells-fit : (k : ℕ) (b : List ℕ) → 20 * k ≤ length b → Bytes b → Fit (cellsIn k b)
+unfolding cellsIn
+cells-fit zero b h f = tt
+cells-fit (suc k) b h f =
+    (level-fits (take 20 b) (length-take-le 20 b (omega arith)) (bytes-take 20 b f), cells-fit k (drop 20 b) (simp length-drop (omega arith)) (bytes-drop 20 b f))
+
+-- what stands in 80 bytes is good, and so is what stands in 160
+pub side-good : (s : Side) (b : List ℕ) → length b ≡ 80 → Bytes b → SideGood s (sideIn s b)
+unfolding sideIn
+side-good s b h f = record {
+  ranked = ranked-falls s none (cellsIn 4 b);
+  fit = ranked-fit s none (cellsIn 4 b) (cells-fit 4 b (omega arith) f);
+  short = omega (arith, ranked-short s none (cellsIn 4 b), cells-length s 4 b);
+}
+
+pub levels-good : (b : List ℕ) → length b ≡ 160 → Bytes b → LevelsGood (levelsIn b)
+unfolding levelsIn
+levels-good b h f = record {
+  bids = side-good Bid (part b 0 80) (length-part b 0 80 (omega arith)) (bytes-part b 0 80 f);
+  offers = side-good Offer (part b 80 80) (length-part b 80 80 (omega arith)) (bytes-part b 80 80 f);
+}
+
+-- ---- bytes of levels
+
+pub length-cells : (k : ℕ) (ls : List Level) → length (cellsBytes k ls) ≡ 20 * k
+unfolding cellsBytes
+length-cells zero ls = refl
+length-cells (suc k) [] = length-append (replicate 20 0) (cellsBytes k []) ∙ omega (arith, length-cells k [], length-replicate {A = ℕ} 20 0)
+length-cells (suc k) (x ∷ xs) = length-append (levelBytes x) (cellsBytes k xs) ∙ omega (arith, length-cells k xs, length-level x)
+
+pub length-levels : (v : Standing) → length (levelsBytes v) ≡ 160
+unfolding levelsBytes
+length-levels v = length-append (cellsBytes 4 (v .bids)) (cellsBytes 4 (v .offers)) ∙ omega (arith, length-cells 4 (v .bids), length-cells 4 (v .offers))
+
+-- the bytes of the cells that levels are
+pub cells-bytes : (k : ℕ) (ls : List Level) → bytesOf (padded k ls) ≡ cellsBytes k ls
+unfolding bytesOf padded cellsBytes
+cells-bytes zero ls = refl
+cells-bytes (suc k) [] = ap₂ _++_ no-level-bytes (cells-bytes k [])
+cells-bytes (suc k) (x ∷ xs) = ap (λ (b : List ℕ). levelBytes x ++ b) (cells-bytes k xs)
+
+bytes-of : (ls : List Level) → Bytes (bytesOf ls)
+unfolding bytesOf
+bytes-of [] i = lit≤ tt
+bytes-of (x ∷ xs) i = bytes-append (levelBytes x) (bytesOf xs) (bytes-level x) (bytes-of xs) i
+
+pub bytes-levels : (v : Standing) → Bytes (levelsBytes v)
+unfolding levelsBytes
+bytes-levels v = rw (← cells-bytes 4 (v .bids), ← cells-bytes 4 (v .offers)) (bytes-append (bytesOf (cellsOf (v .bids))) (bytesOf (cellsOf (v .offers))) (bytes-of (cellsOf (v .bids))) (bytes-of (cellsOf (v .offers))))
+
+-- ---- the cells of good levels read back
+
+-- cells that the levels' bytes are read as
+cells-of : (k : ℕ) (ls : List Level) → Fit ls → cellsIn k (cellsBytes k ls) ≡ padded k ls
+unfolding cellsIn cellsBytes padded
+cells-of zero ls f = refl
+cells-of (suc k) [] f =
+    rw (take-at (replicate 20 0) (cellsBytes k []) 20 (length-replicate {A = ℕ} 20 0), drop-at (replicate 20 0) (cellsBytes k []) 20 (length-replicate {A = ℕ} 20 0), zero-level, cells-of k [] tt)
+cells-of (suc k) (x ∷ xs) f =
+    rw (take-at (levelBytes x) (cellsBytes k xs) 20 (length-level x), drop-at (levelBytes x) (cellsBytes k xs) 20 (length-level x), level-back x (f .0), cells-of k xs (f .1))
+
+-- each is behind the one before
+abbrev Next : Side → Option Level → List Level → Type 0
+Next s none ls = Unit {0}
+Next s (some y) ls = Behind s (y .price) ls
+
+next-behind : (s : Side) (y : Option Level) (x : Level) (xs : List Level) → Next s y (x ∷ xs) → behind s y x ≡ true
+next-behind s none x xs n = refl
+next-behind s (some y) x xs n = n .0
+
+none-read : (s : Side) (y : Option Level) (k : ℕ) → ranked s y (padded k []) ≡ []
+unfolding ranked padded
+none-read s y zero = refl
+none-read s y (suc k) = refl
+
+next-read : (s : Side) (y : Option Level) (k : ℕ) (ls : List Level) → length ls ≤ k → Ranked s ls → Next s y ls → ranked s y (padded k ls) ≡ ls
+unfolding ranked padded
+next-read s y k [] h r n = none-read s y k
+next-read s y zero (x ∷ xs) h r n = absurd (omega arith)
+next-read s y (suc k) (x ∷ xs) h r n = rw (r .0, next-behind s y x xs n) (ap (λ (l : List Level). x ∷ l) (next-read s (some x) k xs (omega arith) (r .2) (r .1)))
+
+-- levels as cells are read as the levels
+pub cells-read : (s : Side) (ls : List Level) → length ls ≤ 4 → Ranked s ls → ranked s none (cellsOf ls) ≡ ls
+cells-read s ls h r = next-read s none 4 ls h r tt
+
+pub side-back : (s : Side) (ls : List Level) → SideGood s ls → sideIn s (cellsBytes 4 ls) ≡ ls
+unfolding sideIn
+side-back s ls g = ap (ranked s none) (cells-of 4 ls (g .fit)) ∙ cells-read s ls (g .short) (g .ranked)
+
+pub levels-back : (v : Standing) → LevelsGood v → levelsIn (levelsBytes v) ≡ v
+unfolding levelsIn levelsBytes part
+levels-back v g =
+    let a : take 80 (cellsBytes 4 (v .bids) ++ cellsBytes 4 (v .offers)) ≡ cellsBytes 4 (v .bids) =
+    take-at (cellsBytes 4 (v .bids)) (cellsBytes 4 (v .offers)) 80 (length-cells 4 (v .bids)) in
+    let d : drop 80 (cellsBytes 4 (v .bids) ++ cellsBytes 4 (v .offers)) ≡ cellsBytes 4 (v .offers) =
+    drop-at (cellsBytes 4 (v .bids)) (cellsBytes 4 (v .offers)) 80 (length-cells 4 (v .bids)) in
+    let n : take 80 (cellsBytes 4 (v .offers)) ≡ cellsBytes 4 (v .offers) =
+    ap (take 80) (sym (append-nil (cellsBytes 4 (v .offers)))) ∙ take-at (cellsBytes 4 (v .offers)) [] 80 (length-cells 4 (v .offers)) in
+    λ i. record {
+      bids = (ap (sideIn Bid) a ∙ side-back Bid (v .bids) (g .bids)) i;
+      offers = (ap (λ (b : List ℕ). sideIn Offer (take 80 b)) d ∙ ap (sideIn Offer) n ∙ side-back Offer (v .offers) (g .offers)) i;
+    }

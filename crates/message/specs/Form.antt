@@ -1,0 +1,28 @@
+-- The form of symbols and names (document 01, "The book and its calls" and "Messages").
+-- Assumes nothing.
+use Prim.Native.Nat.{ℕ}
+use mathlib.Core.Bool.{Bool, true, false, not, _&&_, cond}
+use mathlib.Core.List.{List, [], _∷_}
+use lib.Dec.{eqb}
+use lib.ListN.{length}
+use Rattle.lists.specs.Lists.{at, every, between, upper}
+
+abbrev pub space : ℕ → Bool
+space x = eqb x 32
+
+-- bytes from low to high, then spaces to the end
+unfoldable pub padded : ℕ → ℕ → List ℕ → Bool
+padded low high [] = true
+padded low high (x ∷ xs) = cond (between low high x) (padded low high xs) (every space (x ∷ xs))
+
+-- "A symbol is 11 bytes: A to Z first, then printable bytes 33 to 126, then spaces to the end"
+unfoldable pub symbolGood : List ℕ → Bool
+symbolGood s = eqb (length s) 11 && (upper (at s 0) && padded 33 126 s)
+
+-- "maker (A to Z, at least one, then spaces)"
+unfoldable pub makerGood : List ℕ → Bool
+makerGood s = upper (at s 0) && padded 65 90 s
+
+-- "Letters are A to Z without S (the processor)"
+abbrev pub letterGood : ℕ → Bool
+letterGood l = upper l && not (eqb l 83)

@@ -1,0 +1,247 @@
+-- A message's bytes: its layout, what it says, and its code (document 01, "Messages" and numbers 40 to 49, 60 to 64).
+-- Assumes nothing.
+use Prim.Native.Nat.{ℕ, _+_, _*_}
+use mathlib.Core.Bool.{Bool, true, false, not, _&&_, cond}
+use mathlib.Core.List.{List, [], _∷_}
+use lib.Dec.{ltb, leb, eqb}
+use lib.ListN.{length, drop}
+use Rattle.field.specs.Field.{part, field}
+use Rattle.lists.specs.Lists.{at, member, all}
+use Rattle.quote.specs.declared.Level.{Level}
+use Rattle.quote.specs.declared.Quote.{Quote}
+use Rattle.levels.specs.Levels.{Standing, Odd, oddIn, oddCode}
+use Rattle.message.specs.Form.{symbolGood, makerGood}
+use Rattle.message.specs.declared.Kind.{Kind}
+use Rattle.message.specs.declared.Kind.the-variants as kind
+use Rattle.message.specs.declared.OddPart.{OddPart}
+use Rattle.message.specs.declared.Message.{Message}
+use Rattle.message.specs.declared.Message.the-variants as says
+
+-- ---- layout
+
+-- "Header: 0 category, 1 type, 2 letter, 3 zero, 4-11 timestamp, 12-19 reference number (not read)"
+unfoldable pub controlKind : ℕ → Kind
+controlKind t =
+    cond (member (73 ∷ 84 ∷ []) t) kind.Inquiry
+    (cond (eqb t 67) kind.Close
+    (cond (eqb t 79) kind.Open
+    (cond (eqb t 53) kind.Test kind.Unknown)))
+
+unfoldable pub quoteKind : ℕ → Kind
+quoteKind t =
+    cond (eqb t 75) kind.RoundLot
+    (cond (eqb t 77) kind.OddLot
+    (cond (eqb t 85) kind.Maker kind.Unknown))
+
+-- C I, C T, C C, C O, C 5, Q K, Q M, Q U
+unfoldable pub kindOf : List ℕ → Kind
+kindOf m = cond (eqb (at m 0) 67) (controlKind (at m 1)) (cond (eqb (at m 0) 81) (quoteKind (at m 1)) kind.Unknown)
+
+unfoldable pub timeOf : List ℕ → ℕ
+timeOf m = field m 4 8
+
+-- "20-30 symbol", as one number
+unfoldable pub symbolOf : List ℕ → ℕ
+symbolOf m = field m 20 11
+
+-- price 8 and size 4 from i on, with the message's time
+unfoldable pub levelAt : List ℕ → ℕ → Level
+levelAt m i = record { price = field m i 8; size = field m (i + 8) 4; time = timeOf m }
+
+-- "31 condition, 32-39 bid price, 40-43 bid size, 44-51 offer price, 52-55 offer size"
+unfoldable pub quoteAt : List ℕ → Quote
+quoteAt m = record { condition = field m 31 1; bid = levelAt m 32; offer = levelAt m 44 }
+
+-- "56-59 maker", as one number
+unfoldable pub makerName : List ℕ → ℕ
+makerName m = field m 56 4
+
+-- the clear mark at i, the counts behind it, the items from j on
+unfoldable pub oddAt : List ℕ → ℕ → ℕ → OddPart
+oddAt m i j = record { mark = at m i; bids = at m (i + 1); offers = at m (i + 2); time = timeOf m; items = j }
+
+-- Q K: "56 clear, 57 count of odd bids, 58 of odd offers, 59 zero, from 60 the bids then the offers"
+abbrev pub roundLotOdd : List ℕ → OddPart
+roundLotOdd m = oddAt m 56 60
+
+-- Q M: "31 clear, 32 and 33 the counts, 34-35 zero, items from 36"
+abbrev pub oddLotOdd : List ℕ → OddPart
+oddLotOdd m = oddAt m 31 36
+
+-- the odd part with its items, read from the message
+abbrev pub oddOf : List ℕ → OddPart → Odd
+oddOf m o = oddIn (o .mark) (o .bids) (o .offers) (o .time) (drop (o .items) m)
+
+-- "plus 12 per item"
+abbrev pub oddLength : OddPart → ℕ
+oddLength o = o .items + 12 * (o .bids + o .offers)
+
+-- ---- what needs no book
+
+-- 47: "price 0 with a size on either side"
+abbrev pub sideBad : Level → Bool
+sideBad l = eqb (l .price) 0 && ltb 0 (l .size)
+
+-- "Q K takes all but L", of A, B, C, E, F, H, L, N, O, R, U, W; "Q U takes R and L"
+abbrev pub roundConditions : List ℕ
+roundConditions = 65 ∷ 66 ∷ 67 ∷ 69 ∷ 70 ∷ 72 ∷ 78 ∷ 79 ∷ 82 ∷ 85 ∷ 87 ∷ []
+
+abbrev pub makerConditions : List ℕ
+makerConditions = 76 ∷ 82 ∷ []
+
+-- 47, then what follows
+unfoldable pub priceFault : Quote → ℕ → ℕ
+priceFault q rest = cond (sideBad (q .bid)) 47 (cond (sideBad (q .offer)) 47 rest)
+
+-- 46, 47, then what follows
+unfoldable pub quoteFault : List ℕ → Quote → ℕ → ℕ
+quoteFault table q rest = cond (member table (q .condition)) (priceFault q rest) 46
+
+-- D is FINRA
+abbrev pub isD : ℕ → Bool
+isD l = eqb l 68
+
+-- 42, 43
+abbrev pub checkedForm : Bool → Bool → Message → Message
+checkedForm length zeros next = cond length (cond zeros next (says.Refused 43)) (says.Refused 42)
+
+-- 45 as far as the message tells
+abbrev pub checkedSymbol : List ℕ → Message → Message
+checkedSymbol m next = cond (symbolGood (part m 20 11)) next (says.Refused 45)
+
+unfoldable pub readInquiry : List ℕ → Message
+readInquiry m = checkedForm (eqb (length m) 20) (eqb (at m 3) 0) says.Idle
+
+-- "95 more, hex 20 to 7E in order"
+abbrev pub testByte : List ℕ → ℕ → Bool
+testByte m i = eqb (at m (20 + i)) (32 + i)
+
+unfoldable pub testBytes : List ℕ → Bool
+testBytes m = all (testByte m) 0 95
+
+unfoldable pub readTest : List ℕ → Message
+readTest m = checkedForm (eqb (length m) 115) (eqb (at m 3) 0 && testBytes m) says.Idle
+
+-- 44: "C C, C O, Q U off D's line; Q K, Q M on it"
+unfoldable pub readFinra : ℕ → ℕ → List ℕ → Message
+readFinra condition letter m = checkedForm (eqb (length m) 20) (eqb (at m 3) 0) (cond (isD letter) (says.Finra condition) (says.Refused 44))
+
+unfoldable pub readRoundLot : ℕ → List ℕ → Message
+readRoundLot letter m =
+    checkedForm (eqb (length m) (oddLength (roundLotOdd m))) (eqb (at m 3) 0 && eqb (at m 59) 0)
+    (cond (isD letter) (says.Refused 44)
+    (checkedSymbol m (says.RoundLot (quoteFault roundConditions (quoteAt m) 0) (quoteAt m) (roundLotOdd m))))
+
+unfoldable pub readOddLot : ℕ → List ℕ → Message
+readOddLot letter m =
+    checkedForm (eqb (length m) (oddLength (oddLotOdd m))) (eqb (at m 3) 0 && (eqb (at m 34) 0 && eqb (at m 35) 0))
+    (cond (isD letter) (says.Refused 44) (checkedSymbol m (says.OddLot (oddLotOdd m))))
+
+-- 46, 47, 48
+unfoldable pub readMaker : ℕ → List ℕ → Message
+readMaker letter m =
+    checkedForm (eqb (length m) 60) (eqb (at m 3) 0)
+    (cond (isD letter)
+    (checkedSymbol m (says.Maker (quoteFault makerConditions (quoteAt m) (cond (makerGood (part m 56 4)) 0 48)) (makerName m) (quoteAt m)))
+    (says.Refused 44))
+
+abbrev pub readBy : ℕ → List ℕ → Kind → Message
+readBy letter m kind.Inquiry = readInquiry m
+readBy letter m kind.Close = readFinra 76 letter m
+readBy letter m kind.Open = readFinra 82 letter m
+readBy letter m kind.Test = readTest m
+readBy letter m kind.RoundLot = readRoundLot letter m
+readBy letter m kind.OddLot = readOddLot letter m
+readBy letter m kind.Maker = readMaker letter m
+readBy letter m kind.Unknown = says.Refused 40
+
+abbrev pub isUnknown : Kind → Bool
+isUnknown kind.Inquiry = false
+isUnknown kind.Close = false
+isUnknown kind.Open = false
+isUnknown kind.Test = false
+isUnknown kind.RoundLot = false
+isUnknown kind.OddLot = false
+isUnknown kind.Maker = false
+isUnknown kind.Unknown = true
+
+-- "40 unknown category and type. 41 letter not the line's", then by the type
+unfoldable pub messageOf : ℕ → List ℕ → Message
+messageOf letter m = cond (isUnknown (kindOf m)) (says.Refused 40) (cond (eqb (at m 2) letter) (readBy letter m (kindOf m)) (says.Refused 41))
+
+-- ---- the code, with what stands of the symbol
+
+-- what stands of the symbol that a message names: whether it is listed, its round lot, its makers (how many, and which), and each letter's levels
+pub record Known : Type 0 where
+  pub listed : Bool
+  pub lot : ℕ
+  pub count : ℕ
+  pub stands : ℕ → Bool
+  pub levels : ℕ → Standing
+
+-- "49 new maker while sixteen stand, an empty quote too"
+unfoldable pub makerCode : Known → ℕ → ℕ
+makerCode e name = cond (e .stands name) 0 (cond (ltb (e .count) 16) 0 49)
+
+-- 45 not listed; then the faults that the message told; then 49 or the odd part
+abbrev pub codeBy : Known → ℕ → List ℕ → Message → ℕ
+codeBy e letter m (says.Refused code) = code
+codeBy e letter m says.Idle = 0
+codeBy e letter m (says.Finra condition) = 0
+codeBy e letter m (says.RoundLot fault q o) = cond (e .listed) (cond (eqb fault 0) (oddCode (e .lot) (e .levels letter) (oddOf m o)) fault) 45
+codeBy e letter m (says.OddLot o) = cond (e .listed) (oddCode (e .lot) (e .levels letter) (oddOf m o)) 45
+codeBy e letter m (says.Maker fault name q) = cond (e .listed) (cond (eqb fault 0) (makerCode e name) fault) 45
+
+-- document 01's code of a message on a line with that letter
+unfoldable pub codeOf : Known → ℕ → List ℕ → ℕ
+codeOf e letter m = codeBy e letter m (messageOf letter m)
+
+-- ---- its parts: "Quote parts are round parts, odd parts and Q U"; FINRA Close and Open beside them
+
+pub data Part : Type 0 where
+  -- symbol, letter, quote
+  roundPart : ℕ → ℕ → Quote → Part
+  -- symbol, letter, odd part
+  oddPart : ℕ → ℕ → Odd → Part
+  -- symbol, maker, quote
+  makerPart : ℕ → ℕ → Quote → Part
+  -- condition
+  finraPart : ℕ → Part
+
+abbrev pub roundOf : List ℕ → Part
+roundOf m = roundPart (symbolOf m) (at m 2) (quoteAt m)
+
+abbrev pub oddPartOf : List ℕ → OddPart → Part
+oddPartOf m o = oddPart (symbolOf m) (at m 2) (oddOf m o)
+
+abbrev pub makerOf : List ℕ → Part
+makerOf m = makerPart (symbolOf m) (makerName m) (quoteAt m)
+
+-- "Q K with 60 to 64" is partly accepted
+abbrev pub partlyBy : ℕ → Kind → Bool
+partlyBy c kind.Inquiry = false
+partlyBy c kind.Close = false
+partlyBy c kind.Open = false
+partlyBy c kind.Test = false
+partlyBy c kind.RoundLot = leb 60 c
+partlyBy c kind.OddLot = false
+partlyBy c kind.Maker = false
+partlyBy c kind.Unknown = false
+
+unfoldable pub partlyTaken : ℕ → List ℕ → Bool
+partlyTaken c m = partlyBy c (kindOf m)
+
+-- all parts of an accepted message, the oldest first
+abbrev pub wholeBy : List ℕ → Kind → List Part
+wholeBy m kind.Inquiry = []
+wholeBy m kind.Close = finraPart 76 ∷ []
+wholeBy m kind.Open = finraPart 82 ∷ []
+wholeBy m kind.Test = []
+wholeBy m kind.RoundLot = roundOf m ∷ oddPartOf m (roundLotOdd m) ∷ []
+wholeBy m kind.OddLot = oddPartOf m (oddLotOdd m) ∷ []
+wholeBy m kind.Maker = makerOf m ∷ []
+wholeBy m kind.Unknown = []
+
+-- with code 0 the whole; of a Q K with 60 to 64 the round part; else nothing
+unfoldable pub partsOf : ℕ → List ℕ → List Part
+partsOf c m = cond (eqb c 0) (wholeBy m (kindOf m)) (cond (partlyTaken c m) (roundOf m ∷ []) [])

@@ -1,0 +1,447 @@
+// The reader of one message. It sees that message's bytes and the letter of its line, and nothing else.
+ghost use mathlib.Core.Path.{_≡_};
+ghost use mathlib.Core.Bool.{cond};
+ghost use Prim.Native.Nat.{_+_, _*_, _≤_, _<_};
+ghost use lib.ListN.{length, drop};
+ghost use Rattle.field.specs.Field.{field};
+ghost use Rattle.lists.specs.Lists.{at, every, member, upper};
+ghost use Rattle.message.specs.Form.{space, padded, symbolGood, makerGood};
+ghost use Rattle.message.specs.Message.{controlKind, quoteKind, kindOf, timeOf, levelAt, quoteAt, makerName, oddAt, roundConditions, makerConditions, sideBad, priceFault, quoteFault, testBytes, readInquiry, readTest, readFinra, readRoundLot, readOddLot, readMaker, messageOf};
+use quote::{Level, Quote};
+
+/// Where each field of a message stands.
+pub struct Layout {}
+
+impl Layout {
+    pub const CATEGORY: usize = 0;
+    pub const TYPE: usize = 1;
+    pub const LETTER: usize = 2;
+    pub const ZERO: usize = 3;
+    pub const TIME: usize = 4;
+    /// Bytes of a header, and of C I, C T, C C and C O.
+    pub const HEADER: usize = 20;
+    /// C 5: 95 bytes more than a header.
+    pub const TEST_LEN: usize = 115;
+    pub const SYMBOL: usize = 20;
+    pub const CONDITION: usize = 31;
+    pub const BID: usize = 32;
+    pub const OFFER: usize = 44;
+    /// Q K: clear mark, behind it the two counts, a zero, then the items.
+    pub const ROUND_LOT_CLEAR: usize = 56;
+    pub const ROUND_LOT_ZERO: usize = 59;
+    pub const ROUND_LOT_ITEMS: usize = 60;
+    /// Q M: clear mark, behind it the two counts, two zeros, then the items.
+    pub const ODD_LOT_CLEAR: usize = 31;
+    pub const ODD_LOT_ZEROS: usize = 34;
+    pub const ODD_LOT_ITEMS: usize = 36;
+    /// Q U.
+    pub const MAKER: usize = 56;
+    pub const MAKER_LEN: usize = 60;
+}
+
+/// The type of a message. C I and C T are alike.
+pub enum Kind {
+    Inquiry,
+    Close,
+    Open,
+    Test,
+    RoundLot,
+    OddLot,
+    Maker,
+    Unknown,
+}
+
+/// The odd part of a message: its clear mark, the counts of its items, the timestamp, and where in the message its items start.
+pub struct OddPart {
+    pub mark: u8,
+    pub bids: usize,
+    pub offers: usize,
+    pub time: u64,
+    pub items: usize,
+}
+
+/// What a message says. A fault is the code that the message gets if its symbol is listed, 0 for none.
+pub enum Message {
+    /// Rejected with this code, 40 to 45, whatever the book holds.
+    Refused(u8),
+    /// C I, C T or C 5: accepted, and does nothing.
+    Idle,
+    /// FINRA Close or Open: the condition that every standing maker quote gets, L or R.
+    Finra(u8),
+    RoundLot {
+        fault: u8,
+        quote: Quote,
+        odd: OddPart,
+    },
+    OddLot(OddPart),
+    Maker {
+        fault: u8,
+        name: u32,
+        quote: Quote,
+    },
+}
+
+/// Checks 40 to 48 as far as the message and the letter of its line tell, and what the message says. Any bytes, any length.
+pub fn read(msg: &[u8], letter: u8) -> Message
+    ensures { λ r. ⌜ r ≡ messageOf letter (now (msg .entry)) ⌝ }
+{
+    let kind = kind_of(msg);
+    if let Kind::Unknown = kind {
+        return Message::Refused(40);
+    }
+    if field::byte(msg, Layout::LETTER) != letter {
+        return Message::Refused(41);
+    }
+    match kind {
+        Kind::Inquiry => read_inquiry(msg),
+        Kind::Close => read_finra(msg, letter, b'L'),
+        Kind::Open => read_finra(msg, letter, b'R'),
+        Kind::Test => read_test(msg),
+        Kind::RoundLot => read_round_lot(msg, letter),
+        Kind::OddLot => read_odd_lot(msg, letter),
+        Kind::Maker => read_maker(msg, letter),
+        Kind::Unknown => Message::Refused(40),
+    }
+}
+
+fn kind_of(msg: &[u8]) -> Kind
+    ensures { λ r. ⌜ r ≡ kindOf (now (msg .entry)) ⌝ }
+{
+    let category = field::byte(msg, Layout::CATEGORY);
+    if category == b'C' {
+        return control_kind(field::byte(msg, Layout::TYPE));
+    }
+    if category == b'Q' {
+        return quote_kind(field::byte(msg, Layout::TYPE));
+    }
+    Kind::Unknown
+}
+
+fn control_kind(kind: u8) -> Kind
+    ensures { λ r. ⌜ r ≡ controlKind kind ⌝ }
+{
+    match kind {
+        b'I' | b'T' => Kind::Inquiry,
+        b'C' => Kind::Close,
+        b'O' => Kind::Open,
+        b'5' => Kind::Test,
+        _ => Kind::Unknown,
+    }
+}
+
+fn quote_kind(kind: u8) -> Kind
+    ensures { λ r. ⌜ r ≡ quoteKind kind ⌝ }
+{
+    match kind {
+        b'K' => Kind::RoundLot,
+        b'M' => Kind::OddLot,
+        b'U' => Kind::Maker,
+        _ => Kind::Unknown,
+    }
+}
+
+fn read_inquiry(msg: &[u8]) -> Message
+    ensures { λ r. ⌜ r ≡ readInquiry (now (msg .entry)) ⌝ }
+{
+    if msg.len() != Layout::HEADER {
+        return Message::Refused(42);
+    }
+    if field::byte(msg, Layout::ZERO) != 0 {
+        return Message::Refused(43);
+    }
+    Message::Idle
+}
+
+fn read_test(msg: &[u8]) -> Message
+    ensures { λ r. ⌜ r ≡ readTest (now (msg .entry)) ⌝ }
+{
+    if msg.len() != Layout::TEST_LEN {
+        return Message::Refused(42);
+    }
+    if field::byte(msg, Layout::ZERO) != 0 {
+        return Message::Refused(43);
+    }
+    if is_test(msg) {
+        return Message::Idle;
+    }
+    Message::Refused(43)
+}
+
+// Whether 95 bytes behind the header are hex 20 to 7E in order.
+fn is_test(msg: &[u8]) -> bool
+    requires { ⌜ length (now msg) ≡ 115 ⌝ }
+    ensures { λ r. ⌜ r ≡ testBytes (now (msg .entry)) ⌝ }
+{
+    for i in 0..95 {
+        if wide(msg[Layout::HEADER + i]) != 32 + i {
+            return false;
+        }
+    }
+    true
+}
+
+fn wide(x: u8) -> usize
+    ensures { λ r. ⌜ (r ≡ x) × (r < 256) ⌝ }
+{
+    x as usize
+}
+
+fn read_finra(msg: &[u8], letter: u8, condition: u8) -> Message
+    ensures { λ r. ⌜ r ≡ readFinra condition letter (now (msg .entry)) ⌝ }
+{
+    if msg.len() != Layout::HEADER {
+        return Message::Refused(42);
+    }
+    if field::byte(msg, Layout::ZERO) != 0 {
+        return Message::Refused(43);
+    }
+    if letter == b'D' {
+        return Message::Finra(condition);
+    }
+    Message::Refused(44)
+}
+
+fn read_round_lot(msg: &[u8], letter: u8) -> Message
+    ensures { λ r. ⌜ r ≡ readRoundLot letter (now (msg .entry)) ⌝ }
+{
+    if msg.len() != odd_length(msg, Layout::ROUND_LOT_CLEAR, Layout::ROUND_LOT_ITEMS) {
+        return Message::Refused(42);
+    }
+    if field::byte(msg, Layout::ZERO) != 0 {
+        return Message::Refused(43);
+    }
+    if field::byte(msg, Layout::ROUND_LOT_ZERO) != 0 {
+        return Message::Refused(43);
+    }
+    if letter == b'D' {
+        return Message::Refused(44);
+    }
+    if is_symbol(&msg[20..31]) {
+        let quote = quote_at(msg);
+        let odd = odd_at(msg, Layout::ROUND_LOT_CLEAR, Layout::ROUND_LOT_ITEMS);
+        let fault = round_lot_fault(quote);
+        return Message::RoundLot { fault, quote, odd };
+    }
+    Message::Refused(45)
+}
+
+fn read_odd_lot(msg: &[u8], letter: u8) -> Message
+    ensures { λ r. ⌜ r ≡ readOddLot letter (now (msg .entry)) ⌝ }
+{
+    if msg.len() != odd_length(msg, Layout::ODD_LOT_CLEAR, Layout::ODD_LOT_ITEMS) {
+        return Message::Refused(42);
+    }
+    if field::byte(msg, Layout::ZERO) != 0 {
+        return Message::Refused(43);
+    }
+    if field::byte(msg, Layout::ODD_LOT_ZEROS) != 0 {
+        return Message::Refused(43);
+    }
+    if field::byte(msg, Layout::ODD_LOT_ZEROS + 1) != 0 {
+        return Message::Refused(43);
+    }
+    if letter == b'D' {
+        return Message::Refused(44);
+    }
+    if is_symbol(&msg[20..31]) {
+        let odd = odd_at(msg, Layout::ODD_LOT_CLEAR, Layout::ODD_LOT_ITEMS);
+        return Message::OddLot(odd);
+    }
+    Message::Refused(45)
+}
+
+fn read_maker(msg: &[u8], letter: u8) -> Message
+    ensures { λ r. ⌜ r ≡ readMaker letter (now (msg .entry)) ⌝ }
+{
+    if msg.len() != Layout::MAKER_LEN {
+        return Message::Refused(42);
+    }
+    if field::byte(msg, Layout::ZERO) != 0 {
+        return Message::Refused(43);
+    }
+    if letter != b'D' {
+        return Message::Refused(44);
+    }
+    if is_symbol(&msg[20..31]) {
+        let quote = quote_at(msg);
+        let name = field::get32(msg, Layout::MAKER);
+        let rest = name_fault(&msg[56..60]);
+        let fault = maker_fault(quote, rest);
+        return Message::Maker { fault, name, quote };
+    }
+    Message::Refused(45)
+}
+
+// The length that the counts behind a clear mark ask for, the items starting at `items`.
+fn odd_length(msg: &[u8], clear: usize, items: usize) -> usize
+    requires { ⌜ (clear < 1000) × (items < 1000) ⌝ }
+    ensures { λ r. ⌜ r ≡ items + 12 * (at (now (msg .entry)) (clear + 1) + at (now (msg .entry)) (clear + 2)) ⌝ }
+{
+    items + 12 * (wide(field::byte(msg, clear + 1)) + wide(field::byte(msg, clear + 2)))
+}
+
+fn odd_at(msg: &[u8], clear: usize, items: usize) -> OddPart
+    requires { ⌜ (clear < 1000) × (12 ≤ length (now msg)) ⌝ }
+    ensures { λ r. ⌜ r ≡ oddAt (now (msg .entry)) clear items ⌝ }
+{
+    let mark = field::byte(msg, clear);
+    let bids = wide(field::byte(msg, clear + 1));
+    let offers = wide(field::byte(msg, clear + 2));
+    let time = field::get64(msg, Layout::TIME);
+    OddPart {
+        mark,
+        bids,
+        offers,
+        time,
+        items,
+    }
+}
+
+// Price and size from `side` on, with the message's time.
+fn level_at(msg: &[u8], side: usize) -> Level
+    requires { ⌜ (12 ≤ side) × (side + 12 ≤ length (now msg)) ⌝ }
+    ensures { λ r. ⌜ r ≡ levelAt (now (msg .entry)) side ⌝ }
+{
+    let price = field::get64(msg, side);
+    let size = field::get32(msg, side + 8);
+    let time = field::get64(msg, Layout::TIME);
+    Level { price, size, time }
+}
+
+fn quote_at(msg: &[u8]) -> Quote
+    requires { ⌜ 56 ≤ length (now msg) ⌝ }
+    ensures { λ r. ⌜ r ≡ quoteAt (now (msg .entry)) ⌝ }
+{
+    let condition = field::get8(msg, Layout::CONDITION);
+    let bid = level_at(msg, Layout::BID);
+    let offer = level_at(msg, Layout::OFFER);
+    Quote {
+        condition,
+        bid,
+        offer,
+    }
+}
+
+// 46, 47.
+fn round_lot_fault(q: Quote) -> u8
+    ensures { λ r. ⌜ r ≡ quoteFault roundConditions q 0 ⌝ }
+{
+    if is_round_condition(q.condition) {
+        return price_fault(q, 0);
+    }
+    46
+}
+
+// 46, 47, then what the name gives.
+fn maker_fault(q: Quote, rest: u8) -> u8
+    ensures { λ r. ⌜ r ≡ quoteFault makerConditions q rest ⌝ }
+{
+    if is_maker_condition(q.condition) {
+        return price_fault(q, rest);
+    }
+    46
+}
+
+// 48 for a maker that is not A to Z, at least one, then spaces.
+fn name_fault(s: &[u8]) -> u8
+    ensures { λ r. ⌜ r ≡ cond (makerGood (now (s .entry))) 0 48 ⌝ }
+{
+    if is_upper(field::byte(s, 0)) {
+        if is_padded(s, b'A', b'Z') {
+            return 0;
+        }
+    }
+    48
+}
+
+// 47, then what follows.
+fn price_fault(q: Quote, rest: u8) -> u8
+    ensures { λ r. ⌜ r ≡ priceFault q rest ⌝ }
+{
+    if is_side_bad(q.bid) {
+        return 47;
+    }
+    if is_side_bad(q.offer) {
+        return 47;
+    }
+    rest
+}
+
+// Price 0 with a size.
+fn is_side_bad(l: Level) -> bool
+    ensures { λ r. ⌜ r ≡ sideBad l ⌝ }
+{
+    if l.price == 0 {
+        return 0 < l.size;
+    }
+    false
+}
+
+fn is_round_condition(condition: u8) -> bool
+    ensures { λ r. ⌜ r ≡ member roundConditions condition ⌝ }
+{
+    match condition {
+        b'A' | b'B' | b'C' | b'E' | b'F' | b'H' | b'N' | b'O' | b'R' | b'U' | b'W' => true,
+        _ => false,
+    }
+}
+
+fn is_maker_condition(condition: u8) -> bool
+    ensures { λ r. ⌜ r ≡ member makerConditions condition ⌝ }
+{
+    match condition {
+        b'L' | b'R' => true,
+        _ => false,
+    }
+}
+
+/// Whether the bytes are a symbol: 11 of them, A to Z first, then printable bytes, then spaces to the end.
+pub fn is_symbol(s: &[u8]) -> bool
+    ensures { λ r. ⌜ r ≡ symbolGood (now (s .entry)) ⌝ }
+{
+    if s.len() != 11 {
+        return false;
+    }
+    if is_upper(field::byte(s, 0)) {
+        return is_padded(s, 33, 126);
+    }
+    false
+}
+
+/// A to Z.
+pub fn is_upper(x: u8) -> bool
+    ensures { λ r. ⌜ r ≡ upper x ⌝ }
+{
+    if x < b'A' {
+        return false;
+    }
+    x <= b'Z'
+}
+
+// Bytes from low to high, then spaces to the end.
+fn is_padded(s: &[u8], low: u8, high: u8) -> bool
+    ensures { λ r. ⌜ r ≡ padded low high (now (s .entry)) ⌝ }
+{
+    for i in 0..s.len() {
+        if s[i] < low {
+            return is_blank(s, i);
+        }
+        if high < s[i] {
+            return is_blank(s, i);
+        }
+    }
+    true
+}
+
+// Spaces from `from` to the end.
+fn is_blank(s: &[u8], from: usize) -> bool
+    requires { ⌜ from ≤ length (now s) ⌝ }
+    ensures { λ r. ⌜ r ≡ every space (drop from (now (s .entry))) ⌝ }
+{
+    for i in from..s.len() {
+        if s[i] != b' ' {
+            return false;
+        }
+    }
+    true
+}

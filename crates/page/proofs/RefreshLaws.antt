@@ -1,0 +1,105 @@
+-- A page that is written twice needs its entries worked out once: no update reads them.
+-- Assumes nothing.
+use Prim.Native.Nat.{ℕ, _+_, _*_, _-_, _≤_}
+use mathlib.Core.Path.{_≡_, sym, ap, _∙_}
+use mathlib.Core.Bool.{true}
+use mathlib.Core.List.{List, _++_, append-assoc}
+use native.Mathlib.Omega.{arith}
+use lib.ListN.{length, take, drop, length-append, take-append-drop}
+use lib.Seq.{take-append-add, drop-append-add, take-append-le, take-take, take-at, drop-at, length-take-le}
+use Rattle.field.specs.Field.{splice}
+use Rattle.field.proofs.Laws.{length-splice}
+use Rattle.lists.specs.Lists.{upper}
+use Rattle.quote.specs.declared.Quote.{Quote}
+use Rattle.levels.specs.Levels.{Standing, Odd, levelsBytes}
+use Rattle.levels.proofs.SideLaws.{length-levels}
+use Rattle.entries.specs.Entries.{Entries}
+use Rattle.entries.specs.Publication.{publication}
+use Rattle.entries.specs.Page.{slotAt, levelsFor, pageEntries, refreshed}
+use Rattle.page.specs.Page.{putRound, roundOn, putOdd, oddOnPage}
+use Rattle.entries.proofs.PublicationLaws.{length-publication}
+use Rattle.entries.proofs.FrameLaws.{levels-kept, entries-kept}
+use Rattle.page.proofs.EntryLaws.{upper-low}
+use Rattle.page.proofs.SlotLaws.{afterOdd, put-round-kept}
+
+-- ---- two writes
+
+-- a write behind the first list
+splice-append : (a b : List ℕ) (n j : ℕ) (l : List ℕ) → length a ≡ n → splice (a ++ b) (n + j) l ≡ a ++ splice b j l
+unfolding splice
+splice-append a b n j l e =
+    let t : take (n + j) (a ++ b) ≡ a ++ take j b = rw (sym e) (take-append-add a b j) in
+    let k : n + j + length l ≡ n + (j + length l) = omega arith in
+    let d : drop (n + j + length l) (a ++ b) ≡ drop (j + length l) b = ap (λ (m : ℕ). drop m (a ++ b)) k ∙ rw (sym e) (drop-append-add a b (j + length l)) in
+    (λ i. t i ++ l ++ d i)
+    ∙ ap (λ (z : List ℕ). z ++ drop (j + length l) b) (append-assoc a (take j b) l)
+    ∙ append-assoc a (take j b ++ l) (drop (j + length l) b)
+
+-- two writes at one place: the second
+pub splice-over : (p : List ℕ) (at : ℕ) (x y : List ℕ) → at ≤ length p → length x ≡ length y → splice (splice p at x) at y ≡ splice p at y
+unfolding splice
+splice-over p at x y h e =
+    let f : length (take at p) ≡ at = length-take-le at p h in
+    let t : take at (take at p ++ x ++ drop (at + length x) p) ≡ take at p =
+    ap (take at) (append-assoc (take at p) x (drop (at + length x) p)) ∙ take-at (take at p) (x ++ drop (at + length x) p) at f in
+    let g : length (take at p ++ x) ≡ at + length y = length-append (take at p) x ∙ (omega (arith, f, e)) in
+    let d : drop (at + length y) (take at p ++ x ++ drop (at + length x) p) ≡ drop (at + length y) p =
+    drop-at (take at p ++ x) (drop (at + length x) p) (at + length y) g ∙ ap (λ (k : ℕ). drop (at + k) p) e in
+    λ i. t i ++ y ++ d i
+
+module _ (p : List ℕ) (at n j : ℕ) (x l : List ℕ) (e : at + length x ≡ n) (h : n ≤ length p) where
+  whole : (b : List ℕ) → splice b at x ≡ take at b ++ x ++ drop n b
+  unfolding splice
+  whole b = ap (λ (k : ℕ). take at b ++ x ++ drop k b) e
+
+  left-first : splice (splice p at x) (n + j) l ≡ take at p ++ x ++ splice (drop n p) j l
+  left-first =
+      let f : length (take at p) ≡ at = length-take-le at p (omega arith) in
+      let g : length (take at p ++ x) ≡ n = length-append (take at p) x ∙ (omega (arith, f)) in
+      ap (λ (z : List ℕ). splice z (n + j) l) (whole p) ∙ splice-append (take at p ++ x) (drop n p) n j l g
+
+  right-first : splice (splice p (n + j) l) at x ≡ take at p ++ x ++ splice (drop n p) j l
+  right-first =
+      let c : splice p (n + j) l ≡ take n p ++ splice (drop n p) j l =
+      ap (λ (z : List ℕ). splice z (n + j) l) (sym (take-append-drop n p)) ∙ splice-append (take n p) (drop n p) n j l (length-take-le n p h) in
+      let t : take at (take n p ++ splice (drop n p) j l) ≡ take at p =
+      take-append-le at (take n p) (splice (drop n p) j l) (omega (arith, length-take-le n p h)) ∙ take-take at n p (omega arith) in
+      let d : drop n (take n p ++ splice (drop n p) j l) ≡ splice (drop n p) j l = drop-at (take n p) (splice (drop n p) j l) n (length-take-le n p h) in
+      ap (λ (z : List ℕ). splice z at x) c ∙ whole (take n p ++ splice (drop n p) j l) ∙ (λ i. t i ++ x ++ d i)
+
+  -- two writes apart: in either order
+  pub splice-swap : splice (splice p at x) (n + j) l ≡ splice (splice p (n + j) l) at x
+  splice-swap = left-first ∙ sym right-first
+
+-- ---- refreshes
+
+-- a refresh, a write behind the entries, a refresh: the first refresh is not needed
+pub late-refresh : (p : List ℕ) (j : ℕ) (l : List ℕ) → 108 + j + length l ≤ length p → refreshed (splice (refreshed p) (108 + j) l) ≡ refreshed (splice p (108 + j) l)
+unfolding refreshed
+late-refresh p j l h =
+    let E : List ℕ = publication (pageEntries p) in
+    let y : List ℕ = splice p (108 + j) l in
+    let n : length E ≡ 96 = length-publication (pageEntries p) in
+    let k : length (publication (pageEntries y)) ≡ 96 = length-publication (pageEntries y) in
+    let w : length y ≡ length p = length-splice p (108 + j) l h in
+    ap (λ (z : List ℕ). splice z 12 (publication (pageEntries z))) (splice-swap p 12 108 j E l (omega (arith, n)) (omega arith))
+    ∙ ap (λ (e : Entries). splice (splice y 12 E) 12 (publication e)) (entries-kept y E n)
+    ∙ splice-over y 12 E (publication (pageEntries y)) (omega (arith, w)) (n ∙ sym k)
+
+refreshed-levels : (p : List ℕ) → levelsFor (refreshed p) ≡ levelsFor p
+unfolding refreshed
+refreshed-levels p = levels-kept p (publication (pageEntries p)) (length-publication (pageEntries p))
+
+-- an accepted Q K with an odd part: both parts written, then the entries worked out once
+pub one-refresh : (p : List ℕ) (l : ℕ) (q : Quote) (o : Odd) → length p ≡ 6054 → upper l ≡ true → oddOnPage l o (roundOn l q p) ≡ refreshed (putOdd l o (putRound l q p))
+unfolding oddOnPage roundOn putOdd
+one-refresh p l q o w u =
+    let x : List ℕ = putRound l q p in
+    let n : length x ≡ 6054 = put-round-kept p w l u q .size in
+    let after : Standing → List ℕ = λ v. levelsBytes (afterOdd o v) in
+    let k : slotAt l + 41 ≡ 108 + ((l - 65) * 201 + 41) = omega arith in
+    let r : ℕ → List ℕ → List ℕ = λ a z. refreshed (splice z a (after (levelsFor x l))) in
+    ap (λ (v : ℕ → Standing). refreshed (splice (refreshed x) (slotAt l + 41) (after (v l)))) (refreshed-levels x)
+    ∙ ap (λ (a : ℕ). r a (refreshed x)) k
+    ∙ late-refresh x ((l - 65) * 201 + 41) (after (levelsFor x l)) (omega (arith, n, length-levels (afterOdd o (levelsFor x l)), upper-low l u .0, upper-low l u .1))
+    ∙ ap (λ (a : ℕ). r a x) (sym k)

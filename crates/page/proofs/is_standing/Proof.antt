@@ -1,0 +1,13 @@
+use mathlib.Core.Path.{sym, ap, _∙_}
+use Prim.Native.Nat.{_+_}
+use Rattle.field.specs.Field.{field}
+use Rattle.page.proofs.StoreLaws.{standing-is}
+use borrow.Author.Needs.{needs}
+use Rattle.page.proofs.is_standing.Statement.{statement}
+use Rattle.page.proofs.is_standing.Tie as tie
+
+returns : tie.Need-returns
+returns c = c .stands .ensures ∙ sym (standing-is _ _ _ (rw (← c .before .before .cell-at .ensures) (c .before .get8 .ensures)))
+
+pub is-standing-spec : {M : Type 1} → statement M
+is-standing-spec = tie.close (tie.spec (λ c κs. search needs) (λ c. search needs) (λ c κs. search needs) (λ c κs. search needs) returns)

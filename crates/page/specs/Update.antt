@@ -1,0 +1,48 @@
+-- What each message that names a page's symbol does to that page: its code, its change flags and the page after it.
+-- Assumes nothing.
+use Prim.Native.Nat.{ℕ}
+use mathlib.Core.Bool.{cond}
+use mathlib.Core.List.{List}
+use lib.Dec.{eqb}
+use Rattle.field.specs.Field.{part, field}
+use Rattle.quote.specs.declared.Quote.{Quote}
+use Rattle.levels.specs.Levels.{Odd, oddCode}
+use Rattle.message.specs.Message.{makerCode}
+use Rattle.entries.specs.Publication.{changeFlags}
+use Rattle.entries.specs.Page.{levelsFor, refreshed}
+use Rattle.page.specs.Page.{readingOf, knownBy, putRound, putOdd, oddOnPage, makerOn}
+
+pub record Updated : Type 0 where
+  pub code : ℕ
+  pub flags : ℕ
+  pub page : List ℕ
+
+-- a rejected message leaves the page alone
+abbrev pub rejected : ℕ → List ℕ → Updated
+rejected code p = record { code = code; flags = 0; page = p }
+
+-- the page after, with the entries that changed
+unfoldable pub flagged : ℕ → List ℕ → List ℕ → Updated
+flagged code before after = record { code = code; flags = changeFlags (part before 12 96) (part after 12 96); page = after }
+
+-- the code of an odd part on a letter's levels
+abbrev pub oddCodeOn : ℕ → Odd → List ℕ → ℕ
+oddCodeOn l o p = oddCode (field p 11 1) (levelsFor p l) o
+
+-- Q K: a fault rejects it; with 60 to 64 the round part alone is in force. Both parts are written before the entries are worked out
+unfoldable pub roundLotOn : ℕ → ℕ → Quote → Odd → List ℕ → Updated
+roundLotOn l fault q o p =
+    cond (eqb fault 0)
+    (flagged (oddCodeOn l o p) p (refreshed (cond (eqb (oddCodeOn l o p) 0) (putOdd l o (putRound l q p)) (putRound l q p))))
+    (rejected fault p)
+
+-- Q M: with 60 to 64 rejected
+unfoldable pub oddLotOn : ℕ → Odd → List ℕ → Updated
+oddLotOn l o p = cond (eqb (oddCodeOn l o p) 0) (flagged 0 p (oddOnPage l o p)) (rejected (oddCodeOn l o p) p)
+
+-- Q U: a fault rejects it, then 49
+unfoldable pub makerQuoteOn : ℕ → ℕ → Quote → List ℕ → Updated
+makerQuoteOn fault m q p =
+    cond (eqb fault 0)
+    (cond (eqb (makerCode (knownBy (readingOf p)) m) 0) (flagged 0 p (makerOn m q p)) (rejected (makerCode (knownBy (readingOf p)) m) p))
+    (rejected fault p)

@@ -1,0 +1,130 @@
+-- The bytes of levels and quotes: their lengths, that they read back, and that other places stay as they were.
+-- Assumes nothing.
+use Prim.Native.Nat.{ℕ, _+_, _≤_}
+use mathlib.Core.Path.{_≡_, refl, sym, ap, subst, _∙_}
+use mathlib.Core.List.{List, _++_}
+use mathlib.Core.Logic.{_⊎_}
+use native.Mathlib.Omega.{arith}
+use lib.Dec.{lit≤}
+use lib.ListN.{length, replicate}
+use Rattle.field.specs.Field.{Bytes, beBytes, part, field, splice}
+use Rattle.field.proofs.Laws.{be-beBytes, bytes-append, bytes-beBytes, field-lt, field-part, field-part-0, length-part, bytes-part, part-part, part-put, part-other, splice-join}
+use Rattle.quote.specs.declared.Level.{Level}
+use Rattle.quote.specs.declared.Quote.{Quote}
+use Rattle.quote.specs.Quote.{noLevel, noQuote, levelIn, levelBytes, quoteIn, quoteBytes, LevelFits, QuoteFits}
+
+-- three parts of a record written in a row are the record
+three-written : (p q r u : List ℕ) (at m n : ℕ) (a b c : List ℕ) → length a ≡ m → length (a ++ b) ≡ n → q ≡ splice p at a → r ≡ splice q (at + m) b → u ≡ splice r (at + n) c → u ≡ splice p at (a ++ b ++ c)
+three-written p q r u at m n a b c k l e f g = rw (g, f, e, splice-join p at m a b k, splice-join p at n (a ++ b) c l)
+
+-- ---- a level
+
+pub length-level : (l : Level) → length (levelBytes l) ≡ 20
+unfolding levelBytes beBytes
+length-level l = refl
+
+pub bytes-level : (l : Level) → Bytes (levelBytes l)
+unfolding levelBytes
+bytes-level l = bytes-append (beBytes 8 (l .price) ++ beBytes 4 (l .size)) (beBytes 8 (l .time)) (bytes-append (beBytes 8 (l .price)) (beBytes 4 (l .size)) (bytes-beBytes 8 (l .price)) (bytes-beBytes 4 (l .size))) (bytes-beBytes 8 (l .time))
+
+-- a level's fields, by their places in a page
+pub level-at : (p : List ℕ) (at : ℕ) → levelIn (part p at 20) ≡ record { price = field p at 8; size = field p (at + 8) 4; time = field p (at + 12) 8 }
+unfolding levelIn
+level-at p at = λ k. record {
+  price = field-part-0 p at 20 8 (lit≤ tt) k;
+  size = field-part p at 20 8 4 (lit≤ tt) k;
+  time = field-part p at 20 12 8 (lit≤ tt) k;
+}
+
+pub level-read : (p : List ℕ) (at a b c : ℕ) → a ≡ field p at 8 → b ≡ field p (at + 8) 4 → c ≡ field p (at + 12) 8 → record { price = a; size = b; time = c } ≡ levelIn (part p at 20)
+level-read p at a b c e f g = rw (e, f, g, level-at p at)
+
+-- three numbers written in a row are the level
+pub level-written : (p q r u : List ℕ) (at : ℕ) (l : Level) → q ≡ splice p at (beBytes 8 (l .price)) → r ≡ splice q (at + 8) (beBytes 4 (l .size)) → u ≡ splice r (at + 12) (beBytes 8 (l .time)) → u ≡ splice p at (levelBytes l)
+unfolding levelBytes beBytes
+level-written p q r u at l e f g = three-written p q r u at 8 12 _ _ _ refl refl e f g
+
+-- the level of a level's bytes is the level
+pub level-back : (l : Level) → LevelFits l → levelIn (levelBytes l) ≡ l
+unfolding levelIn levelBytes beBytes field part
+level-back l f = λ k. record {
+  price = be-beBytes 8 (l .price) (f .price) k;
+  size = be-beBytes 4 (l .size) (f .size) k;
+  time = be-beBytes 8 (l .time) (f .time) k;
+}
+
+-- what was written is read back
+pub level-round : (p : List ℕ) (at : ℕ) (l : Level) → at ≤ length p → LevelFits l → levelIn (part (splice p at (levelBytes l)) at 20) ≡ l
+level-round p at l h f = ap levelIn (part-put p at (levelBytes l) 20 (length-level l) h) ∙ level-back l f
+
+-- a level elsewhere in the page is as it was
+pub level-other : (p : List ℕ) (at : ℕ) (l : Level) (i : ℕ) → at ≤ length p → (i + 20 ≤ at) ⊎ (at + 20 ≤ i) → levelIn (part (splice p at (levelBytes l)) i 20) ≡ levelIn (part p i 20)
+level-other p at l i h o = ap levelIn (part-other p at (levelBytes l) i 20 h (subst (λ (n : ℕ). (i + 20 ≤ at) ⊎ (at + n ≤ i)) (sym (length-level l)) o))
+
+-- what stands in 20 bytes fits
+pub level-fits : (b : List ℕ) → length b ≡ 20 → Bytes b → LevelFits (levelIn b)
+unfolding levelIn
+level-fits b n k = record {
+  price = field-lt b 0 8 (omega arith) k;
+  size = field-lt b 8 4 (omega arith) k;
+  time = field-lt b 12 8 (omega arith) k;
+}
+
+pub zero-level : levelIn (replicate 20 0) ≡ noLevel
+unfolding levelIn field part
+zero-level = refl
+
+pub no-level-bytes : levelBytes noLevel ≡ replicate 20 0
+unfolding levelBytes beBytes
+no-level-bytes = refl
+
+-- ---- a quote
+
+pub length-quote : (q : Quote) → length (quoteBytes q) ≡ 41
+unfolding quoteBytes levelBytes beBytes
+length-quote q = refl
+
+pub bytes-quote : (q : Quote) → Bytes (quoteBytes q)
+unfolding quoteBytes
+bytes-quote q = bytes-append (beBytes 1 (q .condition) ++ levelBytes (q .bid)) (levelBytes (q .offer)) (bytes-append (beBytes 1 (q .condition)) (levelBytes (q .bid)) (bytes-beBytes 1 (q .condition)) (bytes-level (q .bid))) (bytes-level (q .offer))
+
+pub quote-at : (p : List ℕ) (at : ℕ) → quoteIn (part p at 41) ≡ record { condition = field p at 1; bid = levelIn (part p (at + 1) 20); offer = levelIn (part p (at + 21) 20) }
+unfolding quoteIn
+quote-at p at = λ k. record {
+  condition = field-part-0 p at 41 1 (lit≤ tt) k;
+  bid = levelIn (part-part p at 41 1 20 (lit≤ tt) k);
+  offer = levelIn (part-part p at 41 21 20 (lit≤ tt) k);
+}
+
+pub quote-read : (p : List ℕ) (at a : ℕ) (b c : Level) → a ≡ field p at 1 → b ≡ levelIn (part p (at + 1) 20) → c ≡ levelIn (part p (at + 21) 20) → record { condition = a; bid = b; offer = c } ≡ quoteIn (part p at 41)
+quote-read p at a b c e f g = rw (e, f, g, quote-at p at)
+
+pub quote-written : (p q r u : List ℕ) (at : ℕ) (x : Quote) → q ≡ splice p at (beBytes 1 (x .condition)) → r ≡ splice q (at + 1) (levelBytes (x .bid)) → u ≡ splice r (at + 21) (levelBytes (x .offer)) → u ≡ splice p at (quoteBytes x)
+unfolding quoteBytes levelBytes beBytes
+quote-written p q r u at x e f g = three-written p q r u at 1 21 _ _ _ refl refl e f g
+
+pub quote-back : (q : Quote) → QuoteFits q → quoteIn (quoteBytes q) ≡ q
+unfolding quoteIn quoteBytes levelBytes beBytes field part
+quote-back q f = λ k. record {
+  condition = be-beBytes 1 (q .condition) (f .condition) k;
+  bid = level-back (q .bid) (f .bid) k;
+  offer = level-back (q .offer) (f .offer) k;
+}
+
+pub quote-round : (p : List ℕ) (at : ℕ) (q : Quote) → at ≤ length p → QuoteFits q → quoteIn (part (splice p at (quoteBytes q)) at 41) ≡ q
+quote-round p at q h f = ap quoteIn (part-put p at (quoteBytes q) 41 (length-quote q) h) ∙ quote-back q f
+
+pub quote-other : (p : List ℕ) (at : ℕ) (q : Quote) (i : ℕ) → at ≤ length p → (i + 41 ≤ at) ⊎ (at + 41 ≤ i) → quoteIn (part (splice p at (quoteBytes q)) i 41) ≡ quoteIn (part p i 41)
+quote-other p at q i h o = ap quoteIn (part-other p at (quoteBytes q) i 41 h (subst (λ (n : ℕ). (i + 41 ≤ at) ⊎ (at + n ≤ i)) (sym (length-quote q)) o))
+
+pub quote-fits : (b : List ℕ) → length b ≡ 41 → Bytes b → QuoteFits (quoteIn b)
+unfolding quoteIn
+quote-fits b n k = record {
+  condition = field-lt b 0 1 (omega arith) k;
+  bid = level-fits (part b 1 20) (length-part b 1 20 (omega arith)) (bytes-part b 1 20 k);
+  offer = level-fits (part b 21 20) (length-part b 21 20 (omega arith)) (bytes-part b 21 20 k);
+}
+
+pub zero-quote : quoteIn (replicate 41 0) ≡ noQuote
+unfolding quoteIn levelIn field part
+zero-quote = refl

@@ -1,0 +1,80 @@
+-- Quotes: which sides count, and their bytes (document 01, "Messages").
+-- Assumes nothing.
+use Prim.Native.Nat.{ℕ, _^_, _<_}
+use mathlib.Core.Bool.{Bool, true, false, not, _&&_, cond}
+use mathlib.Core.List.{List, [], _∷_, _++_}
+use mathlib.Core.Option.{Option, none, some}
+use lib.Dec.{eqb, ltb}
+use Rattle.field.specs.Field.{part, field, beBytes}
+use Rattle.lists.specs.Lists.{member}
+use Rattle.ranking.specs.declared.Side.{Side}
+use Rattle.ranking.specs.declared.Side.the-variants.{Bid, Offer}
+use Rattle.ranking.specs.declared.Candidate.{Candidate}
+use Rattle.quote.specs.declared.Level.{Level}
+use Rattle.quote.specs.declared.Quote.{Quote}
+
+abbrev pub noLevel : Level
+noLevel = record { price = 0; size = 0; time = 0 }
+
+-- no quote: no condition, and so neither side counts
+abbrev pub noQuote : Quote
+noQuote = record { condition = 0; bid = noLevel; offer = noLevel }
+
+abbrev pub sideOf : Side → Quote → Level
+sideOf Bid q = q .bid
+sideOf Offer q = q .offer
+
+abbrev pub isBid : Side → Bool
+isBid Bid = true
+isBid Offer = false
+
+-- "A, B, H, O, R, W admit both sides, E the offer, F the bid, C, L, N, U neither"; no other byte admits a side
+unfoldable pub admits : Side → ℕ → Bool
+admits s c = cond (member (65 ∷ 66 ∷ 72 ∷ 79 ∷ 82 ∷ 87 ∷ []) c) true (cond (eqb c 69) (not (isBid s)) (cond (eqb c 70) (isBid s) false))
+
+-- "A side counts if price and size are above zero and the condition admits it"
+unfoldable pub counts : Side → Quote → Bool
+counts s q = ltb 0 (sideOf s q .price) && ltb 0 (sideOf s q .size) && admits s (q .condition)
+
+abbrev pub emptySide : Level → Bool
+emptySide l = eqb (l .price) 0 && eqb (l .size) 0
+
+-- "both sides 0 and 0"
+unfoldable pub emptyQuote : Quote → Bool
+emptyQuote q = emptySide (q .bid) && emptySide (q .offer)
+
+-- the quote under another condition
+unfoldable pub withCondition : ℕ → Quote → Quote
+withCondition c q = record { condition = c; bid = q .bid; offer = q .offer }
+
+abbrev pub levelCandidate : ℕ → ℕ → Level → Candidate
+levelCandidate name condition l = record { name = name; price = l .price; size = l .size; time = l .time; condition = condition }
+
+-- the candidate that a quote is under a name, if that side counts
+unfoldable pub candidateOf : Side → ℕ → Quote → Option Candidate
+candidateOf s n q = cond (counts s q) (some (levelCandidate n (q .condition) (sideOf s q))) none
+
+-- ---- bytes
+
+unfoldable pub levelIn : List ℕ → Level
+levelIn b = record { price = field b 0 8; size = field b 8 4; time = field b 12 8 }
+
+unfoldable pub levelBytes : Level → List ℕ
+levelBytes l = beBytes 8 (l .price) ++ beBytes 4 (l .size) ++ beBytes 8 (l .time)
+
+unfoldable pub quoteIn : List ℕ → Quote
+quoteIn b = record { condition = field b 0 1; bid = levelIn (part b 1 20); offer = levelIn (part b 21 20) }
+
+unfoldable pub quoteBytes : Quote → List ℕ
+quoteBytes q = beBytes 1 (q .condition) ++ levelBytes (q .bid) ++ levelBytes (q .offer)
+
+-- each number fits its bytes
+pub record LevelFits (l : Level) : Type 0 where
+  pub price : l .price < 256 ^ 8
+  pub size : l .size < 256 ^ 4
+  pub time : l .time < 256 ^ 8
+
+pub record QuoteFits (q : Quote) : Type 0 where
+  pub condition : q .condition < 256 ^ 1
+  pub bid : LevelFits (q .bid)
+  pub offer : LevelFits (q .offer)

@@ -1,0 +1,113 @@
+// A quote: a condition and two sides of price, size and time, in memory and in bytes.
+ghost use mathlib.Core.Path.{_≡_};
+ghost use Prim.Native.Nat.{_+_, _≤_};
+ghost use lib.ListN.{length};
+ghost use Rattle.field.specs.Field.{part, splice};
+ghost use Rattle.quote.specs.Quote.{admits, isBid, levelIn, levelBytes, quoteIn, quoteBytes};
+use ranking::Side;
+
+/// One side of a quote, or one odd-lot level: 20 bytes. Sizes are round lots in a quote and shares in a level.
+pub struct Level {
+    pub price: u64,
+    pub size: u32,
+    pub time: u64,
+}
+
+impl Level {
+    /// Bytes of a level: price 8, size 4, time 8.
+    pub const LEN: usize = 20;
+
+    const SIZE: usize = 8;
+
+    const TIME: usize = 12;
+    /// No level: price 0.
+    pub const NONE: Level = Level {
+        price: 0,
+        size: 0,
+        time: 0,
+    };
+
+    /// The level that stands in a page at `at`.
+    pub fn get(page: &[u8], at: usize) -> Level
+        requires { ⌜ at + 20 ≤ length (now page) ⌝ }
+        ensures { λ r. ⌜ r ≡ levelIn (part (now (page .entry)) at 20) ⌝ }
+    {
+        Level {
+            price: field::get64(page, at),
+            size: field::get32(page, at + Level::SIZE),
+            time: field::get64(page, at + Level::TIME),
+        }
+    }
+
+    /// Writes the level into a page at `at`.
+    pub fn put(self, page: &mut [u8], at: usize)
+        requires { ⌜ at + 20 ≤ length (now page) ⌝ }
+        ensures { λ _. ⌜ now (page .exit) ≡ splice (now (page .entry)) at (levelBytes self) ⌝ }
+    {
+        field::put64(page, at, self.price);
+        field::put32(page, at + Level::SIZE, self.size);
+        field::put64(page, at + Level::TIME, self.time);
+    }
+}
+
+/// A round-lot quote of a letter or a maker: 41 bytes.
+pub struct Quote {
+    pub condition: u8,
+    pub bid: Level,
+    pub offer: Level,
+}
+
+impl Quote {
+    /// Bytes of a quote: condition 1, bid 20, offer 20.
+    pub const LEN: usize = 41;
+
+    pub const BID: usize = 1;
+
+    pub const OFFER: usize = 21;
+
+    /// The quote that stands in a page at `at`.
+    pub fn get(page: &[u8], at: usize) -> Quote
+        requires { ⌜ at + 41 ≤ length (now page) ⌝ }
+        ensures { λ r. ⌜ r ≡ quoteIn (part (now (page .entry)) at 41) ⌝ }
+    {
+        Quote {
+            condition: field::get8(page, at),
+            bid: Level::get(page, at + Quote::BID),
+            offer: Level::get(page, at + Quote::OFFER),
+        }
+    }
+
+    /// Writes the quote into a page at `at`.
+    pub fn put(self, page: &mut [u8], at: usize)
+        requires { ⌜ at + 41 ≤ length (now page) ⌝ }
+        ensures { λ _. ⌜ now (page .exit) ≡ splice (now (page .entry)) at (quoteBytes self) ⌝ }
+    {
+        let bid = self.bid;
+        let offer = self.offer;
+        field::put8(page, at, self.condition);
+        bid.put(page, at + Quote::BID);
+        offer.put(page, at + Quote::OFFER);
+    }
+}
+
+/// Whether a condition admits a side: A, B, H, O, R, W both, E the offer, F the bid, every other byte neither.
+pub fn admits(side: Side, condition: u8) -> bool
+    ensures { λ r. ⌜ r ≡ admits side condition ⌝ }
+{
+    let bid = is_bid(side);
+    match condition {
+        b'A' | b'B' | b'H' | b'O' | b'R' | b'W' => true,
+        b'E' => !bid,
+        b'F' => bid,
+        _ => false,
+    }
+}
+
+fn is_bid(side: Side) -> bool
+    ensures { λ r. ⌜ r ≡ isBid side ⌝ }
+{
+    match side {
+        Side::Bid => true,
+        Side::Offer => false,
+    }
+}

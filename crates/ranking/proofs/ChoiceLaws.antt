@@ -1,0 +1,103 @@
+-- The choice as the code makes it: one law for each `return`, what a call returned being a variable with an equation. And loops over both sides.
+-- Assumes nothing.
+use Prim.Native.Nat.{ℕ, zero, suc, _+_, _-_, _%_, _^_, _≤_, _<_}
+use mathlib.Core.Path.{_≡_, refl, sym, ap, _∙_}
+use mathlib.Core.Bool.{Bool, true, false, cond}
+use native.Mathlib.Omega.{arith}
+use native.Mathlib.Nat.{le-of-lt}
+use lib.Dec.{eqb, ltb}
+use borrow.Author.Tests.{eq-eqb, ne-eqb, lt-ltb, le-ltb, ltb-true}
+use Rattle.lists.proofs.Searches.{less-one}
+use Rattle.ranking.specs.declared.Side.{Side}
+use Rattle.ranking.specs.declared.Side.the-variants.{Bid, Offer}
+use Rattle.ranking.specs.declared.Candidate.{Candidate}
+use Rattle.ranking.specs.declared.Sides.{Sides}
+use Rattle.ranking.specs.Choice.{rankOf, noCandidate, larger, byRest, beats, choose, bestFrom, beyondOf, sidesFrom, stepSides}
+
+pub larger-more : (a b : ℕ) (r : Bool) → b < a → true ≡ larger a b r
+larger-more a b r h = rw (lt-ltb b a h)
+
+pub larger-less : (a b : ℕ) (r : Bool) → a < b → false ≡ larger a b r
+larger-less a b r h = rw (le-ltb b a (le-of-lt h), lt-ltb a b h)
+
+pub larger-tie : (a b : ℕ) (r : Bool) → a ≤ b → b ≤ a → r ≡ larger a b r
+larger-tie a b r h k = rw (le-ltb b a h, le-ltb a b k)
+
+-- ---- ranks
+
+pub rank-bid : (s : Side) (p : ℕ) → s ≡ Bid → p ≡ rankOf s p
+unfolding rankOf
+rank-bid s p e = rw e
+
+pub rank-offer : (s : Side) (p r : ℕ) → s ≡ Offer → p < 2 ^ 64 → r < 2 ^ 64 → (r + p) % 2 ^ 64 ≡ 0 → r ≡ rankOf s p
+unfolding rankOf
+rank-offer s p r e h k w = rw e (go p h w)
+  where
+    go : (p : ℕ) → p < 2 ^ 64 → (r + p) % 2 ^ 64 ≡ 0 → r ≡ cond (eqb p 0) 0 (18446744073709551616 - p)
+    go zero h w = omega arith
+    go (suc p) h w = rw (ne-eqb (suc p) 0 (λ e. omega arith)) (omega arith)
+
+pub rank-zero : (s : Side) → rankOf s 0 ≡ 0
+unfolding rankOf
+rank-zero Bid = refl
+rank-zero Offer = refl
+
+-- ---- the choice
+
+module _ (s : Side) (b x : Candidate) where
+  pub choose-behind : (t : Bool) → t ≡ ltb (rankOf s (x .price)) (rankOf s (b .price)) → t ≡ true → b ≡ choose s b x
+  unfolding choose beats
+  choose-behind t e h =
+      let l : rankOf s (x .price) < rankOf s (b .price) = ltb-true _ _ (sym e ∙ h) in
+      rw (← e, h, le-ltb (rankOf s (b .price)) (rankOf s (x .price)) (le-of-lt l)) (go (eqb (x .price) 0) (eqb (x .size) 0))
+    where
+      go : (t u : Bool) → b ≡ cond (cond t false (cond u false false)) x b
+      go true u = refl
+      go false true = refl
+      go false false = refl
+
+  pub choose-priceless : x .price ≡ 0 → b ≡ choose s b x
+  unfolding choose beats
+  choose-priceless e = rw (eq-eqb _ _ e)
+
+  pub choose-sizeless : x .size ≡ 0 → b ≡ choose s b x
+  unfolding choose beats
+  choose-sizeless e = rw (eq-eqb _ _ e) (go (eqb (x .price) 0))
+    where
+      go : (t : Bool) → b ≡ cond (cond t false false) x b
+      go true = refl
+      go false = refl
+
+  module _ (p : x .price ≡ 0 → ⊥) (z : x .size ≡ 0 → ⊥) (u : Bool) (f : u ≡ ltb (rankOf s (b .price)) (rankOf s (x .price))) where
+    pub choose-ahead : u ≡ true → x ≡ choose s b x
+    unfolding choose beats
+    choose-ahead h = rw (ne-eqb _ _ p, ne-eqb _ _ z, ← f, h)
+
+    pub choose-tie : (t w : Bool) → t ≡ ltb (rankOf s (x .price)) (rankOf s (b .price)) → t ≡ false → u ≡ false → w ≡ byRest x b → (v : Bool) → w ≡ v
+        → cond v x b ≡ choose s b x
+    unfolding choose beats
+    choose-tie t w e h k r v q = rw (ne-eqb _ _ p, ne-eqb _ _ z, ← f, k, ← e, h, ← r, q)
+
+pub choose-none : (s : Side) (b : Candidate) → b ≡ choose s b noCandidate
+unfolding choose beats
+choose-none s b = refl
+
+pub beyond-by : (s : Side) (nat x : Candidate) (t : Bool) → t ≡ ltb (rankOf s (nat .price)) (rankOf s (x .price)) → (v : Bool) → t ≡ v → cond v x noCandidate ≡ beyondOf s nat x
+unfolding beyondOf
+beyond-by s nat x t e v q = rw (← e, q)
+
+-- ---- loops over both sides: what remains gives what the whole gives
+
+module _ (c : Side → ℕ → Candidate) (n : ℕ) where
+  sides-step : (i : ℕ) (t : Sides) → i < n → sidesFrom c i (n - i) t ≡ sidesFrom c (i + 1) (n - (i + 1)) (stepSides c i t)
+  unfolding bestFrom sidesFrom stepSides
+  sides-step i t h = rw (less-one n i h)
+
+  pub sides-again : (w : Sides) (i : ℕ) (t u : Sides) → i < n → sidesFrom c i (n - i) t ≡ w → u ≡ stepSides c i t → sidesFrom c (i + 1) (n - (i + 1)) u ≡ w
+  sides-again w i t u h inv e = rw e (sym (sides-step i t h) ∙ inv)
+
+  pub sides-end : (w : Sides) (i : ℕ) (t : Sides) → n ≤ i → sidesFrom c i (n - i) t ≡ w → t ≡ w
+  unfolding bestFrom sidesFrom
+  sides-end w i t h inv =
+      let e : n - i ≡ 0 = omega arith in
+      rw e at inv

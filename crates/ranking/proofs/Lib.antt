@@ -1,0 +1,4 @@
+pub mod OrderLaws
+pub mod RankingLaws
+pub mod ChoiceLaws
+pub mod Bridge

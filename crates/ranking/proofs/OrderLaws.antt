@@ -1,0 +1,213 @@
+-- Orders, and the best of a list: it depends on the members only, and may be found in parts.
+-- Assumes nothing.
+use Prim.Native.Nat.{ℕ}
+use mathlib.Core.Path.{_≡_, refl, sym, ap, _∙_}
+use mathlib.Core.Bool.{Bool, true, false, cond}
+use mathlib.Core.Logic.{inl, inr}
+use mathlib.Core.List.{List, [], _∷_, _++_}
+use mathlib.Core.Option.{Option, none, some}
+use native.Mathlib.Omega.{arith}
+use borrow.Author.Tests.{ltb-true, ltb-false, le-ltb}
+use Rattle.lists.specs.Lists.{bindOption, consOption, collect}
+use Rattle.lists.proofs.Tests.{clash}
+use Rattle.lists.proofs.Members.{In}
+use Rattle.ranking.specs.Ranking.{first, lex, low, high, pick, best}
+
+-- a comparison that is a strict weak order
+pub record Weak {A : Type 0} (R : A → A → Bool) : Type 0 where
+  pub asym : (a b : A) → R a b ≡ true → R b a ≡ false
+  pub steps : (a b c : A) → R a b ≡ false → R b c ≡ false → R a c ≡ false
+
+-- ---- orders by several rules
+
+first-left : (x y z : Bool) → first x y z ≡ false → x ≡ false
+first-left true y z e = e
+first-left false y z e = refl
+
+first-right : (x y z : Bool) → first x y z ≡ false → y ≡ false → z ≡ false
+first-right true y z e f = clash e
+first-right false true z e f = clash f
+first-right false false z e f = e
+
+first-false : (x y z : Bool) → x ≡ false → (y ≡ false → z ≡ false) → first x y z ≡ false
+first-false true y z e f = e
+first-false false true z e f = refl
+first-false false false z e f = f refl
+
+first-asym : (x y z w : Bool) → (x ≡ true → y ≡ false) → (z ≡ true → w ≡ false) → first x y z ≡ true → first y x w ≡ false
+first-asym true true z w f g e = clash (f refl)
+first-asym true false z w f g e = refl
+first-asym false true z w f g e = clash (sym e)
+first-asym false false z w f g e = g e
+
+module _ {A : Type 0} (P Q : A → A → Bool) where
+  pub lex-weak : Weak P → Weak Q → Weak (lex P Q)
+  unfolding lex
+  lex-weak p q =
+      record {
+        asym = λ a b. first-asym (P a b) (P b a) (Q a b) (Q b a) (p .asym a b) (q .asym a b);
+        steps =
+            λ a b c e f.
+              let ab : P a b ≡ false = first-left (P a b) (P b a) (Q a b) e in
+              let bc : P b c ≡ false = first-left (P b c) (P c b) (Q b c) f in
+              first-false (P a c) (P c a) (Q a c)
+              (p .steps a b c ab bc)
+              (λ ca.
+                q .steps a b c
+                (first-right (P a b) (P b a) (Q a b) e (p .steps b c a bc ca))
+                (first-right (P b c) (P c b) (Q b c) f (p .steps c a b ca ab)))
+      }
+
+  pub lex-left : (a b : A) → lex P Q a b ≡ false → P a b ≡ false
+  unfolding lex
+  lex-left a b e = first-left (P a b) (P b a) (Q a b) e
+
+  pub lex-right : (a b : A) → lex P Q a b ≡ false → lex P Q b a ≡ false → Q a b ≡ false
+  unfolding lex
+  lex-right a b e f = first-right (P a b) (P b a) (Q a b) e (lex-left b a f)
+
+  pub lex-ahead : (a b : A) → P a b ≡ true → lex P Q a b ≡ true
+  unfolding lex
+  lex-ahead a b e = rw e
+
+module _ {A : Type 0} (k : A → ℕ) where
+  pub low-weak : Weak (low k)
+  unfolding low
+  low-weak =
+      record {
+        asym = λ a b e. le-ltb (k b) (k a) (omega (arith, ltb-true (k a) (k b) e));
+        steps = λ a b c e f. le-ltb (k a) (k c) (omega (arith, ltb-false (k a) (k b) e, ltb-false (k b) (k c) f))
+      }
+
+  pub high-weak : Weak (high k)
+  unfolding high
+  high-weak =
+      record {
+        asym = λ a b e. le-ltb (k a) (k b) (omega (arith, ltb-true (k b) (k a) e));
+        steps = λ a b c e f. le-ltb (k c) (k a) (omega (arith, ltb-false (k b) (k a) e, ltb-false (k c) (k b) f))
+      }
+
+  pub low-tie : (a b : A) → low k a b ≡ false → low k b a ≡ false → k a ≡ k b
+  unfolding low
+  low-tie a b e f = omega (arith, ltb-false (k a) (k b) e, ltb-false (k b) (k a) f)
+
+-- ---- the best of a list
+
+-- c is a member, and no member is better
+pub record IsBest {A : Type 0} (R : A → A → Bool) (xs : List A) (c : A) : Type 0 where
+  pub member : In c xs
+  pub top : (d : A) → In d xs → R d c ≡ false
+
+-- the better of two that may be none; the first where neither is better
+abbrev pub either : {A : Type 0} → (A → A → Bool) → Option A → Option A → Option A
+either R none o = o
+either R (some x) o = some (pick R x o)
+
+pub best-cons : {A : Type 0} (R : A → A → Bool) (o : Option A) (xs : List A) → best R (consOption o xs) ≡ either R o (best R xs)
+best-cons R none xs = refl
+best-cons R (some x) xs = refl
+
+-- those that pass a test
+abbrev pub keep : {A : Type 0} → (A → Bool) → A → Option A
+keep p a = cond (p a) (some a) none
+
+module _ {A : Type 0} (R : A → A → Bool) (w : Weak R) where
+  irrefl : (a : A) → R a a ≡ false
+  irrefl a = go (R a a) refl
+    where
+      go : (t : Bool) → R a a ≡ t → R a a ≡ false
+      go true e = w .asym a a e
+      go false e = e
+
+  pub chain : (a b c : A) → R a b ≡ true → R b c ≡ true → R a c ≡ true
+  chain a b c e f = go (R a c) refl
+    where
+      go : (t : Bool) → R a c ≡ t → R a c ≡ true
+      go true h = h
+      go false h = clash (sym e ∙ w .steps a c b h (w .asym b c f))
+
+  join : (x y : A) (xs : List A) → IsBest R xs y → IsBest R (x ∷ xs) (cond (R y x) y x)
+  join x y xs b = go (R y x) refl
+    where
+      go : (t : Bool) → R y x ≡ t → IsBest R (x ∷ xs) (cond t y x)
+      go true e = record { member = inr (b .member); top = λ d m. elim m [ inl p ↦ rw p (w .asym y x e) | inr m′ ↦ b .top d m′ ] }
+      go false e = record { member = inl refl; top = λ d m. elim m [ inl p ↦ rw p (irrefl x) | inr m′ ↦ w .steps d y x (b .top d m′) e ] }
+
+  pub best-is : (x : A) (xs : List A) → IsBest R (x ∷ xs) (pick R x (best R xs))
+  best-is x [] = record { member = inl refl; top = λ d m. elim m [ inl p ↦ rw p (irrefl x) | inr m′ ↦ absurd m′ ] }
+  best-is x (y ∷ ys) = join x (pick R y (best R ys)) (y ∷ ys) (best-is y ys)
+
+  -- the same members, and no two of them tie: the same best, whatever their order and repeats
+  pub same-best : (xs ys : List A)
+      → ((a : A) → In a xs → In a ys)
+      → ((a : A) → In a ys → In a xs)
+      → ((a b : A) → In a xs → In b xs → R a b ≡ false → R b a ≡ false → a ≡ b)
+      → best R xs ≡ best R ys
+  same-best [] [] f g t = refl
+  same-best [] (y ∷ ys) f g t = absurd (g y (inl refl))
+  same-best (x ∷ xs) [] f g t = absurd (f x (inl refl))
+  same-best (x ∷ xs) (y ∷ ys) f g t =
+      let b = best-is x xs in
+      let c = best-is y ys in
+      ap some
+      (t (pick R x (best R xs)) (pick R y (best R ys))
+      (b .member)
+      (g (pick R y (best R ys)) (c .member))
+      (c .top (pick R x (best R xs)) (f (pick R x (best R xs)) (b .member)))
+      (b .top (pick R y (best R ys)) (g (pick R y (best R ys)) (c .member))))
+
+  -- ---- in parts: the choice is associative
+
+  pick-pick : (x y z : A) → cond (R (cond (R z y) z y) x) (cond (R z y) z y) x ≡ cond (R z (cond (R y x) y x)) z (cond (R y x) y x)
+  pick-pick x y z = go (R z y) refl (R y x) refl (R z x) refl
+    where
+      go : (a : Bool) → R z y ≡ a → (b : Bool) → R y x ≡ b → (c : Bool) → R z x ≡ c
+          → cond (R (cond a z y) x) (cond a z y) x ≡ cond (R z (cond b y x)) z (cond b y x)
+      go true e true f true g = rw (e, g)
+      go true e true f false g = clash (sym (chain z y x e f) ∙ g)
+      go true e false f c g = refl
+      go false e true f c g = rw (e, f)
+      go false e false f c g = rw (f, w .steps z y x e f)
+
+  pub either-either : (a b c : Option A) → either R (either R a b) c ≡ either R a (either R b c)
+  either-either none b c = refl
+  either-either (some x) none c = refl
+  either-either (some x) (some y) none = refl
+  either-either (some x) (some y) (some z) = ap some (sym (pick-pick x y z))
+
+  -- one that is better than each of some others stands for them
+  abbrev pub Top : A → List A → Type 0
+  Top x [] = Unit {0}
+  Top x (y ∷ ys) = (R x y ≡ true) × Top x ys
+
+  pub best-top : (x : A) (xs ys : List A) → Top x xs → best R (x ∷ xs ++ ys) ≡ some (pick R x (best R ys))
+  best-top x [] ys t = refl
+  best-top x (y ∷ xs) ys t =
+      ap (either R (some x)) (best-cons R (some y) (xs ++ ys))
+      ∙ sym (either-either (some x) (some y) (best R (xs ++ ys)))
+      ∙ ap (λ (o : Bool). either R (some (cond o y x)) (best R (xs ++ ys))) (w .asym x y (t .0))
+      ∙ best-top x xs ys (t .1)
+
+  -- a test that whatever is as good passes too: made of each or of the best
+  module _ (p : A → Bool) (up : (x y : A) → R y x ≡ false → p y ≡ true → p x ≡ true) where
+    keep-step : (x : A) (o : Option A) → either R (keep p x) (bindOption o (keep p)) ≡ bindOption (either R (some x) o) (keep p)
+    keep-step x none = go (p x)
+      where
+        go : (t : Bool) → either R (cond t (some x) none) none ≡ cond t (some x) none
+        go true = refl
+        go false = refl
+    keep-step x (some y) = go (p x) refl (p y) refl (R y x) refl
+      where
+        go : (a : Bool) → p x ≡ a → (b : Bool) → p y ≡ b → (c : Bool) → R y x ≡ c → either R (cond a (some x) none) (cond b (some y) none) ≡ keep p (cond c y x)
+        go true e true f true g = rw (g, f)
+        go true e true f false g = rw (g, e)
+        go true e false f true g = clash (sym (up y x (w .asym y x g) e) ∙ f)
+        go true e false f false g = rw e
+        go false e true f true g = rw f
+        go false e true f false g = clash (sym (up x y g f) ∙ e)
+        go false e false f true g = rw f
+        go false e false f false g = rw e
+
+    pub best-keep : (xs : List A) → best R (collect (keep p) xs) ≡ bindOption (best R xs) (keep p)
+    best-keep [] = refl
+    best-keep (x ∷ xs) = best-cons R (keep p x) (collect (keep p) xs) ∙ ap (either R (keep p x)) (best-keep xs) ∙ keep-step x (best R xs)

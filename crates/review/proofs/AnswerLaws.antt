@@ -1,0 +1,81 @@
+-- Each call's answer is the reviewer's.
+-- Assumes nothing.
+use Prim.Native.Nat.{ℕ}
+use mathlib.Core.Path.{_≡_, refl, sym, ap, _∙_}
+use mathlib.Core.Bool.{Bool, true, false, cond}
+use mathlib.Core.List.{List, [], _∷_}
+use mathlib.Core.Option.{Option, none, some}
+use lib.Dec.{eqb}
+use Rattle.field.specs.Field.{Bytes, be}
+use Rattle.lists.proofs.Tests.{clash}
+use Rattle.block.specs.Block.{messagesOf}
+use Rattle.page.proofs.EntryLaws.{bytes-every}
+use Rattle.book.specs.declared.Line.{Line}
+use Rattle.book.specs.Opening.{linesIn, Rest, restIn, pagesIn}
+use Rattle.book.specs.Call.{Call, make, add, openLine, startDay, endDay, take, read, Listed, isListed, findReading, listedOf, numberOf, done, Told, bare, lineAnswer, published, letterOf, answerOf, toldOn, entriesIn, publishedOn, numberOn, answerOn, call}
+use Rattle.book.proofs.OpeningLaws.{Sound, sound-is}
+use Rattle.book.proofs.LineLaws.{line-upper, line-open}
+use Rattle.book.proofs.NumberLaws.{number-same, read-done}
+use Rattle.review.specs.Reviewer.{parts, reviewed, toldR, Review, reviewAnswer}
+use Rattle.review.specs.Lists.{blockIsBytes}
+use Rattle.review.proofs.Agree.{good-reviewed, Core, ReadingOf, missing, found, reading-of}
+use Rattle.review.proofs.WorkLaws.{told-same}
+use Rattle.review.proofs.BytesLaws.{messages-bytes, told-done}
+use Rattle.review.proofs.CallLaws.{Held, Agrees, viewOf, view-is}
+
+module _ (n : ℕ) (b : List ℕ) (h : List (List ℕ)) (sd : Sound n b) (y : Bytes b) (c : Core (parts h) (pagesIn b)) where
+  abbrev ls : List Listed
+  ls = listedOf (pagesIn b)
+
+  -- a symbol that is listed is read as the history gives it
+  read-same : (s : ℕ) → isListed s ls ≡ true → publishedOn b s ≡ reviewed h s
+  read-same s e = go (reading-of s (parts h) (pagesIn b) (c .good))
+    where
+      go : ReadingOf s (parts h) (pagesIn b) → entriesIn (findReading s (pagesIn b)) ≡ reviewed h s
+      go (missing u v) = clash (sym e ∙ v)
+      go (found r u v w g) = rw (u, sym w) (good-reviewed (parts h) r g)
+
+  pub told-line : (i : ℕ) (r : Line) (x : List ℕ) → linesIn b i ≡ some r → Bytes x → toldOn b (r .letter) (messagesOf x) ≡ toldR ls h (r .letter) (messagesOf x)
+  told-line i r x e z =
+      told-done n (r .letter) (line-upper r (line-open b i r e .1)) (messagesOf x) b (messages-bytes x z) sd y
+      ∙ told-same (r .letter) ls (messagesOf x) h (pagesIn b) refl c
+
+  answer-same : (k : Call) → blockIsBytes k ≡ true
+      → answerOf (restIn b) (toldOn b) (publishedOn b) (numberOf (restIn b) ls k) k ≡ answerOf (restIn b) (toldR ls h) (reviewed h) (numberOf (restIn b) ls k) k
+  unfolding answerOf restIn
+  answer-same (make k) z = refl
+  answer-same (add x l) z = refl
+  answer-same (openLine i l) z = refl
+  answer-same startDay z = refl
+  answer-same endDay z = refl
+  answer-same (take i x k) z = go (linesIn b i) refl
+    where
+      go : (o : Option Line) → linesIn b i ≡ o
+          → cond (eqb (numberOf (restIn b) ls (take i x k)) 9) (bare (numberOf (restIn b) ls (take i x k))) (lineAnswer (numberOf (restIn b) ls (take i x k)) x (toldOn b (letterOf o) (messagesOf x)) o)
+          ≡ cond (eqb (numberOf (restIn b) ls (take i x k)) 9) (bare (numberOf (restIn b) ls (take i x k))) (lineAnswer (numberOf (restIn b) ls (take i x k)) x (toldR ls h (letterOf o) (messagesOf x)) o)
+      go none e = refl
+      go (some r) e = rw (told-line i r x e (bytes-every x z))
+  answer-same (read x k) z = go (done (numberOf (restIn b) ls (read x k))) refl
+    where
+      go : (t : Bool) → done (numberOf (restIn b) ls (read x k)) ≡ t
+          → published (numberOf (restIn b) ls (read x k)) (publishedOn b (be x)) ≡ published (numberOf (restIn b) ls (read x k)) (reviewed h (be x))
+      go true e = rw (read-same (be x) (read-done (restIn b) ls x k e .1))
+      go false e = rw e
+
+  answer-sound : (k : Call) → answerOn b k ≡ answerOf (restIn b) (toldOn b) (publishedOn b) (numberOn b k) k
+  unfolding answerOf
+  answer-sound (make k) = refl
+  answer-sound (add x l) = rw (sound-is n b sd)
+  answer-sound (openLine i l) = rw (sound-is n b sd)
+  answer-sound startDay = rw (sound-is n b sd)
+  answer-sound endDay = rw (sound-is n b sd)
+  answer-sound (take i x k) = rw (sound-is n b sd)
+  answer-sound (read x k) = rw (sound-is n b sd)
+
+  answer-view : (k : Call) → blockIsBytes k ≡ true → answerOn b k ≡ reviewAnswer (viewOf b h) k
+  unfolding reviewAnswer
+  answer-view k z = answer-sound k ∙ ap (λ (q : ℕ). answerOf (restIn b) (toldOn b) (publishedOn b) q k) (number-same n b sd k) ∙ answer-same k z
+
+pub call-answer : (n : ℕ) (b : List ℕ) (v : Review) (k : Call) → blockIsBytes k ≡ true → Agrees n b v → call b k .answer ≡ reviewAnswer v k
+unfolding call
+call-answer n b v k z a = rw (sym (view-is b v (a .held))) (answer-view n b (v .history) (a .sound) (a .bytes) (a .held .core) k z)

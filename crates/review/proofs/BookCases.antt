@@ -1,0 +1,45 @@
+-- The tables of cases hold of the book, from memory of any bytes in which make has just answered 0: computed on the reviewer, carried over by demand 3.
+-- Assumes nothing.
+use Prim.Native.Nat.{ℕ}
+use mathlib.Core.Path.{_≡_, refl, sym, ap, _∙_}
+use mathlib.Core.Bool.{Bool, true, false, _&&_}
+use mathlib.Core.List.{List, [], _∷_}
+use Rattle.field.specs.Field.{beBytes}
+use Rattle.lists.specs.Lists.{every}
+use Rattle.lists.proofs.Tests.{and-true}
+use Rattle.book.specs.Call.{make, Answer, call, answers}
+use Rattle.review.specs.Lists.{blocksAreBytes}
+use Rattle.review.proofs.Demand3.{demand3}
+use Rattle.review.proofs.Rows.{allTold, Row, answered, Answered, end, _▹_}
+use Rattle.review.proofs.Cases as Cases
+use Rattle.review.proofs.Shared as Shared
+use Rattle.review.proofs.Checks as Checks
+
+abbrev pub OnBook : List Row → Type 0
+OnBook [] = Unit {0}
+OnBook (r ∷ rs) =
+    ((m : List ℕ) → call m (make (r .n)) .answer .number ≡ 0 → allTold (answers (call m (make (r .n)) .bytes) (r .calls)) ≡ r .answers) × OnBook rs
+
+abbrev rowsAreBytes : List Row → Bool
+rowsAreBytes [] = true
+rowsAreBytes (r ∷ rs) = blocksAreBytes (r .calls) && rowsAreBytes rs
+
+on-book : (rs : List Row) → rowsAreBytes rs ≡ true → Answered rs → OnBook rs
+unfolding answered
+on-book rs z end = tt
+on-book rs z (_▹_ {r = r} {rs = rest} a more) =
+    let t = and-true (blocksAreBytes (r .calls)) (rowsAreBytes rest) z in
+    ((λ m made. ap allTold (demand3 m (r .n) made (r .calls) (t .0) .told) ∙ a), on-book rest (t .1) more)
+
+-- P1 to P13
+pub cases : OnBook Cases.table
+unfolding Cases.table blocksAreBytes every beBytes
+cases = on-book Cases.table refl Cases.cases
+
+pub shared : OnBook Shared.table
+unfolding Shared.table blocksAreBytes every beBytes
+shared = on-book Shared.table refl Shared.cases
+
+pub checks : OnBook Checks.table
+unfolding Checks.table blocksAreBytes every beBytes
+checks = on-book Checks.table refl Checks.cases

@@ -1,0 +1,138 @@
+-- The messages of a block on a book's bytes are those on its readings.
+-- Assumes nothing.
+use Prim.Native.Nat.{ℕ, zero, suc, _+_, _*_, _≤_, _<_}
+use mathlib.Core.Path.{_≡_, refl, sym, ap, _∙_}
+use mathlib.Core.Bool.{Bool, true, false, cond}
+use mathlib.Core.List.{List, [], _∷_}
+use native.Mathlib.Omega.{arith}
+use lib.Dec.{eqb}
+use lib.ListN.{length}
+use Rattle.field.specs.Field.{Bytes, part}
+use Rattle.field.proofs.Laws.{bytes-part}
+use Rattle.lists.specs.Lists.{at, member, upper}
+use Rattle.lists.proofs.Tests.{Cut, equal, apart, cut}
+use Rattle.message.specs.declared.Kind.{Kind}
+use Rattle.message.specs.declared.Kind.the-variants as kind
+use Rattle.message.specs.Message.{kindOf, symbolOf, oddAt, Known, codeOf, Part, roundOf, wholeBy, partlyTaken, partsOf}
+use Rattle.block.specs.Block.{countIn, messageAt, messagesFrom, messagesOf}
+use Rattle.page.specs.Page.{Reading, knownOf}
+use Rattle.page.proofs.Model.{partReading}
+use Rattle.book.specs.Opening.{pagesIn}
+use Rattle.book.specs.Call.{findReading, partOn, partsOn, codeOn, messageOn, messagesOn, Told, flagsOf, publications, toldOn}
+use Rattle.book.proofs.OpeningLaws.{Sound}
+use Rattle.book.proofs.PageLaws.{OpeningKept, opening-none, opening-then, kept-sound}
+use Rattle.book.proofs.PartLaws.{PartGood, PartDone, part-done}
+use Rattle.review.proofs.FitLaws.{quote-fits, name-fits, odd-message}
+use Rattle.review.proofs.CodeLaws.{Takes, takes-whole, takes-partly, letter-is, RoundTaken, round-taken, OddTaken, odd-taken, MakerTaken, maker-taken}
+use Rattle.review.proofs.KeptLaws.{partly-is}
+use Rattle.review.proofs.WorkLaws.{partsReading, messageReading, messagesReading, toldReading}
+
+-- ---- the parts of a message that is taken are good
+
+abbrev pub AllPartGood : List Part → Type 0
+AllPartGood [] = Unit {0}
+AllPartGood (p ∷ ps) = PartGood p × AllPartGood ps
+
+module _ (e : Known) (letter : ℕ) (m : List ℕ) (u : upper letter ≡ true) (by : Bytes m) (c : ℕ) (x : codeOf e letter m ≡ c) where
+  up : Takes c → upper (at m 2) ≡ true
+  up t = rw (letter-is e letter m c t x) u
+
+  round-good : (t : Takes c) → RoundTaken e letter m c t → PartGood (roundOf m)
+  unfolding oddAt
+  round-good t r = (up t, quote-fits m by (omega (arith, r .size)))
+
+  whole-good : c ≡ 0 → (k : Kind) → kindOf m ≡ k → AllPartGood (wholeBy m k)
+  unfolding member
+  whole-good z kind.Inquiry k = tt
+  whole-good z kind.Close k = (refl, tt)
+  whole-good z kind.Open k = (refl, tt)
+  whole-good z kind.Test k = tt
+  whole-good z kind.RoundLot k =
+      let t : Takes c = takes-whole c z in
+      let r : RoundTaken e letter m c t = round-taken e letter m c t x k in
+      (round-good t r, ((up t, odd-message m by 56 60 (omega arith) (r .size) (e .lot) (e .levels letter) (r .odd ∙ z)), tt))
+  whole-good z kind.OddLot k =
+      let t : Takes c = takes-whole c z in
+      let r : OddTaken e letter m c t = odd-taken e letter m c t x k in
+      ((up t, odd-message m by 31 36 (omega arith) (r .size) (e .lot) (e .levels letter) (r .odd ∙ z)), tt)
+  whole-good z kind.Maker k =
+      let t : Takes c = takes-whole c z in
+      let r : MakerTaken e letter m c t = maker-taken e letter m c t x k in
+      ((name-fits m by (omega (arith, r .size)), quote-fits m by (omega (arith, r .size)), r .condition), tt)
+  whole-good z kind.Unknown k = tt
+
+  parts-good : AllPartGood (partsOf c m)
+  unfolding partsOf
+  parts-good = go (cut c 0) (partlyTaken c m) refl
+    where
+      go : Cut c 0 → (p : Bool) → partlyTaken c m ≡ p → AllPartGood (cond (eqb c 0) (wholeBy m (kindOf m)) (cond p (roundOf m ∷ []) []))
+      go (equal t z) p f = rw t (whole-good z (kindOf m) refl)
+      go (apart t z) true f =
+          let r = partly-is c m f in
+          let k : Takes c = takes-partly c (r .1) in
+          rw t (round-good k (round-taken e letter m c k x (r .0)), tt)
+      go (apart t z) false f = rw t tt
+
+-- ---- the messages of a block of bytes are bytes
+
+abbrev pub AllBytes : List (List ℕ) → Type 0
+AllBytes [] = Unit {0}
+AllBytes (m ∷ ms) = Bytes m × AllBytes ms
+
+from-bytes : (b : List ℕ) → Bytes b → (i k : ℕ) → AllBytes (messagesFrom b i k)
+unfolding messagesFrom messageAt
+from-bytes b y i zero = tt
+from-bytes b y i (suc k) = (bytes-part b _ _ y, from-bytes b y (i + 1) k)
+
+pub messages-bytes : (b : List ℕ) → Bytes b → AllBytes (messagesOf b)
+unfolding messagesOf
+messages-bytes b y = from-bytes b y 0 (countIn b)
+
+-- ---- on a sound book of bytes
+
+pub record Done (b b′ : List ℕ) (rs : List Reading) : Type 0 where
+  pub pages : pagesIn b′ ≡ rs
+  pub kept : OpeningKept b b′
+
+done-then : (b b₁ b₂ : List ℕ) (rs₁ rs₂ : List Reading) → Done b b₁ rs₁ → Done b₁ b₂ rs₂ → Done b b₂ rs₂
+done-then b b₁ b₂ rs₁ rs₂ x y = record { pages = y .pages; kept = opening-then b b₁ b₂ (x .kept) (y .kept) }
+
+module _ (n : ℕ) where
+  parts-done : (ps : List Part) (b : List ℕ) → Sound n b → Bytes b → AllPartGood ps → Done b (partsOn ps b) (partsReading ps (pagesIn b))
+  unfolding partsOn
+  parts-done [] b sd y g = record { pages = refl; kept = opening-none b }
+  parts-done (p ∷ ps) b sd y g =
+      let d : PartDone p b (partOn p b) = part-done n p b sd y (g .0) in
+      let r : Done (partOn p b) (partsOn ps (partOn p b)) (partsReading ps (pagesIn (partOn p b))) =
+      parts-done ps (partOn p b) (kept-sound b (partOn p b) (d .kept) n sd) (d .kept .bytes y) (g .1) in
+      record { pages = r .pages ∙ ap (partsReading ps) (d .pages); kept = opening-then b (partOn p b) (partsOn ps (partOn p b)) (d .kept) (r .kept) }
+
+  module _ (letter : ℕ) (u : upper letter ≡ true) where
+    pub message-done : (m : List ℕ) (b : List ℕ) → Bytes m → Sound n b → Bytes b → Done b (messageOn letter m b) (messageReading letter m (pagesIn b))
+    message-done m b by sd y =
+        parts-done (partsOf (codeOn letter m b) m) b sd y (parts-good (knownOf (findReading (symbolOf m) (pagesIn b))) letter m u by (codeOn letter m b) refl)
+
+    pub messages-done : (ms : List (List ℕ)) (b : List ℕ) → AllBytes ms → Sound n b → Bytes b → Done b (messagesOn letter ms b) (messagesReading letter ms (pagesIn b))
+    unfolding messagesOn
+    messages-done [] b by sd y = record { pages = refl; kept = opening-none b }
+    messages-done (m ∷ ms) b by sd y =
+        let d : Done b (messageOn letter m b) (messageReading letter m (pagesIn b)) = message-done m b (by .0) sd y in
+        let r : Done (messageOn letter m b) (messagesOn letter ms (messageOn letter m b)) (messagesReading letter ms (pagesIn (messageOn letter m b))) =
+        messages-done ms (messageOn letter m b) (by .1) (kept-sound b (messageOn letter m b) (d .kept) n sd) (d .kept .bytes y) in
+        record {
+          pages = r .pages ∙ ap (messagesReading letter ms) (d .pages);
+          kept = opening-then b (messageOn letter m b) (messagesOn letter ms (messageOn letter m b)) (d .kept) (r .kept);
+        }
+
+    pub told-done : (ms : List (List ℕ)) (b : List ℕ) → AllBytes ms → Sound n b → Bytes b → toldOn b letter ms ≡ toldReading (pagesIn b) letter ms
+    unfolding toldOn
+    told-done [] b by sd y = refl
+    told-done (m ∷ ms) b by sd y =
+        let d : Done b (messageOn letter m b) (messageReading letter m (pagesIn b)) = message-done m b (by .0) sd y in
+        let r : toldOn (messageOn letter m b) letter ms ≡ toldReading (messageReading letter m (pagesIn b)) letter ms =
+        told-done ms (messageOn letter m b) (by .1) (kept-sound b (messageOn letter m b) (d .kept) n sd) (d .kept .bytes y) ∙ ap (λ (rs : List Reading). toldReading rs letter ms) (d .pages) in
+        λ i. record {
+          code = codeOn letter m b;
+          flags = flagsOf (publications (pagesIn b)) (publications (d .pages i));
+          partly = partlyTaken (codeOn letter m b) m;
+        } ∷ r i

@@ -1,0 +1,221 @@
+-- Each call keeps the book and the reviewer together, and its answer is the reviewer's.
+-- Assumes nothing.
+use Prim.Native.Nat.{ℕ, _+_, _*_, _^_, _%_, _≤_, _<_}
+use mathlib.Core.Path.{_≡_, refl, sym, ap, _∙_}
+use mathlib.Core.Bool.{Bool, true, false, cond}
+use mathlib.Core.List.{List, [], _∷_, _++_, map}
+use mathlib.Core.Option.{Option, none, some}
+use native.Mathlib.Omega.{arith}
+use lib.Dec.{ltb, leb, eqb, lit<, lit≤}
+use lib.ListN.{length}
+use borrow.Author.Tests.{ltb-true}
+use Rattle.field.specs.Field.{Bytes, be, part, field, splice}
+use Rattle.field.proofs.Laws.{field-lt, length-part, bytes-part}
+use Rattle.lists.specs.Lists.{upper, mapOption}
+use Rattle.lists.proofs.Tests.{clash}
+use Rattle.message.specs.Form.{letterGood}
+use Rattle.block.specs.Block.{countIn, sequenceIn, messagesOf, idleBlock}
+use Rattle.block.specs.Sequence.{gapOf, nextOf, arrivalOf}
+use Rattle.block.specs.declared.Arrival.{Arrival}
+use Rattle.block.specs.declared.Arrival.the-variants.{Taken, Duplicate}
+use Rattle.page.specs.Page.{emptied}
+use Rattle.page.proofs.Model.{blankReading, blanked}
+use Rattle.page.proofs.EntryLaws.{bytes-every}
+use Rattle.page.proofs.BlankLaws.{emptied-kept, emptied-reads}
+use Rattle.book.specs.declared.Line.{Line}
+use Rattle.book.specs.Opening.{symbolsOf, countOf, lineAt, lineIn, linesIn, Rest, restIn, pagesIn, eachPage, freshBytes, restartLines}
+use Rattle.book.specs.Call.{Call, make, add, openLine, startDay, endDay, take, read, Listed, isListed, findReading, listedOf, numberOf, done, bare, lineAnswer, published, nextBy, advanced, letterOf, Answer, answerOf, messagesOn, toldOn, entriesIn, publishedOn, advanceOn, afterCall, isMake, numberOn, answerOn, call}
+use Rattle.book.proofs.OpeningLaws.{Sound, sound-is, rest-by}
+use Rattle.book.proofs.PageLaws.{OpeningKept, kept-sound, each-kept, each-reads}
+use Rattle.book.proofs.LineLaws.{LineFits, line-upper, line-open, lined, lined-pages, lined-rest}
+use Rattle.book.proofs.DayLaws.{dayed-pages, dayed-rest, restartedLine, relined-sound, relined-pages, relined-rest}
+use Rattle.book.proofs.FreshLaws.{fresh-rest, fresh-pages}
+use Rattle.book.proofs.AddLaws.{added, added-rest, added-pages}
+use Rattle.book.proofs.NumberLaws.{number-same, make-done, page-free, AddDone, add-done, open-done, take-done, read-done, symbol-eleven, lot-fits}
+use Rattle.book.proofs.SoundLaws.{Stays, call-stays}
+use Rattle.review.specs.Reviewer.{parts, reviewed, messagesR, toldR, Review, setLine, restart, restAfter, symbolsAfter, historyAfter, reviewCall, reviewAnswer}
+use Rattle.review.specs.Lists.{blockIsBytes}
+use Rattle.review.proofs.Agree.{Good, good-reviewed, Core, ReadingOf, missing, found, reading-of}
+use Rattle.review.proofs.ListLaws.{core-none, emptied-listed, core-emptied, added-listed, core-added}
+use Rattle.review.proofs.WorkLaws.{messagesReading, messages-core, messages-listed, told-same}
+use Rattle.review.proofs.BytesLaws.{Done, messages-bytes, messages-done, told-done}
+
+-- what the book's bytes and the reviewer share
+pub record Held (b : List ℕ) (v : Review) : Type 0 where
+  pub rest : restIn b ≡ v .rest
+  pub listed : listedOf (pagesIn b) ≡ v .symbols
+  pub core : Core (parts (v .history)) (pagesIn b)
+
+-- what holds between any two calls
+pub record Agrees (n : ℕ) (b : List ℕ) (v : Review) : Type 0 where
+  pub sound : Sound n b
+  pub bytes : Bytes b
+  pub held : Held b v
+
+-- the reviewer that a book and a history give
+abbrev pub viewOf : List ℕ → List (List ℕ) → Review
+viewOf b h = record { rest = restIn b; symbols = listedOf (pagesIn b); history = h }
+
+pub view-is : (b : List ℕ) (v : Review) → Held b v → viewOf b (v .history) ≡ v
+view-is b v a = λ i. record { rest = a .rest i; symbols = a .listed i; history = v .history }
+
+-- ---- lines
+
+-- what a line's bytes hold fits them
+line-fits : (n : ℕ) (b : List ℕ) → Sound n b → Bytes b → (i : ℕ) (x : Line) → linesIn b i ≡ some x → LineFits x
+unfolding linesIn lineIn
+line-fits n b sd y i x e = let g = line-open b i x e in go (g .0) (ltb i 64) (letterGood (field (part b (lineAt i) 13) 0 1)) e
+  where
+    go : i < 64 → (t u : Bool)
+        → cond t (cond u (some (record { letter = field (part b (lineAt i) 13) 0 1; expected = field (part b (lineAt i) 13) 1 4; count = field (part b (lineAt i) 13) 5 8 })) none) none ≡ some x
+        → LineFits x
+    go l true true q =
+        let r : List ℕ = part b (lineAt i) 13 in
+        let w : length (part b (lineAt i) 13) ≡ 13 = length-part b (lineAt i) 13 (omega (arith, sd .size)) in
+        let z : Bytes (part b (lineAt i) 13) = bytes-part b (lineAt i) 13 y in
+        let p : _≡_ {A = Line} (record { letter = field (part b (lineAt i) 13) 0 1; expected = field (part b (lineAt i) 13) 1 4; count = field (part b (lineAt i) 13) 5 8 }) x = cc in
+        record {
+          good = line-open b i x e .1;
+          expected = rw (sym p) (field-lt (part b (lineAt i) 13) 1 4 (omega arith) z);
+          count = rw (sym p) (field-lt (part b (lineAt i) 13) 5 8 (omega arith) z);
+        }
+    go l true false q = clash (cc)
+    go l false u q = clash (cc)
+
+next-fits : (e s k : ℕ) → e < 256 ^ 4 → nextBy e (arrivalOf s e k) < 256 ^ 4
+unfolding arrivalOf nextOf
+next-fits e s k f = go (leb (gapOf s e) 2147483647)
+  where
+    go : (t : Bool) → nextBy e (cond t (Taken (gapOf s e) ((s + k) % 4294967296)) Duplicate) < 256 ^ 4
+    go true = omega arith
+    go false = f
+
+advanced-fits : (x : Line) (b : List ℕ) → LineFits x → LineFits (advanced x b)
+unfolding advanced
+advanced-fits x b f = go (idleBlock b)
+  where
+    go : (t : Bool)
+        → LineFits (cond t x (record { letter = x .letter; expected = nextBy (x .expected) (arrivalOf (sequenceIn b) (x .expected) (countIn b)); count = (x .count + countIn b) % 18446744073709551616 }))
+    go true = f
+    go false = record { good = f .good; expected = next-fits (x .expected) (sequenceIn b) (countIn b) (f .expected); count = omega arith }
+
+-- ---- what a call that is done leaves
+
+module _ (n : ℕ) (b : List ℕ) (h : List (List ℕ)) (sd : Sound n b) (y : Bytes b) (c : Core (parts h) (pagesIn b)) where
+  abbrev ls : List Listed
+  ls = listedOf (pagesIn b)
+
+  abbrev Then : Call → Type 0
+  Then k = Held (afterCall b k) (record { rest = restAfter (restIn b) k; symbols = symbolsAfter ls k; history = historyAfter (restIn b) ls h k })
+
+  abbrev IsDone : Call → Type 0
+  IsDone k = done (numberOf (restIn b) ls k) ≡ true
+
+  after-make : (k : ℕ) → IsDone (make k) → Then (make k)
+  unfolding afterCall restAfter symbolsAfter historyAfter listedOf parts
+  after-make k d = record { rest = fresh-rest k; listed = ap listedOf (fresh-pages k); core = rw (fresh-pages k) core-none }
+
+  after-add : (x : List ℕ) (l : ℕ) → IsDone (add x l) → Then (add x l)
+  unfolding afterCall restAfter symbolsAfter historyAfter
+  after-add x l d =
+      let g : AddDone (restIn b) ls x l = add-done (restIn b) ls x l d in
+      let w : length x ≡ 11 = symbol-eleven x (g .good) in
+      let r : countOf b < n = page-free n b sd (g .room) in
+      let p : pagesIn (added n b sd x l w r) ≡ pagesIn b ++ (blankReading (be x) l ∷ []) = added-pages n b sd x l w r in
+      record { rest = added-rest n b sd x l w r; listed = ap listedOf p ∙ added-listed (pagesIn b) (be x) l; core = rw p (core-added (parts h) (pagesIn b) (be x) l c (g .new)) }
+
+  after-open : (i l : ℕ) → IsDone (openLine i l) → Then (openLine i l)
+  unfolding afterCall restAfter symbolsAfter historyAfter
+  after-open i l d =
+      let g = open-done (restIn b) ls i l d in
+      let x : Line = record { letter = l; expected = 1; count = 0 } in
+      let p : pagesIn (lined n b sd i (g .0) x) ≡ pagesIn b = lined-pages n b sd i (g .0) x in
+      record {
+        rest = lined-rest n b sd i (g .0) x (record { good = g .1; expected = lit< tt; count = lit< tt });
+        listed = ap listedOf p;
+        core = rw p c;
+      }
+
+  -- every page emptied, every line restarted, the day open
+  after-start : Then startDay
+  unfolding afterCall restAfter symbolsAfter historyAfter parts
+  after-start =
+      let b₁ : List ℕ = eachPage emptied 0 (symbolsOf b) b in
+      let k : OpeningKept b b₁ = each-kept n emptied (λ p w. emptied-kept p w) b sd in
+      let s₁ : Sound n b₁ = kept-sound b b₁ k n sd in
+      let s₂ : Sound n (restartLines 0 64 b₁) = relined-sound n b₁ s₁ in
+      let p : pagesIn (splice (restartLines 0 64 b₁) 10 (1 ∷ [])) ≡ map blanked (pagesIn b) =
+      dayed-pages n (restartLines 0 64 b₁) s₂ 1 (lit≤ tt) ∙ relined-pages n b₁ s₁ ∙ each-reads n emptied (λ p w. emptied-kept p w) b sd blanked (λ p w. emptied-reads p w) in
+      let r : restIn b₁ ≡ restIn b = rest-by b b₁ (k .front) in
+      record {
+        rest = dayed-rest n (restartLines 0 64 b₁) s₂ 1 (lit≤ tt)
+            ∙ (λ i. record { n = relined-rest n b₁ s₁ i .n; lines = relined-rest n b₁ s₁ i .lines; day = true })
+            ∙ (λ i. record { n = r i .n; lines = λ j. mapOption restart (r i .lines j); day = true });
+        listed = ap listedOf p ∙ emptied-listed (pagesIn b);
+        core = rw p (core-emptied (pagesIn b) (c .once));
+      }
+
+  after-end : Then endDay
+  unfolding afterCall restAfter symbolsAfter historyAfter
+  after-end =
+      let p : pagesIn (splice b 10 (0 ∷ [])) ≡ pagesIn b = dayed-pages n b sd 0 (lit≤ tt) in
+      record { rest = dayed-rest n b sd 0 (lit≤ tt); listed = ap listedOf p; core = rw p c }
+
+  after-take : (i : ℕ) (x : List ℕ) (k : ℕ) → Bytes x → IsDone (take i x k) → Then (take i x k)
+  unfolding afterCall restAfter symbolsAfter historyAfter restIn
+  after-take i x k z d = go (linesIn b i) refl
+    where
+      go : (o : Option Line) → linesIn b i ≡ o
+          → Held (advanceOn i x o (messagesOn (letterOf o) (messagesOf x) b))
+          (record {
+            rest = record { n = restIn b .n; lines = λ j. cond (eqb j i) (mapOption (λ r. advanced r x) o) (restIn b .lines j); day = restIn b .day };
+            symbols = ls;
+            history = messagesR ls (letterOf o) (messagesOf x) h;
+          })
+      go none e = absurd (take-done (restIn b) ls i x k d e)
+      go (some r) e =
+          let b₁ : List ℕ = messagesOn (r .letter) (messagesOf x) b in
+          let f : LineFits r = line-fits n b sd y i r e in
+          let l : i < 64 = line-open b i r e .0 in
+          let t : Done b b₁ (messagesReading (r .letter) (messagesOf x) (pagesIn b)) =
+          messages-done n (r .letter) (line-upper r (f .good)) (messagesOf x) b (messages-bytes x z) sd y in
+          let s₁ : Sound n b₁ = kept-sound b b₁ (t .kept) n sd in
+          let q : restIn b₁ ≡ restIn b = rest-by b b₁ (t .kept .front) in
+          let p : pagesIn (lined n b₁ s₁ i l (advanced r x)) ≡ messagesReading (r .letter) (messagesOf x) (pagesIn b) = lined-pages n b₁ s₁ i l (advanced r x) ∙ t .pages in
+          record {
+            rest = lined-rest n b₁ s₁ i l (advanced r x) (advanced-fits r x f)
+                ∙ (λ j. record { n = q j .n; lines = setLine i (advanced r x) (q j .lines); day = q j .day });
+            listed = ap listedOf p ∙ messages-listed (r .letter) ls (messagesOf x) (pagesIn b);
+            core = rw p (messages-core (r .letter) ls (messagesOf x) h (pagesIn b) refl c);
+          }
+
+  after-read : (x : List ℕ) (k : ℕ) → Then (read x k)
+  unfolding afterCall restAfter symbolsAfter historyAfter
+  after-read x k = record { rest = refl; listed = refl; core = c }
+
+  after : (k : Call) → blockIsBytes k ≡ true → IsDone k → Then k
+  after (make k) z d = after-make k d
+  after (add x l) z d = after-add x l d
+  after (openLine i l) z d = after-open i l d
+  after startDay z d = after-start
+  after endDay z d = after-end
+  after (take i x k) z d = after-take i x k (bytes-every x z) d
+  after (read x k) z d = after-read x k
+
+  call-view : (k : Call) → blockIsBytes k ≡ true → Held (call b k .bytes) (reviewCall (viewOf b h) k)
+  unfolding call reviewCall
+  call-view k z = rw (number-same n b sd k) (go (done (numberOf (restIn b) ls k)) refl)
+    where
+      go : (t : Bool) → done (numberOf (restIn b) ls k) ≡ t
+          → Held (cond t (afterCall b k) b) (cond t (record { rest = restAfter (restIn b) k; symbols = symbolsAfter ls k; history = historyAfter (restIn b) ls h k }) (viewOf b h))
+      go true e = after k z e
+      go false e = record { rest = refl; listed = refl; core = c }
+
+pub call-agrees : (n : ℕ) (b : List ℕ) (v : Review) (k : Call) → blockIsBytes k ≡ true → Agrees n b v → Agrees n (call b k .bytes) (reviewCall v k)
+call-agrees n b v k z a =
+    let s : Stays n b (call b k .bytes) = call-stays n b (a .sound) k in
+    record {
+      sound = s .sound;
+      bytes = s .bytes (a .bytes);
+      held = rw (sym (view-is b v (a .held))) (call-view n b (v .history) (a .sound) (a .bytes) (a .held .core) k z);
+    }

@@ -1,0 +1,56 @@
+-- DEMAND 3, closed, on bytes.
+-- It rests on these definitions, and on nothing else:
+--   `call`, `answers`, `bytesAfter` (book/specs/Call.antt): what a call, and a list of calls, does to bytes, and what it answers;
+--   `freshReview`, `reviewAnswers`, `reviewAfter`, `reviewed` (review/specs/Reviewer.antt): the reviewer, its answers to the same calls, and a
+--   symbol's 96 bytes worked out anew from the history alone;
+--   `blocksAreBytes` (review/specs/Lists.antt): each element of each block is a byte.
+-- Assumes nothing.
+use Prim.Native.Nat.{ℕ}
+use mathlib.Core.Path.{_≡_, ap, _∙_}
+use mathlib.Core.Bool.{true, false}
+use mathlib.Core.List.{List}
+use lib.ListN.{length}
+use Rattle.field.specs.Field.{beBytes}
+use Rattle.lists.specs.Lists.{member}
+use Rattle.lists.proofs.Members.{In}
+use Rattle.entries.specs.Entries.{entriesOf}
+use Rattle.entries.proofs.PublicationLaws.{length-publication}
+use Rattle.book.specs.Call.{Call, make, read, Listed, done, call, answers, bytesAfter}
+use Rattle.review.specs.Reviewer.{quoteOf, makersOf, levelsOf, parts, reviewedBy, reviewed, freshReview, reviewAnswers, reviewAfter}
+use Rattle.review.specs.Lists.{blocksAreBytes}
+use Rattle.review.specs.Numbers.{numbersOf}
+use Rattle.review.proofs.RunLaws.{answers-agree, reads-agree}
+use Rattle.review.proofs.NumberLaws.{number-known}
+use Rattle.review.proofs.ReportLaws.{number-told, refused-same}
+
+-- the eleven bytes of a symbol that the reviewer holds
+abbrev pub symbolBytes : Listed → List ℕ
+symbolBytes x = beBytes 11 (x .symbol)
+
+-- of memory m, lent for n symbols, and the calls cs after the make
+pub record Agreed (m : List ℕ) (n : ℕ) (cs : List Call) : Type 0 where
+  -- (a) call by call, every answer is the reviewer's: numbers, gaps, line records, counts, codes, flags and reads
+  pub told : answers (call m (make n) .bytes) cs ≡ reviewAnswers (freshReview n) cs
+  -- (b) then, for each symbol that the reviewer holds, a read into a buffer of 96 answers 0 and gives the bytes that the reviewer works out anew
+  pub shown : (x : Listed) → In x (reviewAfter (freshReview n) cs .symbols)
+      → (call (bytesAfter (call m (make n) .bytes) cs) (read (symbolBytes x) 96) .answer .number ≡ 0)
+      × (call (bytesAfter (call m (make n) .bytes) cs) (read (symbolBytes x) 96) .answer .publication ≡ reviewed (reviewAfter (freshReview n) cs .history) (x .symbol))
+
+-- for all memory m and all n for which make answers 0, and all lists of calls, in any order, whose blocks are bytes
+pub demand3 : (m : List ℕ) (n : ℕ) → call m (make n) .answer .number ≡ 0 → (cs : List Call) → blocksAreBytes cs ≡ true → Agreed m n cs
+demand3 m n made cs bytes = record { told = answers-agree m n made cs bytes; shown = reads-agree m n made cs bytes }
+
+-- those bytes are 96
+pub reviewed-length : (h : List (List ℕ)) (s : ℕ) → length (reviewed h s) ≡ 96
+unfolding reviewedBy
+reviewed-length h s = length-publication (entriesOf (quoteOf (parts h) s) (makersOf (parts h) s) (levelsOf (parts h) s))
+
+-- ---- beside it, for any bytes and any call
+
+-- a call that answers neither 0 nor 70 changes no byte at all
+pub refusal-changes-nothing : (b : List ℕ) (c : Call) → done (call b c .answer .number) ≡ false → call b c .bytes ≡ b
+refusal-changes-nothing b c e = refused-same b c e
+
+-- every number is one of document 01's for that call
+pub numbers-known : (b : List ℕ) (c : Call) → member (numbersOf c) (call b c .answer .number) ≡ true
+numbers-known b c = ap (member (numbersOf c)) (number-told b c) ∙ number-known b c

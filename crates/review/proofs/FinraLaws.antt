@@ -1,0 +1,50 @@
+-- The FINRA best depends on the makers only, not on the order of their cells.
+-- Assumes nothing.
+use mathlib.Core.Path.{_≡_, refl, sym, ap, _∙_, fun-ext}
+use mathlib.Core.Bool.{Bool, true, false, cond}
+use mathlib.Core.List.{List}
+use mathlib.Core.Option.{Option, none, some}
+use Prim.Native.Nat.{ℕ}
+use Rattle.lists.specs.Lists.{collect}
+use Rattle.lists.proofs.Tests.{clash}
+use Rattle.lists.proofs.Members.{In, in-collect, collect-in}
+use Rattle.ranking.specs.declared.Side.{Side}
+use Rattle.ranking.specs.declared.Candidate.{Candidate}
+use Rattle.ranking.specs.Ranking.{better}
+use Rattle.ranking.proofs.OrderLaws.{same-best}
+use Rattle.ranking.proofs.RankingLaws.{better-weak, better-tie}
+use Rattle.quote.specs.Quote.{sideOf, counts, candidateOf, levelCandidate}
+use Rattle.entries.specs.Entries.{Maker, makerCandidate, finraBest}
+
+-- a candidate has its maker's name
+candidate-name : (s : Side) (m : Maker) (c : Candidate) → makerCandidate s m ≡ some c → c .name ≡ m .name
+unfolding makerCandidate candidateOf
+candidate-name s m c = go (counts s (m .quote))
+  where
+    go : (t : Bool) → cond t (some (levelCandidate (m .name) (m .quote .condition) (sideOf s (m .quote)))) none ≡ some c → c .name ≡ m .name
+    go true e = ap (λ (o : Option Candidate). elim o [ none ↦ 0 | some x ↦ x .name ]) (sym e)
+    go false e = clash (cc)
+
+-- makers with the same members, no two with one name
+module _ (xs ys : List Maker)
+    (f : (m : Maker) → In m xs → In m ys)
+    (g : (m : Maker) → In m ys → In m xs)
+    (d : (a b : Maker) → In a xs → In b xs → a .name ≡ b .name → a ≡ b)
+  where
+    -- equal candidates are one maker's
+    tie : (s : Side) (a b : Candidate) → In a (collect (makerCandidate s) xs) → In b (collect (makerCandidate s) xs)
+        → better s a b ≡ false → better s b a ≡ false → a ≡ b
+    tie s a b m n e h =
+        let p = in-collect (makerCandidate s) a xs m in
+        let q = in-collect (makerCandidate s) b xs n in
+        let k : p .0 ≡ q .0 = d (p .0) (q .0) (p .1) (q .1) (sym (candidate-name s (p .0) a (p .2)) ∙ better-tie s a b e h ∙ candidate-name s (q .0) b (q .2)) in
+        let z : _≡_ {A = Option Candidate} (some a) (some b) = sym (p .2) ∙ ap (makerCandidate s) k ∙ q .2 in
+        cc
+
+    pub finra-same : finraBest xs ≡ finraBest ys
+    unfolding finraBest
+    finra-same = fun-ext (λ s.
+        same-best (better s) (better-weak s) (collect (makerCandidate s) xs) (collect (makerCandidate s) ys)
+        (λ c m. let r = in-collect (makerCandidate s) c xs m in collect-in (makerCandidate s) (r .0) c ys (f (r .0) (r .1)) (r .2))
+        (λ c m. let r = in-collect (makerCandidate s) c ys m in collect-in (makerCandidate s) (r .0) c xs (g (r .0) (r .1)) (r .2))
+        (tie s))

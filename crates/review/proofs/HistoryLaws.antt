@@ -1,0 +1,195 @@
+-- The reviewer's makers: how one more part alters them, and which they are.
+-- Assumes nothing.
+use Prim.Native.Nat.{ℕ}
+use mathlib.Core.Path.{_≡_, refl, sym, ap, _∙_}
+use mathlib.Core.Bool.{Bool, true, false, _&&_, cond}
+use mathlib.Core.Logic.{inl, inr}
+use mathlib.Core.List.{List, [], _∷_}
+use mathlib.Core.Option.{Option, none, some}
+use lib.Dec.{eqb}
+use lib.ListN.{length}
+use Rattle.lists.specs.Lists.{collect, consOption, mapOption}
+use Rattle.lists.proofs.Tests.{clash, Cut, equal, apart, cut}
+use Rattle.lists.proofs.Members.{In, Distinct, in-collect, collect-in, same-length}
+use Rattle.quote.specs.declared.Quote.{Quote}
+use Rattle.quote.specs.Quote.{emptyQuote, withCondition}
+use Rattle.levels.specs.Levels.{Odd}
+use Rattle.message.specs.Message.{Part, roundPart, oddPart, makerPart, finraPart}
+use Rattle.entries.specs.Entries.{Maker, finraBest}
+use Rattle.entries.specs.Page.{occupied}
+use Rattle.page.specs.Page.{findMaker}
+use Rattle.page.proofs.Model.{standing, marked}
+use Rattle.review.specs.Reviewer.{lastOf, conditionOf, standingQuote, makerOf, elem, insert, namesOf, makersOf}
+use Rattle.review.proofs.CellLaws.{Sole, in-find, find-in, occupied-distinct}
+use Rattle.review.proofs.FinraLaws.{finra-same}
+
+-- ---- one more part
+
+pub maker-maker : (t k : ℕ) (q : Quote) (h : List Part) (s m : ℕ)
+    → makerOf (makerPart t k q ∷ h) s m ≡ cond (eqb t s && eqb k m) (standing m q) (makerOf h s m)
+unfolding makerOf lastOf conditionOf standing withCondition
+maker-maker t k q h s m = go (eqb t s && eqb k m)
+  where
+    go : (b : Bool)
+        → standingQuote m (λ c. cond b c (conditionOf h s m c)) (cond b (some q) (lastOf h s m))
+        ≡ cond b (standing m q) (standingQuote m (conditionOf h s m) (lastOf h s m))
+    go true = refl
+    go false = refl
+
+mark-standing : (m c : ℕ) (d : ℕ → ℕ) (o : Option Quote) → standingQuote m (λ _. c) o ≡ mapOption (marked c) (standingQuote m d o)
+unfolding withCondition
+mark-standing m c d none = refl
+mark-standing m c d (some q) = go (emptyQuote q)
+  where
+    go : (b : Bool)
+        → cond b none (some (record { name = m; quote = withCondition c q }))
+        ≡ mapOption (marked c) (cond b none (some (record { name = m; quote = withCondition (d (q .condition)) q })))
+    go true = refl
+    go false = refl
+
+pub maker-finra : (c : ℕ) (h : List Part) (s m : ℕ) → makerOf (finraPart c ∷ h) s m ≡ mapOption (marked c) (makerOf h s m)
+unfolding makerOf lastOf conditionOf
+maker-finra c h s m = mark-standing m c (conditionOf h s m) (lastOf h s m)
+
+pub maker-round : (t k : ℕ) (q : Quote) (h : List Part) (s m : ℕ) → makerOf (roundPart t k q ∷ h) s m ≡ makerOf h s m
+unfolding makerOf lastOf conditionOf
+maker-round t k q h s m = refl
+
+pub maker-odd : (t k : ℕ) (o : Odd) (h : List Part) (s m : ℕ) → makerOf (oddPart t k o ∷ h) s m ≡ makerOf h s m
+unfolding makerOf lastOf conditionOf
+maker-odd t k o h s m = refl
+
+-- ---- which makers the history has
+
+elem-in : (n : ℕ) (xs : List ℕ) → elem n xs ≡ true → In n xs
+elem-in n [] e = clash (sym e)
+elem-in n (x ∷ xs) e = go (cut x n) (elem-in n xs)
+  where
+    go : Cut x n → (elem n xs ≡ true → In n xs) → In n (x ∷ xs)
+    go (equal t p) down = inl (sym p)
+    go (apart t p) down = inr (down (rw t at e))
+
+in-elem : (n : ℕ) (xs : List ℕ) → In n xs → elem n xs ≡ true
+in-elem n [] m = absurd m
+in-elem n (x ∷ xs) (inl p) = go (cut x n)
+  where
+    go : Cut x n → cond (eqb x n) true (elem n xs) ≡ true
+    go (equal t q) = rw t
+    go (apart t q) = absurd (q (sym p))
+in-elem n (x ∷ xs) (inr m) = go (eqb x n) (in-elem n xs m)
+  where
+    go : (t : Bool) → elem n xs ≡ true → cond t true (elem n xs) ≡ true
+    go true e = refl
+    go false e = e
+
+insert-new : (n : ℕ) (xs : List ℕ) → In n (insert n xs)
+insert-new n xs = go (elem n xs) refl
+  where
+    go : (t : Bool) → elem n xs ≡ t → In n (cond t xs (n ∷ xs))
+    go true e = elem-in n xs e
+    go false e = inl refl
+
+insert-old : (n k : ℕ) (xs : List ℕ) → In k xs → In k (insert n xs)
+insert-old n k xs m = go (elem n xs)
+  where
+    go : (t : Bool) → In k (cond t xs (n ∷ xs))
+    go true = m
+    go false = inr m
+
+insert-distinct : (n : ℕ) (xs : List ℕ) → Distinct (λ (k : ℕ). k) xs → Distinct (λ (k : ℕ). k) (insert n xs)
+insert-distinct n xs d = go (elem n xs) refl
+  where
+    go : (t : Bool) → elem n xs ≡ t → Distinct (λ (k : ℕ). k) (cond t xs (n ∷ xs))
+    go true e = d
+    go false e = (λ y m p. clash (sym (in-elem y xs m) ∙ ap (λ (k : ℕ). elem k xs) p ∙ e), d)
+
+last-named : (h : List Part) (s m : ℕ) (q : Quote) → lastOf h s m ≡ some q → In m (namesOf h s)
+unfolding lastOf namesOf
+last-named [] s m q e = clash (cc)
+last-named (roundPart t k r ∷ h) s m q e = last-named h s m q e
+last-named (oddPart t k o ∷ h) s m q e = last-named h s m q e
+last-named (makerPart t k r ∷ h) s m q e = go (eqb t s) (cut k m) (last-named h s m q) e
+  where
+    go : (b : Bool) → Cut k m → (lastOf h s m ≡ some q → In m (namesOf h s))
+        → cond (b && eqb k m) (some r) (lastOf h s m) ≡ some q
+        → In m (cond b (insert k (namesOf h s)) (namesOf h s))
+    go true (equal u p) down e = rw (sym p) (insert-new k (namesOf h s))
+    go true (apart u p) down e = insert-old k m (namesOf h s) (down (rw u at e))
+    go false c down e = down e
+last-named (finraPart c ∷ h) s m q e = last-named h s m q e
+
+pub names-distinct : (h : List Part) (s : ℕ) → Distinct (λ (k : ℕ). k) (namesOf h s)
+unfolding namesOf
+names-distinct [] s = tt
+names-distinct (roundPart t k r ∷ h) s = names-distinct h s
+names-distinct (oddPart t k o ∷ h) s = names-distinct h s
+names-distinct (makerPart t k r ∷ h) s = go (eqb t s) (names-distinct h s)
+  where
+    go : (b : Bool) → Distinct (λ (k : ℕ). k) (namesOf h s) → Distinct (λ (k : ℕ). k) (cond b (insert k (namesOf h s)) (namesOf h s))
+    go true d = insert-distinct k (namesOf h s) d
+    go false d = d
+names-distinct (finraPart c ∷ h) s = names-distinct h s
+
+-- a maker that stands has its name, and its name is among the history's
+standing-name : (m : ℕ) (c : ℕ → ℕ) (o : Option Quote) (x : Maker) → standingQuote m c o ≡ some x → (x .name ≡ m) × ((q : Quote) × (o ≡ some q))
+standing-name m c none x e = clash (cc)
+standing-name m c (some q) x e = go (emptyQuote q) e
+  where
+    go : (b : Bool) → cond b none (some (record { name = m; quote = withCondition (c (q .condition)) q })) ≡ some x → (x .name ≡ m) × ((r : Quote) × (some q ≡ some r))
+    go true e = clash (cc)
+    go false e = (ap (λ (o : Option Maker). elim o [ none ↦ 0 | some y ↦ y .name ]) (sym e), (q, refl))
+
+pub maker-name : (h : List Part) (s m : ℕ) (x : Maker) → makerOf h s m ≡ some x → x .name ≡ m
+unfolding makerOf
+maker-name h s m x e = standing-name m (conditionOf h s m) (lastOf h s m) x e .0
+
+maker-named : (h : List Part) (s m : ℕ) (x : Maker) → makerOf h s m ≡ some x → In m (namesOf h s)
+unfolding makerOf
+maker-named h s m x e = let r = standing-name m (conditionOf h s m) (lastOf h s m) x e .1 in last-named h s m (r .0) (r .1)
+
+pub in-makers : (h : List Part) (s : ℕ) (x : Maker) → In x (makersOf h s) → makerOf h s (x .name) ≡ some x
+unfolding makersOf
+in-makers h s x m =
+    let r = in-collect (makerOf h s) x (namesOf h s) m in
+    ap (makerOf h s) (maker-name h s (r .0) x (r .2)) ∙ r .2
+
+pub makers-in : (h : List Part) (s m : ℕ) (x : Maker) → makerOf h s m ≡ some x → In x (makersOf h s)
+unfolding makersOf
+makers-in h s m x e = collect-in (makerOf h s) m x (namesOf h s) (maker-named h s m x e) e
+
+-- a collection over distinct names is distinct
+collect-distinct : (f : ℕ → Option Maker) → ((m : ℕ) (x : Maker) → f m ≡ some x → x .name ≡ m) → (xs : List ℕ)
+    → Distinct (λ (k : ℕ). k) xs → Distinct (λ (x : Maker). x .name) (collect f xs)
+collect-distinct f n [] d = tt
+collect-distinct f n (k ∷ ks) d = go (f k) refl (collect-distinct f n ks (d .1))
+  where
+    go : (o : Option Maker) → f k ≡ o → Distinct (λ (x : Maker). x .name) (collect f ks) → Distinct (λ (x : Maker). x .name) (consOption o (collect f ks))
+    go none e r = r
+    go (some x) e r =
+        (λ y m p. let s = in-collect f y ks m in d .0 (s .0) (s .1) (sym (n (s .0) y (s .2)) ∙ p ∙ n k x e), r)
+
+pub makers-distinct : (h : List Part) (s : ℕ) → Distinct (λ (x : Maker). x .name) (makersOf h s)
+unfolding makersOf
+makers-distinct h s = collect-distinct (makerOf h s) (maker-name h s) (namesOf h s) (names-distinct h s)
+
+-- ---- cells in which each name is found as the history has it: as many makers, and the same best
+
+module _ (h : List Part) (s : ℕ) (cs : List (Option Maker)) (sole : Sole cs) (found : (m : ℕ) → findMaker m cs ≡ makerOf h s m) where
+  to : (x : Maker) → In x (occupied cs) → In x (makersOf h s)
+  to x m = makers-in h s (x .name) x (sym (found (x .name)) ∙ in-find x cs sole m)
+
+  from : (x : Maker) → In x (makersOf h s) → In x (occupied cs)
+  from x m = find-in (x .name) x cs (found (x .name) ∙ in-makers h s x m) .0
+
+  pub same-count : length (occupied cs) ≡ length (makersOf h s)
+  same-count = same-length (λ (x : Maker). x .name) (occupied cs) (makersOf h s) (occupied-distinct cs sole) (makers-distinct h s) to from
+
+  one-name : (a b : Maker) → In a (occupied cs) → In b (occupied cs) → a .name ≡ b .name → a ≡ b
+  one-name a b m n p =
+      let e : findMaker (a .name) cs ≡ some a = in-find a cs sole m in
+      let f : findMaker (b .name) cs ≡ some b = in-find b cs sole n in
+      let g : findMaker (a .name) cs ≡ findMaker (b .name) cs = ap (λ (k : ℕ). findMaker k cs) p in
+      cc
+
+  pub same-finra : finraBest (occupied cs) ≡ finraBest (makersOf h s)
+  same-finra = finra-same (occupied cs) (makersOf h s) to from one-name

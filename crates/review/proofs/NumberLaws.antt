@@ -1,0 +1,195 @@
+-- Every number is one of document 01's, and every code; on any bytes.
+-- Assumes nothing.
+use Prim.Native.Nat.{ℕ}
+use mathlib.Core.Path.{_≡_, refl, sym, ap, _∙_}
+use mathlib.Core.Bool.{Bool, true, false, not, _&&_, cond}
+use mathlib.Core.List.{List, [], _∷_, _++_}
+use mathlib.Core.Option.{Option, none, some}
+use lib.Dec.{ltb, leb, eqb}
+use lib.ListN.{length}
+use Rattle.field.specs.Field.{be, part, field}
+use Rattle.lists.specs.Lists.{at, member, isSome}
+use Rattle.quote.specs.declared.Quote.{Quote}
+use Rattle.levels.specs.declared.Item.{Item}
+use Rattle.levels.specs.Levels.{Standing, Odd, oddOn, itemsBad, oddBad, fifth, oddCode}
+use Rattle.message.specs.Form.{symbolGood, makerGood, letterGood}
+use Rattle.message.specs.declared.Kind.{Kind}
+use Rattle.message.specs.declared.Kind.the-variants as kind
+use Rattle.message.specs.declared.Message.{Message}
+use Rattle.message.specs.declared.Message.the-variants as says
+use Rattle.message.specs.Message.{kindOf, quoteAt, makerName, roundLotOdd, oddLotOdd, oddOf, oddLength, sideBad, roundConditions, makerConditions, priceFault, quoteFault, isD, testBytes, readInquiry, readTest, readFinra, readRoundLot, readOddLot, readMaker, readBy, isUnknown, messageOf, Known, makerCode, codeBy, codeOf}
+use Rattle.block.specs.Block.{countIn, sequenceIn, checksumOf, lengthGood, tableGood, controlAmong, checked, idleBlock}
+use Rattle.block.specs.Sequence.{gapOf, nextOf, arrivalOf}
+use Rattle.block.specs.declared.Checked.{Checked}
+use Rattle.block.specs.declared.Checked.the-variants as checks
+use Rattle.block.specs.declared.Arrival.{Arrival}
+use Rattle.block.specs.declared.Arrival.the-variants.{Taken, Duplicate}
+use Rattle.book.specs.declared.Line.{Line}
+use Rattle.book.specs.Opening.{sound, linesIn, Rest, restIn, pagesIn}
+use Rattle.book.specs.Call.{Call, make, add, openLine, startDay, endDay, take, read, Listed, isListed, listedOf, lots, arrivalNumberOf, lineNumber, checkedNumberOf, blockNumber, onLine, numberOf, makeGood, isMake, numberOn}
+use Rattle.review.specs.Numbers.{numbersOf, codes}
+
+-- a number is in a table
+pub data Among (table : List ℕ) : ℕ → Type 0 where
+  among : {x : ℕ} → member table x ≡ true → Among table x
+
+is-among : {table : List ℕ} {x : ℕ} → Among table x → member table x ≡ true
+is-among (among a) = a
+
+-- of two numbers in a table, either is
+either : {table : List ℕ} {x y : ℕ} (t : Bool) → Among table x → Among table y → Among table (cond t x y)
+either true a b = a
+either false a b = b
+
+-- ---- codes
+
+in-codes : (k : ℕ) → member codes k ≡ true → Among codes k
+in-codes k e = among e
+
+items-known : (lot : ℕ) (is : List Item) → Among codes (itemsBad lot is)
+unfolding itemsBad member
+items-known lot [] = in-codes 0 refl
+items-known lot (i ∷ is) = either (eqb (i .price) 0) (in-codes 62 refl) (either (leb lot (i .shares)) (in-codes 63 refl) (items-known lot is))
+
+odd-known : (lot : ℕ) (v : Standing) (o : Odd) → Among codes (oddCode lot v o)
+unfolding oddCode oddBad member
+odd-known lot v o = either (eqb (oddBad lot o) 0) (fifth-known (oddOn o v)) bad
+  where
+    fifth-known : (w : Option Standing) → Among codes (fifth w)
+    fifth-known none = in-codes 64 refl
+    fifth-known (some w) = in-codes 0 refl
+
+    bad : Among codes (oddBad lot o)
+    bad =
+        either (member (32 ∷ 66 ∷ 83 ∷ 88 ∷ []) (o .mark))
+        (either (leb (length (o .bids)) 4 && leb (length (o .offers)) 4) (items-known lot (o .bids ++ o .offers)) (in-codes 61 refl)) (in-codes 60 refl)
+
+fault-known : (table : List ℕ) (q : Quote) (rest : ℕ) → Among codes rest → Among codes (quoteFault table q rest)
+unfolding quoteFault priceFault member
+fault-known table q rest r =
+    either (member table (q .condition)) (either (sideBad (q .bid)) (in-codes 47 refl) (either (sideBad (q .offer)) (in-codes 47 refl) r)) (in-codes 46 refl)
+
+module _ (e : Known) (letter : ℕ) (m : List ℕ) where
+  data Coded : Message → Type 0 where
+    coded : {x : Message} → Among codes (codeBy e letter m x) → Coded x
+
+  code-of : {x : Message} → Coded x → Among codes (codeBy e letter m x)
+  code-of (coded a) = a
+
+  one : {x y : Message} (t : Bool) → Coded x → Coded y → Coded (cond t x y)
+  one true a b = a
+  one false a b = b
+
+  refuse : (k : ℕ) → member codes k ≡ true → Coded (says.Refused k)
+  refuse k a = coded (in-codes k a)
+
+  -- 42, 43, then what follows
+  form : {x : Message} (s t : Bool) → Coded x → Coded (cond s (cond t x (says.Refused 43)) (says.Refused 42))
+  unfolding member
+  form s t a = one s (one t a (refuse 43 refl)) (refuse 42 refl)
+
+  -- 45, then the fault, then what follows
+  faulted : {f x : ℕ} → Among codes f → Among codes x → Among codes (cond (e .listed) (cond (eqb f 0) x f) 45)
+  unfolding member
+  faulted {f} a b = either (e .listed) (either (eqb f 0) b a) (in-codes 45 refl)
+
+  room-known : (name : ℕ) → Among codes (makerCode e name)
+  unfolding makerCode member
+  room-known name = either (e .stands name) (in-codes 0 refl) (either (ltb (e .count) 16) (in-codes 0 refl) (in-codes 49 refl))
+
+  read-known : (k : Kind) → Coded (readBy letter m k)
+  unfolding readInquiry readTest readFinra readRoundLot readOddLot readMaker member
+  read-known kind.Inquiry = form (eqb (length m) 20) (eqb (at m 3) 0) (coded (in-codes 0 refl))
+  read-known kind.Close = form (eqb (length m) 20) (eqb (at m 3) 0) (one (isD letter) (coded (in-codes 0 refl)) (refuse 44 refl))
+  read-known kind.Open = form (eqb (length m) 20) (eqb (at m 3) 0) (one (isD letter) (coded (in-codes 0 refl)) (refuse 44 refl))
+  read-known kind.Test = form (eqb (length m) 115) (eqb (at m 3) 0 && testBytes m) (coded (in-codes 0 refl))
+  read-known kind.RoundLot =
+      form (eqb (length m) (oddLength (roundLotOdd m))) (eqb (at m 3) 0 && eqb (at m 59) 0)
+      (one (isD letter) (refuse 44 refl)
+      (one (symbolGood (part m 20 11))
+      (coded (faulted (fault-known roundConditions (quoteAt m) 0 (in-codes 0 refl)) (odd-known (e .lot) (e .levels letter) (oddOf m (roundLotOdd m)))))
+      (refuse 45 refl)))
+  read-known kind.OddLot =
+      form (eqb (length m) (oddLength (oddLotOdd m))) (eqb (at m 3) 0 && (eqb (at m 34) 0 && eqb (at m 35) 0))
+      (one (isD letter) (refuse 44 refl)
+      (one (symbolGood (part m 20 11)) (coded (either (e .listed) (odd-known (e .lot) (e .levels letter) (oddOf m (oddLotOdd m))) (in-codes 45 refl))) (refuse 45 refl)))
+  read-known kind.Maker =
+      form (eqb (length m) 60) (eqb (at m 3) 0)
+      (one (isD letter)
+      (one (symbolGood (part m 20 11))
+      (coded (faulted (fault-known makerConditions (quoteAt m) _ (either (makerGood (part m 56 4)) (in-codes 0 refl) (in-codes 48 refl))) (room-known (makerName m))))
+      (refuse 45 refl))
+      (refuse 44 refl))
+  read-known kind.Unknown = refuse 40 refl
+
+  -- the code of a message is one of document 01's
+  pub code-known : member codes (codeOf e letter m) ≡ true
+  unfolding codeOf messageOf member
+  code-known = is-among (code-of (one (isUnknown (kindOf m)) (refuse 40 refl) (one (eqb (at m 2) letter) (read-known (kindOf m)) (refuse 41 refl))))
+
+-- ---- numbers
+
+module _ (i : ℕ) (b : List ℕ) (room : ℕ) where
+  abbrev InTake : ℕ → Type 0
+  InTake k = Among (numbersOf (take i b room)) k
+
+  arrival-known : (a : Arrival) → InTake (arrivalNumberOf a)
+  unfolding member
+  arrival-known (Taken gap next) = either (eqb gap 0) (among refl) (among refl)
+  arrival-known Duplicate = among refl
+
+  line-known : (r : Line) (day : Bool) → InTake (lineNumber r day b)
+  unfolding lineNumber member
+  line-known r day = either (idleBlock b) (among refl) (either day (arrival-known (arrivalOf (sequenceIn b) (r .expected) (countIn b))) (among refl))
+
+  -- 30 to 34, each where its check refuses
+  check : (r : Line) (day : Bool) (t : Bool) (x : Checked) (k : ℕ) → InTake k → InTake (checkedNumberOf r day b x) → InTake (checkedNumberOf r day b (cond t x (checks.Refused k)))
+  check r day true x k a c = c
+  check r day false x k a c = a
+
+  block-known : (r : Line) (day : Bool) → InTake (blockNumber r day b)
+  unfolding blockNumber checked member
+  block-known r day =
+      check r day (lengthGood b) _ 30 (among refl)
+      (check r day (eqb (at b 0) 1) _ 31 (among refl)
+      (check r day (eqb (checksumOf b) (field b 8 2)) _ 32 (among refl) (check r day (tableGood b) _ 33 (among refl) (alone (controlAmong b)))))
+    where
+      alone : (t : Bool) → InTake (checkedNumberOf r day b (cond t (checks.Refused 34) (checks.Pass (countIn b))))
+      alone true = among refl
+      alone false = line-known r day
+
+  on-known : (day : Bool) (o : Option Line) → InTake (onLine day b o)
+  unfolding member
+  on-known day none = among refl
+  on-known day (some r) = block-known r day
+
+number-of : (r : Rest) (ls : List Listed) (c : Call) → Among (numbersOf c) (numberOf r ls c)
+unfolding numberOf member
+number-of r ls (make n) = either (eqb n (r .n)) (among refl) (among refl)
+number-of r ls (add s k) =
+    either (symbolGood s)
+    (either (member lots k) (either (isListed (be s) ls) (among refl) (either (ltb (length ls) (r .n)) (among refl) (among refl))) (among refl))
+    (among refl)
+number-of r ls (openLine i l) = either (ltb i 64 && letterGood l) (either (isSome (r .lines i)) (among refl) (among refl)) (among refl)
+number-of r ls startDay = either (r .day) (among refl) (among refl)
+number-of r ls endDay = either (r .day) (among refl) (among refl)
+number-of r ls (take i b room) = either (ltb room 180) (among refl) (on-known i b room (r .day) (r .lines i))
+number-of r ls (read s room) = either (ltb room 96) (among refl) (either (symbolGood s && isListed (be s) ls) (among refl) (among refl))
+
+sounded : (b : List ℕ) (c : Call) → isMake c ≡ false → member (numbersOf c) 1 ≡ true → Among (numbersOf c) (numberOn b c)
+unfolding numberOn
+sounded b c m e = rw m (either (sound b) (number-of (restIn b) (listedOf (pagesIn b)) c) (among e))
+
+known-of : (b : List ℕ) (c : Call) → Among (numbersOf c) (numberOn b c)
+unfolding numberOn member
+known-of b (make n) = either (makeGood b n) (among refl) (among refl)
+known-of b (add s k) = sounded b (add s k) refl refl
+known-of b (openLine i l) = sounded b (openLine i l) refl refl
+known-of b startDay = sounded b startDay refl refl
+known-of b endDay = sounded b endDay refl refl
+known-of b (take i x room) = sounded b (take i x room) refl refl
+known-of b (read s room) = sounded b (read s room) refl refl
+
+-- the number of a call is one of document 01's, on any bytes
+pub number-known : (b : List ℕ) (c : Call) → member (numbersOf c) (numberOn b c) ≡ true
+number-known b c = is-among (known-of b c)

@@ -1,0 +1,131 @@
+-- What every answer of the book satisfies, on any bytes: its number is the call's; a refusal changes no byte and fills nothing; when make answers 0.
+-- Assumes nothing.
+use Prim.Native.Nat.{ℕ, _≤_}
+use mathlib.Core.Path.{_≡_, refl, sym, ap, _∙_}
+use mathlib.Core.Bool.{Bool, true, false, _&&_, cond}
+use mathlib.Core.List.{List, [], _∷_}
+use mathlib.Core.Option.{Option, none, some}
+use native.Mathlib.Omega.{arith}
+use lib.Dec.{leb, eqb}
+use lib.ListN.{length}
+use borrow.Author.Tests.{leb-true, eqb-true, le-leb, eq-eqb}
+use Rattle.levels.specs.Levels.{Standing, Odd, oddOn, fifth, oddCode}
+use Rattle.block.specs.Block.{messagesOf}
+use Rattle.book.specs.declared.Line.{Line}
+use Rattle.book.specs.Opening.{bookLength, sound, Rest, restIn}
+use Rattle.book.specs.Call.{Call, make, add, openLine, startDay, endDay, take, read, done, Told, Answer, bare, quads, report, gapTold, advanced, lineAnswer, letterOf, answerOf, toldOn, publishedOn, makeGood, isMake, numberOn, call}
+use Rattle.review.proofs.FitLaws.{odd-zero}
+
+-- ---- the number
+
+module _ (r : Rest) (ts : ℕ → List (List ℕ) → List Told) (p : ℕ → List ℕ) (k : ℕ) where
+  line-number : (b : List ℕ) (us : List Told) (o : Option Line) → lineAnswer k b us o .number ≡ k
+  line-number b us none = refl
+  line-number b us (some x) = go (done k)
+    where
+      go : (t : Bool) → (cond {A = Answer} t (report k (gapTold x b) (advanced x b) us) (report k 0 x [])) .number ≡ k
+      go true = refl
+      go false = refl
+
+  answer-number : (c : Call) → answerOf r ts p k c .number ≡ k
+  unfolding answerOf
+  answer-number (make n) = refl
+  answer-number (add s l) = refl
+  answer-number (openLine i l) = refl
+  answer-number startDay = refl
+  answer-number endDay = refl
+  answer-number (take i b room) = go (eqb k 9)
+    where
+      go : (t : Bool) → (cond {A = Answer} t (bare k) (lineAnswer k b (ts (letterOf (r .lines i)) (messagesOf b)) (r .lines i))) .number ≡ k
+      go true = refl
+      go false = line-number b (ts (letterOf (r .lines i)) (messagesOf b)) (r .lines i)
+  answer-number (read s room) = refl
+
+number-other : (b : List ℕ) (c : Call) → isMake c ≡ false
+    → (cond {A = Answer} (sound b) (answerOf (restIn b) (toldOn b) (publishedOn b) (numberOn b c) c) (bare 1)) .number ≡ numberOn b c
+unfolding numberOn
+number-other b c m = go (sound b) refl
+  where
+    go : (t : Bool) → sound b ≡ t → (cond {A = Answer} t (answerOf (restIn b) (toldOn b) (publishedOn b) (numberOn b c) c) (bare 1)) .number ≡ numberOn b c
+    go true e = answer-number (restIn b) (toldOn b) (publishedOn b) (numberOn b c) c
+    go false e = rw (m, e)
+
+-- the number that a call answers
+pub number-told : (b : List ℕ) (c : Call) → call b c .answer .number ≡ numberOn b c
+unfolding call
+number-told b (make n) = refl
+number-told b (add s k) = number-other b (add s k) refl
+number-told b (openLine i l) = number-other b (openLine i l) refl
+number-told b startDay = number-other b startDay refl
+number-told b endDay = number-other b endDay refl
+number-told b (take i x room) = number-other b (take i x room) refl
+number-told b (read s room) = number-other b (read s room) refl
+
+-- ---- refusals
+
+-- a call that answers neither 0 nor 70 changes no byte at all
+pub refused-same : (b : List ℕ) (c : Call) → done (call b c .answer .number) ≡ false → call b c .bytes ≡ b
+unfolding call
+refused-same b c e = let d : done (numberOn b c) ≡ false = sym (ap done (number-told b c)) ∙ e in rw d
+
+abbrev Fills : Answer → Type 0
+Fills a = (a .answers ≡ []) × (a .publication ≡ [])
+
+line-empty : (k : ℕ) (b : List ℕ) (ts : List Told) (o : Option Line) → done k ≡ false → Fills (lineAnswer k b ts o)
+unfolding quads
+line-empty k b ts none e = (refl, refl)
+line-empty k b ts (some r) e = rw e (refl, refl)
+
+answer-empty : (r : Rest) (ts : ℕ → List (List ℕ) → List Told) (p : ℕ → List ℕ) (k : ℕ) (c : Call) → done k ≡ false → Fills (answerOf r ts p k c)
+unfolding answerOf
+answer-empty r ts p k (make n) e = (refl, refl)
+answer-empty r ts p k (add s l) e = (refl, refl)
+answer-empty r ts p k (openLine i l) e = (refl, refl)
+answer-empty r ts p k startDay e = (refl, refl)
+answer-empty r ts p k endDay e = (refl, refl)
+answer-empty r ts p k (take i b room) e = go (eqb k 9)
+  where
+    go : (t : Bool) → Fills (cond {A = Answer} t (bare k) (lineAnswer k b (ts (letterOf (r .lines i)) (messagesOf b)) (r .lines i)))
+    go true = (refl, refl)
+    go false = line-empty k b (ts (letterOf (r .lines i)) (messagesOf b)) (r .lines i) e
+answer-empty r ts p k (read s room) e = (refl, rw e)
+
+-- and fills nothing: neither the answer buffer nor the publication buffer
+pub refused-empty : (b : List ℕ) (c : Call) → done (call b c .answer .number) ≡ false → (call b c .answer .answers ≡ []) × (call b c .answer .publication ≡ [])
+unfolding call
+refused-empty b c e = go (isMake c) (sound b)
+  where
+    d : done (numberOn b c) ≡ false
+    d = sym (ap done (number-told b c)) ∙ e
+
+    go : (m s : Bool) → Fills (cond {A = Answer} m (bare (numberOn b c)) (cond {A = Answer} s (answerOf (restIn b) (toldOn b) (publishedOn b) (numberOn b c) c) (bare 1)))
+    go true s = (refl, refl)
+    go false true = answer-empty (restIn b) (toldOn b) (publishedOn b) (numberOn b c) c d
+    go false false = (refl, refl)
+
+-- ---- make
+
+-- make answers 0 exactly if n is 1 to 64 and the length is right
+pub made-exactly : (m : List ℕ) (n : ℕ) → 1 ≤ n → n ≤ 64 → length m ≡ bookLength n → call m (make n) .answer .number ≡ 0
+unfolding call numberOn makeGood
+made-exactly m n low up l = rw (le-leb 1 n low, le-leb n 64 up, eq-eqb (length m) (bookLength n) l)
+
+pub made-only : (m : List ℕ) (n : ℕ) → call m (make n) .answer .number ≡ 0 → (1 ≤ n) × (n ≤ 64) × (length m ≡ bookLength n)
+unfolding call numberOn makeGood
+made-only m n = go (leb 1 n) refl (leb n 64) refl (eqb (length m) (bookLength n)) refl
+  where
+    go : (a : Bool) → leb 1 n ≡ a → (b : Bool) → leb n 64 ≡ b → (c : Bool) → eqb (length m) (bookLength n) ≡ c
+        → _≡_ {A = ℕ} (cond (a && (b && c)) 0 2) 0 → (1 ≤ n) × (n ≤ 64) × (length m ≡ bookLength n)
+    go true x true y true z e = (leb-true 1 n x, leb-true n 64 y, eqb-true (length m) (bookLength n) z)
+    go true x true y false z e = absurd (omega arith)
+    go true x false y c z e = absurd (omega arith)
+    go false x b y c z e = absurd (omega arith)
+
+-- ---- an odd part with code 0 is one that the levels take
+
+pub odd-levels : (lot : ℕ) (v : Standing) (o : Odd) → oddCode lot v o ≡ 0 → (w : Standing) × (oddOn o v ≡ some w)
+odd-levels lot v o e = go (oddOn o v) refl
+  where
+    go : (w : Option Standing) → oddOn o v ≡ w → (u : Standing) × (oddOn o v ≡ some u)
+    go none q = absurd (let z : _≡_ {A = ℕ} 64 0 = sym (ap fifth q) ∙ odd-zero lot v o e .1 in omega arith)
+    go (some w) q = (w, q)

@@ -1,0 +1,188 @@
+-- What the tables of cases are written with: blocks and messages byte by byte, and answers as lists of numbers.
+-- Assumes nothing.
+use Prim.Native.Nat.{ℕ, _+_, _*_, _%_}
+use mathlib.Core.Path.{_≡_}
+use mathlib.Core.List.{List, [], _∷_, _++_}
+use lib.ListN.{length, replicate}
+use Rattle.field.specs.Field.{beBytes}
+use Rattle.field.specs.Field as Field
+use Rattle.lists.specs.Lists as Lists
+use Rattle.ranking.specs.Ranking as Ranking
+use Rattle.quote.specs.Quote as Quote
+use Rattle.levels.specs.Levels as Levels
+use Rattle.entries.specs.Entries as Entries
+use Rattle.entries.specs.Publication as Publication
+use Rattle.message.specs.Form as Form
+use Rattle.message.specs.Message as Message
+use Rattle.block.specs.Block as Block
+use Rattle.block.specs.Sequence as Sequence
+use Rattle.book.specs.Call as Call
+use Rattle.book.specs.Call.{Call, add, openLine, startDay, take, read, Answer}
+use Rattle.review.specs.Reviewer as Reviewer
+use Rattle.review.specs.Reviewer.{freshReview, reviewAnswers}
+
+-- ---- messages
+
+abbrev pub header : ℕ → ℕ → ℕ → ℕ → List ℕ
+header category type letter time = category ∷ type ∷ letter ∷ 0 ∷ (beBytes 8 time ++ beBytes 8 0)
+
+-- Q K and Q U to byte 55: condition, then price and size of the bid and of the offer
+abbrev pub quoted : List ℕ → ℕ → ℕ → ℕ → ℕ → ℕ → List ℕ
+quoted symbol condition bid bids offer offers = symbol ++ (condition ∷ (beBytes 8 bid ++ (beBytes 4 bids ++ (beBytes 8 offer ++ beBytes 4 offers))))
+
+-- price and shares
+abbrev pub item : ℕ → ℕ → List ℕ
+item price shares = beBytes 8 price ++ beBytes 4 shares
+
+-- clear mark, counts, zero bytes, items
+abbrev pub odds : ℕ → ℕ → ℕ → List ℕ → List ℕ → List ℕ
+odds mark bids offers zeros items = mark ∷ bids ∷ offers ∷ (zeros ++ items)
+
+abbrev pub roundLot : ℕ → ℕ → List ℕ → List ℕ → List ℕ
+roundLot letter time quote odd = header 81 75 letter time ++ (quote ++ odd)
+
+abbrev pub oddLot : ℕ → ℕ → List ℕ → List ℕ → List ℕ
+oddLot letter time symbol odd = header 81 77 letter time ++ (symbol ++ odd)
+
+abbrev pub maker : ℕ → ℕ → List ℕ → List ℕ → List ℕ
+maker letter time quote name = header 81 85 letter time ++ (quote ++ name)
+
+abbrev pub control : ℕ → ℕ → List ℕ
+control type letter = header 67 type letter 0
+
+-- ---- blocks
+
+abbrev pub offsets : ℕ → List (List ℕ) → List ℕ
+offsets i [] = []
+offsets i (m ∷ ms) = beBytes 2 i ++ offsets (i + length m) ms
+
+abbrev pub joined : List (List ℕ) → List ℕ
+joined [] = []
+joined (m ∷ ms) = m ++ joined ms
+
+abbrev pub total : List ℕ → ℕ
+total [] = 0
+total (x ∷ xs) = x + total xs
+
+-- version 1, c messages, a length, a sequence number, a checksum, then the rest
+abbrev pub framed : ℕ → ℕ → ℕ → ℕ → List ℕ → List ℕ
+framed c n sequence sum rest = 1 ∷ c ∷ (beBytes 2 n ++ (beBytes 4 sequence ++ (beBytes 2 sum ++ rest)))
+
+abbrev pub sealed : ℕ → ℕ → List ℕ → List ℕ
+sealed c sequence rest = framed c (10 + length rest) sequence (total (framed c (10 + length rest) sequence 0 rest) % 65536) rest
+
+abbrev pub block : ℕ → List (List ℕ) → List ℕ
+block sequence ms = sealed (length ms) sequence (offsets (10 + 2 * length ms) ms ++ joined ms)
+
+-- ---- answers: the report's seven numbers, then the bytes that are filled
+
+abbrev pub told : Answer → List ℕ
+told a = a .number ∷ a .gap ∷ a .expected ∷ a .count ∷ a .accepted ∷ a .partly ∷ a .rejected ∷ (a .answers ++ a .publication)
+
+abbrev pub allTold : List Answer → List (List ℕ)
+allTold [] = []
+allTold (a ∷ rest) = told a ∷ allTold rest
+
+-- a number, and 0 for all else
+abbrev pub only : ℕ → List ℕ
+only k = k ∷ replicate 6 0
+
+-- a block that is refused: its number, the line's next expected number and count
+abbrev pub refused : ℕ → ℕ → ℕ → List ℕ
+refused k expected count = k ∷ 0 ∷ expected ∷ count ∷ 0 ∷ 0 ∷ 0 ∷ []
+
+-- a block in order with one message: next expected number, count, then the message's code and flags
+abbrev pub accepted : ℕ → ℕ → ℕ → List ℕ
+accepted expected count flags = 0 ∷ 0 ∷ expected ∷ count ∷ 1 ∷ 0 ∷ 0 ∷ 0 ∷ 0 ∷ flags ∷ 0 ∷ []
+
+abbrev pub partly : ℕ → ℕ → ℕ → ℕ → List ℕ
+partly expected count code flags = 0 ∷ 0 ∷ expected ∷ count ∷ 0 ∷ 1 ∷ 0 ∷ 0 ∷ code ∷ flags ∷ 0 ∷ []
+
+abbrev pub rejected : ℕ → ℕ → ℕ → List ℕ
+rejected expected count code = 0 ∷ 0 ∷ expected ∷ count ∷ 0 ∷ 0 ∷ 1 ∷ 0 ∷ code ∷ 0 ∷ 0 ∷ []
+
+-- ---- a publication: six entries of a name of 4 bytes, a price and a size
+
+abbrev pub entry : ℕ → ℕ → ℕ → ℕ → ℕ → ℕ → List ℕ
+entry a b c d price size = a ∷ b ∷ c ∷ d ∷ (beBytes 8 price ++ beBytes 4 size)
+
+-- a letter and its condition; a letter alone
+abbrev pub national : ℕ → ℕ → ℕ → ℕ → List ℕ
+national letter condition price size = entry letter condition 32 32 price size
+
+abbrev pub odd : ℕ → ℕ → ℕ → List ℕ
+odd letter price size = entry letter 32 32 32 price size
+
+abbrev pub nothing : List ℕ
+nothing = 32 ∷ 32 ∷ 32 ∷ 32 ∷ replicate 12 0
+
+abbrev pub shown : List ℕ → List ℕ → List ℕ → List ℕ → List ℕ → List ℕ → List ℕ
+shown nbid noffer fbid foffer obid ooffer = replicate 7 0 ++ (nbid ++ (noffer ++ (fbid ++ (foffer ++ (obid ++ ooffer)))))
+
+-- ---- a day
+
+-- ZT and nine spaces
+abbrev pub zt : List ℕ
+zt = 90 ∷ 84 ∷ replicate 9 32
+
+-- a Q K of ZT by a letter at a time: a condition, bid and offer, an odd part
+abbrev pub roundOf : ℕ → ℕ → ℕ → ℕ → ℕ → ℕ → ℕ → List ℕ → List ℕ
+roundOf letter time condition bid bids offer offers odd = roundLot letter time (quoted zt condition bid bids offer offers) odd
+
+abbrev pub noOdd : List ℕ
+noOdd = odds 32 0 0 (0 ∷ []) []
+
+-- bid 10.00 for so many lots, offer 10.02 for 2, condition R
+abbrev pub plain : ℕ → ℕ → ℕ → List ℕ → List ℕ
+plain letter time lots odd = roundOf letter time 82 10000000 lots 10020000 2 odd
+
+-- a message of an unknown type, code 40
+abbrev pub unknown : List ℕ
+unknown = header 81 63 78 0
+
+-- ZT with a round lot of 100, line 5 for N, 6 for P, 7 for D, the day open
+abbrev pub day : List Call → List Call
+day cs = add zt 100 ∷ openLine 5 78 ∷ openLine 6 80 ∷ openLine 7 68 ∷ startDay ∷ cs
+
+abbrev pub begun : List (List ℕ) → List (List ℕ)
+begun rows = only 0 ∷ only 0 ∷ only 0 ∷ only 0 ∷ only 0 ∷ rows
+
+-- a block on N's, P's or D's line, a sequence number, its messages
+abbrev pub onN : ℕ → List (List ℕ) → Call
+onN sequence ms = take 5 (block sequence ms) 180
+
+abbrev pub onP : ℕ → List (List ℕ) → Call
+onP sequence ms = take 6 (block sequence ms) 180
+
+abbrev pub onD : ℕ → List (List ℕ) → Call
+onD sequence ms = take 7 (block sequence ms) 180
+
+abbrev pub look : Call
+look = read zt 96
+
+-- ---- rows
+
+-- a book of n symbols, the calls after its make, and what each is answered
+pub record Row : Type 0 where
+  pub n : ℕ
+  pub calls : List Call
+  pub answers : List (List ℕ)
+
+-- calls on a day that is open, and what they are answered
+abbrev pub inDay : List Call → List (List ℕ) → Row
+inDay cs told = record { n = 1; calls = day cs; answers = begun told }
+
+-- calls right after the make of a book of n symbols
+abbrev pub fromMake : ℕ → List Call → List (List ℕ) → Row
+fromMake n cs told = record { n = n; calls = cs; answers = told }
+
+-- what the reviewer answers, worked out by the definitions named here
+unfoldable pub answered : ℕ → List Call → List (List ℕ)
+unfolding Field.be Field.beBytes Field.part Field.field Lists.sum Lists.member Lists.every Lists.all Ranking.lex Ranking.low Ranking.high Ranking.byPrice Ranking.better Quote.admits Quote.counts Quote.emptyQuote Quote.withCondition Quote.candidateOf Levels.without Levels.insert Levels.itemOn Levels.itemsOn Levels.clearedBy Levels.oddOn Levels.itemsBad Levels.oddBad Levels.oddCode Levels.itemAt Levels.itemsFrom Levels.oddIn Entries.letters Entries.makerCandidate Entries.finraBest Entries.asD Entries.letterCandidate Entries.nationalBest Entries.oddCandidate Entries.letterLevels Entries.oddBest Entries.entriesBy Entries.entriesOf Publication.noEntry Publication.publication Publication.changeFlags Form.padded Form.symbolGood Form.makerGood Message.controlKind Message.quoteKind Message.kindOf Message.timeOf Message.symbolOf Message.levelAt Message.quoteAt Message.makerName Message.oddAt Message.priceFault Message.quoteFault Message.readInquiry Message.testBytes Message.readTest Message.readFinra Message.readRoundLot Message.readOddLot Message.readMaker Message.messageOf Message.makerCode Message.codeOf Message.partlyTaken Block.checksumOf Block.startAt Block.messageAt Block.messagesFrom Block.messagesOf Block.lengthGood Block.spaced Block.tableGood Block.controlAmong Block.checked Block.idleBlock Sequence.gapOf Sequence.nextOf Sequence.arrivalOf Call.isListed Call.lotOf Call.lineNumber Call.blockNumber Call.numberOf Call.done Call.quads Call.tally Call.gapTold Call.advanced Call.answerOf Call.flagsOf Reviewer.parts Reviewer.quoteOf Reviewer.lastOf Reviewer.conditionOf Reviewer.makerOf Reviewer.namesOf Reviewer.makersOf Reviewer.levelsOf Reviewer.reviewedBy Reviewer.knownTo Reviewer.restAfter Reviewer.symbolsAfter Reviewer.historyAfter Reviewer.reviewCall Reviewer.reviewAnswer
+answered n cs = allTold (reviewAnswers (freshReview n) cs)
+
+-- every row is answered as it says
+infixr 5 _▹_
+pub data Answered : List Row → Type 0 where
+  end : Answered []
+  _▹_ : {r : Row} {rs : List Row} → answered (r .n) (r .calls) ≡ r .answers → Answered rs → Answered (r ∷ rs)

@@ -1,0 +1,197 @@
+-- The messages of a block, on readings: they stay as the history has them, and codes and flags are the reviewer's.
+-- Assumes nothing.
+use Prim.Native.Nat.{ℕ, _+_, _≤_, _<_}
+use mathlib.Core.Path.{_≡_, refl, sym, ap, _∙_}
+use mathlib.Core.Bool.{Bool, true, false, cond}
+use mathlib.Core.Logic.{_⊎_, inl, inr}
+use mathlib.Core.List.{List, [], _∷_}
+use mathlib.Core.Option.{Option, none, some}
+use native.Mathlib.Omega.{arith}
+use lib.Dec.{ltb, eqb}
+use lib.ListN.{length}
+use borrow.Author.Tests.{ltb-true, ne-eqb}
+use Rattle.lists.specs.Lists.{isSome}
+use Rattle.lists.proofs.Tests.{clash, Cut, equal, apart, cut}
+use Rattle.message.specs.declared.Kind.{Kind}
+use Rattle.message.specs.declared.Kind.the-variants as kind
+use Rattle.message.specs.Message.{kindOf, symbolOf, makerName, oddAt, Known, makerCode, codeOf, Part, roundPart, oddPart, makerPart, finraPart, roundOf, wholeBy, partlyTaken, partsOf}
+use Rattle.entries.specs.Page.{occupied}
+use Rattle.page.specs.Page.{Reading, findMaker, knownBy, knownOf}
+use Rattle.page.proofs.Model.{partReading}
+use Rattle.book.specs.Call.{Listed, isListed, findReading, listedOf, Told, flagsOf, publications}
+use Rattle.review.specs.Reviewer.{parts, kept, reviewed, codeR, messageR, messagesR, entriesR, toldR}
+use Rattle.review.proofs.CellLaws.{Room}
+use Rattle.review.proofs.SilentLaws.{names}
+use Rattle.review.proofs.Agree.{Good, good-reviewed, AllGood, Core, ReadingOf, missing, found, reading-of, known-same}
+use Rattle.review.proofs.PartLaws.{RoomFor, cellsIn, core-part, part-listed}
+use Rattle.review.proofs.CodeLaws.{Takes, takes-whole, takes-partly, RoundTaken, round-taken, OddTaken, odd-taken, MakerTaken, maker-taken}
+use Rattle.review.proofs.KeptLaws.{onto, partly-is, kept-parts}
+
+-- ---- the book's work, on readings
+
+abbrev pub partsReading : List Part → List Reading → List Reading
+partsReading [] rs = rs
+partsReading (p ∷ ps) rs = partsReading ps (partReading p rs)
+
+abbrev pub codeIn : ℕ → List ℕ → List Reading → ℕ
+codeIn letter m rs = codeOf (knownOf (findReading (symbolOf m) rs)) letter m
+
+abbrev pub messageReading : ℕ → List ℕ → List Reading → List Reading
+messageReading letter m rs = partsReading (partsOf (codeIn letter m rs) m) rs
+
+abbrev pub messagesReading : ℕ → List (List ℕ) → List Reading → List Reading
+messagesReading letter [] rs = rs
+messagesReading letter (m ∷ ms) rs = messagesReading letter ms (messageReading letter m rs)
+
+abbrev pub toldReading : List Reading → ℕ → List (List ℕ) → List Told
+toldReading rs letter [] = []
+toldReading rs letter (m ∷ ms) =
+    record {
+      code = codeIn letter m rs;
+      flags = flagsOf (publications rs) (publications (messageReading letter m rs));
+      partly = partlyTaken (codeIn letter m rs) m;
+    } ∷ toldReading (messageReading letter m rs) letter ms
+
+-- ---- parts that the readings take
+
+pub record Ready (p : Part) (rs : List Reading) : Type 0 where
+  pub room : RoomFor p rs
+  pub listed : (s : ℕ) → isListed s (listedOf rs) ≡ false → names p s ≡ false
+
+abbrev pub AllReady : List Part → List Reading → Type 0
+AllReady [] rs = Unit {0}
+AllReady (p ∷ ps) rs = Ready p rs × AllReady ps (partReading p rs)
+
+parts-core : (ps : List Part) (h : List Part) (rs : List Reading) → Core h rs → AllReady ps rs → Core (onto ps h) (partsReading ps rs)
+parts-core [] h rs c r = c
+parts-core (p ∷ ps) h rs c r = parts-core ps (p ∷ h) (partReading p rs) (core-part p h rs c (r .0 .room) (r .0 .listed)) (r .1)
+
+pub parts-listed : (ps : List Part) (rs : List Reading) → listedOf (partsReading ps rs) ≡ listedOf rs
+parts-listed [] rs = refl
+parts-listed (p ∷ ps) rs = parts-listed ps (partReading p rs) ∙ part-listed p rs
+
+-- ---- what is known of a symbol
+
+module _ (h : List Part) (rs : List Reading) (g : AllGood h rs) (s : ℕ) where
+  listed-is : knownOf (findReading s rs) .listed ≡ true → isListed s (listedOf rs) ≡ true
+  unfolding knownOf
+  listed-is e = go (reading-of s h rs g)
+    where
+      go : ReadingOf s h rs → isListed s (listedOf rs) ≡ true
+      go (missing a b) = clash (sym (rw a at e))
+      go (found r a b w d) = b
+
+  -- a listed symbol is the only one that a part of it names
+  only : knownOf (findReading s rs) .listed ≡ true → (k : ℕ) → isListed k (listedOf rs) ≡ false → eqb s k ≡ false
+  only e k f = ne-eqb s k (λ p. clash (sym (listed-is e) ∙ ap (λ (j : ℕ). isListed j (listedOf rs)) p ∙ f))
+
+  -- without 49 a cell is the maker's, or one is free
+  room-of : (m : ℕ) → knownOf (findReading s rs) .listed ≡ true → makerCode (knownOf (findReading s rs)) m ≡ 0 → Room m (cellsIn (findReading s rs))
+  unfolding makerCode knownOf knownBy Room
+  room-of m k e = go (reading-of s h rs g) k e
+    where
+      at : (r : Reading) → Good h r → (b : Bool) → isSome (findMaker m (r .cells)) ≡ b → (d : Bool) → ltb (length (occupied (r .cells))) 16 ≡ d
+          → _≡_ {A = ℕ} (cond b 0 (cond d 0 49)) 0 → (isSome (findMaker m (r .cells)) ≡ true) ⊎ (length (occupied (r .cells)) < length (r .cells))
+      at r d true y u z e = inl y
+      at r d false y true z e = inr (omega (arith, d .size, ltb-true (length (occupied (r .cells))) 16 z))
+      at r d false y false z e = absurd (omega arith)
+
+      go : ReadingOf s h rs → knownOf (findReading s rs) .listed ≡ true → _≡_ {A = ℕ} (cond (knownOf (findReading s rs) .stands m) 0 (cond (ltb (knownOf (findReading s rs) .count) 16) 0 49)) 0
+          → (isSome (findMaker m (cellsIn (findReading s rs))) ≡ true) ⊎ (length (occupied (cellsIn (findReading s rs))) < length (cellsIn (findReading s rs)))
+      go (missing a b) k e = clash (sym (rw a at k))
+      go (found r a b w d) k e = rw a (at r d (isSome (findMaker m (r .cells))) refl (ltb (length (occupied (r .cells))) 16) refl (rw a at e))
+
+-- ---- one message
+
+module _ (letter : ℕ) (m : List ℕ) (h : List Part) (rs : List Reading) (g : AllGood h rs) (c : ℕ) (x : codeIn letter m rs ≡ c) where
+  abbrev e : Known
+  e = knownOf (findReading (symbolOf m) rs)
+
+  -- a part of the message's symbol, that symbol being known
+  named : (p : Part) → ((s : ℕ) → names p s ≡ eqb (symbolOf m) s) → RoomFor p rs → e .listed ≡ true → Ready p rs
+  named p f room k = record { room = room; listed = λ s d. f s ∙ only h rs g (symbolOf m) k s d }
+
+  -- the second part of a message
+  named-then : (p q : Part) → ((s : ℕ) → names q s ≡ eqb (symbolOf m) s) → RoomFor q (partReading p rs) → e .listed ≡ true → Ready q (partReading p rs)
+  named-then p q f room k = record { room = room; listed = λ s d. f s ∙ only h rs g (symbolOf m) k s (rw (part-listed p rs) at d) }
+
+  whole-ready : c ≡ 0 → AllReady (wholeBy m (kindOf m)) rs
+  whole-ready z = go (kindOf m) refl
+    where
+      go : (k : Kind) → kindOf m ≡ k → AllReady (wholeBy m k) rs
+      go kind.Inquiry k = tt
+      go kind.Close k = (record { room = tt; listed = λ s d. refl }, tt)
+      go kind.Open k = (record { room = tt; listed = λ s d. refl }, tt)
+      go kind.Test k = tt
+      go kind.RoundLot k =
+          let t : RoundTaken e letter m c (takes-whole c z) = round-taken e letter m c (takes-whole c z) x k in
+          (named _ (λ s. refl) tt (t .known), (named-then _ _ (λ s. refl) tt (t .known), tt))
+      go kind.OddLot k = (named _ (λ s. refl) tt (odd-taken e letter m c (takes-whole c z) x k .known), tt)
+      go kind.Maker k =
+          let t : MakerTaken e letter m c (takes-whole c z) = maker-taken e letter m c (takes-whole c z) x k in
+          (named _ (λ s. refl) (room-of h rs g (symbolOf m) (makerName m) (t .known) (t .room ∙ z)) (t .known), tt)
+      go kind.Unknown k = tt
+
+  message-ready : AllReady (partsOf c m) rs
+  unfolding partsOf
+  message-ready = go (cut c 0) (partlyTaken c m) refl
+    where
+      go : Cut c 0 → (p : Bool) → partlyTaken c m ≡ p → AllReady (cond (eqb c 0) (wholeBy m (kindOf m)) (cond p (roundOf m ∷ []) [])) rs
+      go (equal t z) p f = rw t (whole-ready z)
+      go (apart t z) true f =
+          let r = partly-is c m f in
+          rw t (named _ (λ s. refl) tt (round-taken e letter m c (takes-partly c (r .1)) x (r .0) .known), tt)
+      go (apart t z) false f = rw t tt
+
+  -- a Q K that is taken has 60 bytes or more
+  long : Takes c → kindOf m ≡ kind.RoundLot → 60 ≤ length m
+  unfolding oddAt
+  long t k = let r : RoundTaken e letter m c t = round-taken e letter m c t x k in omega (arith, r .size)
+
+module _ (letter : ℕ) (m : List ℕ) (hist : List (List ℕ)) (rs : List Reading) (co : Core (parts hist) rs) where
+  pub code-same : codeIn letter m rs ≡ codeR (listedOf rs) letter m hist
+  code-same = ap (λ (z : Known). codeOf z letter m) (known-same (parts hist) rs co (symbolOf m))
+
+  pub message-listed : listedOf (messageReading letter m rs) ≡ listedOf rs
+  message-listed = parts-listed (partsOf (codeIn letter m rs) m) rs
+
+  pub message-core : Core (parts (messageR (listedOf rs) letter m hist)) (messageReading letter m rs)
+  message-core =
+      rw (sym code-same, kept-parts (codeIn letter m rs) m hist (long letter m (parts hist) rs (co .good) (codeIn letter m rs) refl))
+      (parts-core (partsOf (codeIn letter m rs) m) (parts hist) rs co (message-ready letter m (parts hist) rs (co .good) (codeIn letter m rs) refl))
+
+-- ---- a block
+
+entries-same : (hist : List (List ℕ)) (rs : List Reading) → AllGood (parts hist) rs → publications rs ≡ entriesR (listedOf rs) hist
+unfolding listedOf
+entries-same hist [] g = refl
+entries-same hist (r ∷ rs) g =
+    let a : r .entries ≡ reviewed hist (r .symbol) = good-reviewed (parts hist) r (g .0) in
+    let b : publications rs ≡ entriesR (listedOf rs) hist = entries-same hist rs (g .1) in
+    λ i. a i ∷ b i
+
+module _ (letter : ℕ) (ls : List Listed) where
+  pub messages-core : (ms : List (List ℕ)) (hist : List (List ℕ)) (rs : List Reading) → ls ≡ listedOf rs → Core (parts hist) rs
+      → Core (parts (messagesR ls letter ms hist)) (messagesReading letter ms rs)
+  messages-core [] hist rs e c = c
+  messages-core (m ∷ ms) hist rs e c =
+      messages-core ms (messageR ls letter m hist) (messageReading letter m rs) (e ∙ sym (message-listed letter m hist rs c))
+      (rw e (message-core letter m hist rs c))
+
+  pub messages-listed : (ms : List (List ℕ)) (rs : List Reading) → listedOf (messagesReading letter ms rs) ≡ listedOf rs
+  messages-listed [] rs = refl
+  messages-listed (m ∷ ms) rs = messages-listed ms (messageReading letter m rs) ∙ parts-listed (partsOf (codeIn letter m rs) m) rs
+
+  pub told-same : (ms : List (List ℕ)) (hist : List (List ℕ)) (rs : List Reading) → ls ≡ listedOf rs → Core (parts hist) rs
+      → toldReading rs letter ms ≡ toldR ls hist letter ms
+  told-same [] hist rs e c = refl
+  told-same (m ∷ ms) hist rs e c =
+      let l : ls ≡ listedOf (messageReading letter m rs) = e ∙ sym (message-listed letter m hist rs c) in
+      let d : Core (parts (messageR ls letter m hist)) (messageReading letter m rs) = rw e (message-core letter m hist rs c) in
+      let k : codeIn letter m rs ≡ codeR ls letter m hist = rw e (code-same letter m hist rs c) in
+      let p : publications rs ≡ entriesR ls hist = rw e (entries-same hist rs (c .good)) in
+      let q : publications (messageReading letter m rs) ≡ entriesR ls (messageR ls letter m hist) =
+      entries-same (messageR ls letter m hist) (messageReading letter m rs) (d .good) ∙ ap (λ (z : List Listed). entriesR z (messageR ls letter m hist)) (sym l) in
+      let r : toldReading (messageReading letter m rs) letter ms ≡ toldR ls (messageR ls letter m hist) letter ms =
+      told-same ms (messageR ls letter m hist) (messageReading letter m rs) l d in
+      λ i. record { code = k i; flags = flagsOf (p i) (q i); partly = partlyTaken (k i) m } ∷ r i

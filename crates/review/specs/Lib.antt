@@ -1,0 +1,4 @@
+pub mod Reviewer
+pub mod Lists
+pub mod Frame
+pub mod Numbers

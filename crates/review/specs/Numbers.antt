@@ -1,0 +1,17 @@
+-- Document 01's numbers (operator, line) of each call, and its codes of a message (participant, odd part).
+-- Assumes nothing.
+use Prim.Native.Nat.{ℕ}
+use mathlib.Core.List.{List, [], _∷_}
+use Rattle.book.specs.Call.{Call, make, add, openLine, startDay, endDay, take, read}
+
+abbrev pub numbersOf : Call → List ℕ
+numbersOf (make n) = 0 ∷ 2 ∷ []
+numbersOf (add s k) = 0 ∷ 1 ∷ 3 ∷ 6 ∷ 4 ∷ 5 ∷ []
+numbersOf (openLine i l) = 0 ∷ 1 ∷ 7 ∷ 8 ∷ []
+numbersOf startDay = 0 ∷ 1 ∷ 11 ∷ []
+numbersOf endDay = 0 ∷ 1 ∷ 12 ∷ []
+numbersOf (take i b room) = 0 ∷ 70 ∷ 1 ∷ 9 ∷ 21 ∷ 30 ∷ 31 ∷ 32 ∷ 33 ∷ 34 ∷ 20 ∷ 35 ∷ []
+numbersOf (read s room) = 0 ∷ 1 ∷ 9 ∷ 10 ∷ []
+
+abbrev pub codes : List ℕ
+codes = 0 ∷ 40 ∷ 41 ∷ 42 ∷ 43 ∷ 44 ∷ 45 ∷ 46 ∷ 47 ∷ 48 ∷ 49 ∷ 60 ∷ 61 ∷ 62 ∷ 63 ∷ 64 ∷ []

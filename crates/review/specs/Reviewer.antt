@@ -1,0 +1,218 @@
+-- The reviewer (document 01, "The reviewer's history"): fed the calls alone, it holds n, the symbols with their round lots, the lines, the day and a
+-- history, and works every number, code, flag and entry out anew from these. The history is the accepted messages as bytes, the newest first.
+-- Assumes nothing.
+use Prim.Native.Nat.{ℕ}
+use mathlib.Core.Bool.{Bool, true, false, _&&_, cond}
+use mathlib.Core.List.{List, [], _∷_, _++_, map}
+use mathlib.Core.Option.{Option, none, some}
+use lib.Dec.{eqb}
+use lib.ListN.{length}
+use lib.ListN.{take as firstOf}
+use Rattle.field.specs.Field.{be}
+use Rattle.lists.specs.Lists.{mapOption, orElse, isSome, collect}
+use Rattle.quote.specs.declared.Quote.{Quote}
+use Rattle.quote.specs.Quote.{noQuote, emptyQuote, withCondition}
+use Rattle.levels.specs.Levels.{Standing, noLevels, oddOn}
+use Rattle.entries.specs.Entries.{Maker, entriesOf}
+use Rattle.entries.specs.Publication.{publication}
+use Rattle.block.specs.Block.{messagesOf}
+use Rattle.message.specs.declared.Kind.{Kind}
+use Rattle.message.specs.declared.Kind.the-variants as kind
+use Rattle.message.specs.Message.{kindOf, symbolOf, roundLotOdd, oddLotOdd, roundOf, oddPartOf, Known, codeOf, partlyTaken, Part, roundPart, oddPart, makerPart, finraPart}
+use Rattle.message.specs.Message as message
+use Rattle.book.specs.declared.Line.{Line}
+use Rattle.book.specs.Opening.{Rest}
+use Rattle.book.specs.Call.{Call, make, add, openLine, startDay, endDay, take, read, Listed, isListed, lotOf, numberOf, done, advanced, letterOf, Told, Answer, answerOf, flagsOf}
+
+-- ---- what the history says
+
+-- the parts of a message that the history holds, the newest first; "of a Q K with 60 to 64 the round part (to byte 55)" is a Q K of 56 bytes
+abbrev pub partsBy : List ℕ → Kind → List Part
+partsBy m kind.Inquiry = []
+partsBy m kind.Close = finraPart 76 ∷ []
+partsBy m kind.Open = finraPart 82 ∷ []
+partsBy m kind.Test = []
+partsBy m kind.RoundLot = cond (eqb (length m) 56) (roundOf m ∷ []) (oddPartOf m (roundLotOdd m) ∷ roundOf m ∷ [])
+partsBy m kind.OddLot = oddPartOf m (oddLotOdd m) ∷ []
+partsBy m kind.Maker = message.makerOf m ∷ []
+partsBy m kind.Unknown = []
+
+unfoldable pub parts : List (List ℕ) → List Part
+parts [] = []
+parts (m ∷ h) = partsBy m (kindOf m) ++ parts h
+
+-- "A letter's quote is its last round part naming the symbol"
+unfoldable pub quoteOf : List Part → ℕ → ℕ → Quote
+quoteOf [] s l = noQuote
+quoteOf (roundPart t k q ∷ h) s l = cond (eqb t s && eqb k l) q (quoteOf h s l)
+quoteOf (oddPart t k o ∷ h) s l = quoteOf h s l
+quoteOf (makerPart t m q ∷ h) s l = quoteOf h s l
+quoteOf (finraPart c ∷ h) s l = quoteOf h s l
+
+-- "A maker's is its last Q U naming it"
+unfoldable pub lastOf : List Part → ℕ → ℕ → Option Quote
+lastOf [] s m = none
+lastOf (roundPart t k q ∷ h) s m = lastOf h s m
+lastOf (oddPart t k o ∷ h) s m = lastOf h s m
+lastOf (makerPart t k q ∷ h) s m = cond (eqb t s && eqb k m) (some q) (lastOf h s m)
+lastOf (finraPart c ∷ h) s m = lastOf h s m
+
+-- "the last FINRA Close or Open after it sets condition L or R"; c if there is none after it
+unfoldable pub conditionOf : List Part → ℕ → ℕ → ℕ → ℕ
+conditionOf [] s m c = c
+conditionOf (roundPart t k q ∷ h) s m c = conditionOf h s m c
+conditionOf (oddPart t k o ∷ h) s m c = conditionOf h s m c
+conditionOf (makerPart t k q ∷ h) s m c = cond (eqb t s && eqb k m) c (conditionOf h s m c)
+conditionOf (finraPart d ∷ h) s m c = d
+
+-- "none if both sides are 0 and 0"
+abbrev pub standingQuote : ℕ → (ℕ → ℕ) → Option Quote → Option Maker
+standingQuote m c none = none
+standingQuote m c (some q) = cond (emptyQuote q) none (some (record { name = m; quote = withCondition (c (q .condition)) q }))
+
+unfoldable pub makerOf : List Part → ℕ → ℕ → Option Maker
+makerOf h s m = standingQuote m (conditionOf h s m) (lastOf h s m)
+
+abbrev pub elem : ℕ → List ℕ → Bool
+elem n [] = false
+elem n (x ∷ xs) = cond (eqb x n) true (elem n xs)
+
+abbrev pub insert : ℕ → List ℕ → List ℕ
+insert n xs = cond (elem n xs) xs (n ∷ xs)
+
+-- the names of the makers that the history has for the symbol, each once
+unfoldable pub namesOf : List Part → ℕ → List ℕ
+namesOf [] s = []
+namesOf (roundPart t k q ∷ h) s = namesOf h s
+namesOf (oddPart t k o ∷ h) s = namesOf h s
+namesOf (makerPart t k q ∷ h) s = cond (eqb t s) (insert k (namesOf h s)) (namesOf h s)
+namesOf (finraPart c ∷ h) s = namesOf h s
+
+unfoldable pub makersOf : List Part → ℕ → List Maker
+makersOf h s = collect (makerOf h s) (namesOf h s)
+
+-- "Levels begin with none and take each odd part naming it, in order"
+unfoldable pub levelsOf : List Part → ℕ → ℕ → Standing
+levelsOf [] s l = noLevels
+levelsOf (roundPart t k q ∷ h) s l = levelsOf h s l
+levelsOf (oddPart t k o ∷ h) s l = cond (eqb t s && eqb k l) (orElse (oddOn o (levelsOf h s l)) (levelsOf h s l)) (levelsOf h s l)
+levelsOf (makerPart t m q ∷ h) s l = levelsOf h s l
+levelsOf (finraPart c ∷ h) s l = levelsOf h s l
+
+-- "Best entries and Publication then give 96 bytes"
+unfoldable pub reviewedBy : List Part → ℕ → List ℕ
+reviewedBy h s = publication (entriesOf (quoteOf h s) (makersOf h s) (levelsOf h s))
+
+abbrev pub reviewed : List (List ℕ) → ℕ → List ℕ
+reviewed h s = reviewedBy (parts h) s
+
+-- what the symbols and the history give for the code of a message that names the symbol
+unfoldable pub knownTo : List Listed → List Part → ℕ → Known
+knownTo ls h s =
+    record {
+      listed = isListed s ls;
+      lot = lotOf s ls;
+      count = length (makersOf h s);
+      stands = λ m. isSome (makerOf h s m);
+      levels = levelsOf h s;
+    }
+
+-- ---- messages: "A block with 0 or 70 is worked message by message"
+
+abbrev pub codeR : List Listed → ℕ → List ℕ → List (List ℕ) → ℕ
+codeR ls letter m h = codeOf (knownTo ls (parts h) (symbolOf m)) letter m
+
+-- "one with code 0 is appended, and of a Q K with 60 to 64 the round part (to byte 55)"
+abbrev pub kept : ℕ → List ℕ → List (List ℕ) → List (List ℕ)
+kept c m h = cond (eqb c 0) (m ∷ h) (cond (partlyTaken c m) (firstOf 56 m ∷ h) h)
+
+abbrev pub messageR : List Listed → ℕ → List ℕ → List (List ℕ) → List (List ℕ)
+messageR ls letter m h = kept (codeR ls letter m h) m h
+
+abbrev pub messagesR : List Listed → ℕ → List (List ℕ) → List (List ℕ) → List (List ℕ)
+messagesR ls letter [] h = h
+messagesR ls letter (m ∷ ms) h = messagesR ls letter ms (messageR ls letter m h)
+
+abbrev pub entriesR : List Listed → List (List ℕ) → List (List ℕ)
+entriesR ls h = map (λ x. reviewed h (x .symbol)) ls
+
+abbrev pub toldR : List Listed → List (List ℕ) → ℕ → List (List ℕ) → List Told
+toldR ls h letter [] = []
+toldR ls h letter (m ∷ ms) =
+    record {
+      code = codeR ls letter m h;
+      flags = flagsOf (entriesR ls h) (entriesR ls (messageR ls letter m h));
+      partly = partlyTaken (codeR ls letter m h) m;
+    } ∷ toldR ls (messageR ls letter m h) letter ms
+
+-- ---- calls
+
+pub record Review : Type 0 where
+  -- n, the lines and the day
+  pub rest : Rest
+  pub symbols : List Listed
+  pub history : List (List ℕ)
+
+abbrev pub setLine : ℕ → Line → (ℕ → Option Line) → ℕ → Option Line
+setLine i x lines j = cond (eqb j i) (some x) (lines j)
+
+abbrev pub restart : Line → Line
+restart x = record { letter = x .letter; expected = 1; count = 0 }
+
+-- "n, symbols, lines and day move as stated above", by a call that is done
+unfoldable pub restAfter : Rest → Call → Rest
+restAfter r (make n) = record { n = n; lines = λ i. none; day = false }
+restAfter r (add s k) = r
+restAfter r (openLine i l) = record { n = r .n; lines = setLine i (record { letter = l; expected = 1; count = 0 }) (r .lines); day = r .day }
+restAfter r startDay = record { n = r .n; lines = λ i. mapOption restart (r .lines i); day = true }
+restAfter r endDay = record { n = r .n; lines = r .lines; day = false }
+restAfter r (take i b room) =
+    record { n = r .n; lines = λ j. cond (eqb j i) (mapOption (λ x. advanced x b) (r .lines i)) (r .lines j); day = r .day }
+restAfter r (read s room) = r
+
+unfoldable pub symbolsAfter : List Listed → Call → List Listed
+symbolsAfter ls (make n) = []
+symbolsAfter ls (add s k) = ls ++ (record { symbol = be s; lot = k } ∷ [])
+symbolsAfter ls (openLine i l) = ls
+symbolsAfter ls startDay = ls
+symbolsAfter ls endDay = ls
+symbolsAfter ls (take i b room) = ls
+symbolsAfter ls (read s room) = ls
+
+-- "make and Start of Day with 0 empty the history"; "Nothing else alters the history"
+unfoldable pub historyAfter : Rest → List Listed → List (List ℕ) → Call → List (List ℕ)
+historyAfter r ls h (make n) = []
+historyAfter r ls h (add s k) = h
+historyAfter r ls h (openLine i l) = h
+historyAfter r ls h startDay = []
+historyAfter r ls h endDay = h
+historyAfter r ls h (take i b room) = messagesR ls (letterOf (r .lines i)) (messagesOf b) h
+historyAfter r ls h (read s room) = h
+
+-- "a refused call alters nothing"
+unfoldable pub reviewCall : Review → Call → Review
+reviewCall v c =
+    cond (done (numberOf (v .rest) (v .symbols) c))
+    (record {
+      rest = restAfter (v .rest) c;
+      symbols = symbolsAfter (v .symbols) c;
+      history = historyAfter (v .rest) (v .symbols) (v .history) c;
+    })
+    v
+
+unfoldable pub reviewAnswer : Review → Call → Answer
+reviewAnswer v c = answerOf (v .rest) (toldR (v .symbols) (v .history)) (reviewed (v .history)) (numberOf (v .rest) (v .symbols) c) c
+
+-- "It starts with the make that gave the fresh book"
+abbrev pub freshReview : ℕ → Review
+freshReview n = record { rest = record { n = n; lines = λ i. none; day = false }; symbols = []; history = [] }
+
+-- ---- lists of calls
+
+abbrev pub reviewAfter : Review → List Call → Review
+reviewAfter v [] = v
+reviewAfter v (c ∷ cs) = reviewAfter (reviewCall v c) cs
+
+abbrev pub reviewAnswers : Review → List Call → List Answer
+reviewAnswers v [] = []
+reviewAnswers v (c ∷ cs) = reviewAnswer v c ∷ reviewAnswers (reviewCall v c) cs

@@ -1,0 +1,170 @@
+//! Counting which numbers, codes and flags a run of lists has reached.
+
+use std::collections::BTreeMap;
+use std::fmt::{self, Display, Formatter};
+
+use crate::build;
+use crate::call::Call;
+use crate::compare::{lent_part, Observed};
+
+/// The numbers that each call can answer in a list.
+const NUMBERS: [(&str, &[u8]); 7] = [
+    ("make", &[0, 2]),
+    ("add", &[0, 3, 4, 5, 6]),
+    ("open", &[0, 7, 8]),
+    ("start", &[0, 11]),
+    ("end", &[0, 12]),
+    ("take", &[0, 9, 20, 21, 30, 31, 32, 33, 34, 35, 70]),
+    ("read", &[0, 9, 10]),
+];
+
+/// The codes that each type of message can get.
+const CODES: [(&str, &[u8]); 9] = [
+    ("C I", &[0, 41, 42, 43]),
+    ("C T", &[0, 41, 42, 43]),
+    ("C 5", &[0, 41, 42, 43]),
+    ("C C", &[0, 41, 42, 43, 44]),
+    ("C O", &[0, 41, 42, 43, 44]),
+    ("Q K", &[0, 41, 42, 43, 44, 45, 46, 47, 60, 61, 62, 63, 64]),
+    ("Q M", &[0, 41, 42, 43, 44, 45, 60, 61, 62, 63, 64]),
+    ("Q U", &[0, 41, 42, 43, 44, 45, 46, 47, 48, 49]),
+    ("other", &[40]),
+];
+
+/// The flags that each type of message can set.
+const FLAGS: [(&str, &[u8]); 5] = [
+    ("C C", &[1, 2, 4, 8, 16, 32]),
+    ("C O", &[1, 2, 4, 8, 16, 32]),
+    ("Q K", &[1, 2, 16, 32]),
+    ("Q M", &[16, 32]),
+    ("Q U", &[1, 2, 4, 8, 16, 32]),
+];
+
+/// How often each number, code and flag was reached.
+#[derive(Default)]
+pub struct Coverage {
+    calls: u64,
+    numbers: BTreeMap<(&'static str, u8), u64>,
+    codes: BTreeMap<(&'static str, u8), u64>,
+    flags: BTreeMap<(&'static str, u8), u64>,
+}
+
+impl Coverage {
+    /// Notes one call and what was observed at it.
+    pub fn note(&mut self, call: &Call, observed: &Observed) {
+        self.calls += 1;
+        let name = call_name(call);
+        *self.numbers.entry((name, observed.number)).or_default() += 1;
+        if let (Call::TakeBlock { block, .. }, 0 | 70) = (call, observed.number) {
+            let messages = build::split(block).map_or(Vec::new(), |(_, messages)| messages);
+            let answers = lent_part(&observed.buffer).chunks_exact(4);
+            for (message, answer) in messages.iter().zip(answers) {
+                self.note_message(type_name(message), answer[1], answer[2]);
+            }
+        }
+    }
+
+    fn note_message(&mut self, name: &'static str, code: u8, flags: u8) {
+        *self.codes.entry((name, code)).or_default() += 1;
+        for flag in [1, 2, 4, 8, 16, 32] {
+            if flags & flag != 0 {
+                *self.flags.entry((name, flag)).or_default() += 1;
+            }
+        }
+    }
+
+    /// The number of calls noted.
+    pub fn calls(&self) -> u64 {
+        self.calls
+    }
+
+    /// What document 01 lets happen in a list and was not reached.
+    pub fn missing(&self) -> Vec<String> {
+        let mut missing = missing_in("number", &NUMBERS, &self.numbers);
+        missing.extend(missing_in("code", &CODES, &self.codes));
+        missing.extend(missing_in("flag", &FLAGS, &self.flags));
+        missing
+    }
+
+    /// What was reached although document 01 does not let it happen in a list.
+    pub fn unforeseen(&self) -> Vec<String> {
+        let mut unforeseen = unforeseen_in("number", &NUMBERS, &self.numbers);
+        unforeseen.extend(unforeseen_in("code", &CODES, &self.codes));
+        unforeseen.extend(unforeseen_in("flag", &FLAGS, &self.flags));
+        unforeseen
+    }
+}
+
+type Table = [(&'static str, &'static [u8])];
+type Counts = BTreeMap<(&'static str, u8), u64>;
+
+fn missing_in(what: &str, table: &Table, counts: &Counts) -> Vec<String> {
+    let all = table
+        .iter()
+        .flat_map(|&(name, values)| values.iter().map(move |&value| (name, value)));
+    all.filter(|key| !counts.contains_key(key))
+        .map(|(name, value)| format!("{name}: {what} {value}"))
+        .collect()
+}
+
+fn unforeseen_in(what: &str, table: &Table, counts: &Counts) -> Vec<String> {
+    let foreseen = |name: &str, value: &u8| {
+        table
+            .iter()
+            .any(|row| row.0 == name && row.1.contains(value))
+    };
+    counts
+        .keys()
+        .filter(|(name, value)| !foreseen(name, value))
+        .map(|(name, value)| format!("{name}: {what} {value}"))
+        .collect()
+}
+
+fn call_name(call: &Call) -> &'static str {
+    match call {
+        Call::Make { .. } => "make",
+        Call::AddSymbol { .. } => "add",
+        Call::OpenLine { .. } => "open",
+        Call::StartDay => "start",
+        Call::EndDay => "end",
+        Call::TakeBlock { .. } => "take",
+        Call::Read { .. } => "read",
+    }
+}
+
+fn type_name(message: &[u8]) -> &'static str {
+    match message.get(..2) {
+        Some(b"CI") => "C I",
+        Some(b"CT") => "C T",
+        Some(b"C5") => "C 5",
+        Some(b"CC") => "C C",
+        Some(b"CO") => "C O",
+        Some(b"QK") => "Q K",
+        Some(b"QM") => "Q M",
+        Some(b"QU") => "Q U",
+        _ => "other",
+    }
+}
+
+/// A row for each call and type: what was reached, and how often.
+impl Display for Coverage {
+    fn fmt(&self, f: &mut Formatter) -> fmt::Result {
+        writeln!(f, "{} calls", self.calls)?;
+        let tables = [
+            ("numbers", &self.numbers),
+            ("codes", &self.codes),
+            ("flags", &self.flags),
+        ];
+        for (what, counts) in tables {
+            let mut last = "";
+            for ((name, value), count) in counts {
+                if *name != last {
+                    write!(f, "\n{name} {what}:")?;
+                    last = name;
+                }
+                write!(f, " {value} x{count}")?;
+            }
+        }
+        writeln!(f)
+    }
+}

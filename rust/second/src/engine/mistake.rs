@@ -1,0 +1,67 @@
+//! Wrong rules that can be switched on in the engine, to show that the comparison with the
+//! reviewer finds them. The engine's parameter `MISTAKE` is a constant of its type: with 0 the
+//! compiled engine contains none of them.
+
+/// No mistake.
+pub const NONE: u8 = 0;
+
+macro_rules! mistakes {
+    ($($number:literal $name:ident $sentence:literal;)*) => {
+        $(#[doc = $sentence] pub const $name: u8 = $number;)*
+
+        /// Every mistake: its number and what it does wrong.
+        pub const TABLE: &[(u8, &str)] = &[$(($name, $sentence)),*];
+    };
+}
+
+mistakes! {
+    1 CLEAR_STAYS "A clear stays although its odd part was refused.";
+    2 INDICATION_RANKED "An indication, a price with size 0, is ranked.";
+    3 TIME_BEFORE_SIZE "Time is ranked before size.";
+    4 TIE_TO_HIGHER_NAME "A last tie goes to the higher letter or maker.";
+    5 FIFTEEN_MAKERS "49 is claimed while fifteen makers stand.";
+    6 THREE_LEVELS "64 is claimed for a fourth level.";
+    7 CLOSE_IN_ONE_PAGE "FINRA Open and Close recompute the first symbol only.";
+    8 GAP_REFUSED "A block behind a gap is refused with 35.";
+    9 COUNTS_INVENTED "Every message of a block is counted as accepted.";
+    10 ODD_AT_NATIONAL "An odd lot at the national price is published.";
+    11 ODD_LOT_PARTLY "A Q M with 60 to 64 is counted as partly accepted.";
+    12 CELL_NOT_REUSED "The cell of a freed maker is not used again.";
+    13 PRICES_BEFORE_SHARES "62 is looked for in all items before 63 in any.";
+    14 KNOWN_CONTROL_ALONE "34 is checked for the five known control types only.";
+    15 INTEGRITY_CHECKED "C T does not skip checks 20 and 35.";
+    16 REJECTED_NOT_COUNTED "A line's count leaves out rejected messages.";
+    17 EXPECTED_FROM_OLD "The next expected number is the old one + c, gap or not.";
+    18 START_KEEPS_LEVELS "Start of Day keeps the odd-lot levels.";
+    19 ODD_FLAGS_LOST "The change flags leave out the odd entries.";
+    20 FINRA_WITHOUT_TIME "D is ranked nationally with time 0.";
+    21 E_ADMITS_BID "Condition E admits the bid too.";
+    22 FIFTH_BEFORE_FAULT "64 of an item goes before 62 and 63 of a later one.";
+    23 ZERO_SHARES_ADDED "Zero shares of an unknown price count as an added level.";
+    24 EMPTY_MAKER_TAKEN "An empty quote of a new maker is accepted while sixteen stand.";
+    25 CLOSE_RENEWS_TIMES "FINRA Open and Close give makers' quotes their own time.";
+    26 REPLACED_KEEPS_TIME "A level that is replaced keeps its old time.";
+    27 HALF_RANGE_IS_GAP "A difference of 2,147,483,648 is a gap.";
+    28 INQUIRY_MOVES_LINE "C I moves the line's expected number and count.";
+    29 ROUND_PART_LOST "A Q K with 60 to 64 loses its round part.";
+    30 OFFER_UNCHECKED "47 looks at the bid only.";
+    31 FLAGS_OF_ONE_PAGE "FINRA Open and Close report the first symbol's changes only.";
+    32 END_EMPTIES "End of Day empties the quotes.";
+    33 DAY_BEFORE_CONTROL "20 is checked before 34.";
+    34 LETTER_BEFORE_TYPE "41 is checked before 40.";
+    35 ANSWER_CLEARED "The answer buffer is zeroed behind the last message.";
+    36 MAKE_KEEPS_LINES "A later make keeps the open lines.";
+    37 LOT_AFTER_LISTED "Adding a symbol checks 4 before 6.";
+    38 OPEN_IGNORED "FINRA Open leaves makers' quotes as they are.";
+    39 EMPTY_QUOTE_IGNORED "A Q K with both sides 0 and 0 leaves the old quote standing.";
+    40 SKIP_IF_ACCEPTED "A rejected C I, C T or C 5 does not skip 20 and 35.";
+    41 LINE_CUT "The line of a block is cut to a byte.";
+    42 LOT_CUT "The round lot of an added symbol is cut to a byte.";
+    43 FULL_BLOCK_REFUSED "33 is claimed for a block of 45 messages.";
+    44 SECOND_LINE_REFUSED "A second line of one letter is refused with 8.";
+    45 ODD_NEEDS_NATIONAL "No odd level is published while that side has no national entry.";
+    46 EMPTY_QUOTE_CLEARS "A Q K with both sides 0 and 0 removes the letter's levels.";
+    47 INDICATION_FREES "A maker's quote with indications only frees its cell.";
+    48 REFERENCE_READ "43 is claimed for a reference number that is not 0.";
+    49 LEADER_STAYS "The incremental engine keeps a leader that worsened or left.";
+}

@@ -1,0 +1,186 @@
+//! The engine: native structs, six kept entries for each symbol, no allocation while a block is
+//! taken.
+
+mod block;
+mod bytes;
+mod candidate;
+mod directory;
+mod message;
+pub mod mistake;
+mod odd_part;
+mod page;
+mod page_side;
+mod quote;
+mod ranking;
+mod take;
+mod update;
+
+use std::marker::PhantomData;
+
+use crate::quote_book::{QuoteBook, Report};
+use crate::terms::{number, LINES, PROCESSOR, PUBLICATION_LEN, ROUND_LOTS, SYMBOLS_MAX};
+use directory::{well_formed, Directory, Symbol};
+use page::Page;
+pub use update::{FollowLeader, Recompute, Update};
+
+/// The engine that works out a touched symbol's entries anew.
+pub type Engine = Book<Recompute, { mistake::NONE }>;
+
+/// The engine that ranks a side again only when its leader worsens or leaves.
+pub type Incremental = Book<FollowLeader, { mistake::NONE }>;
+
+/// A book of native structs, under a way to keep the entries and a planted mistake (0 for none).
+pub struct Book<U, const MISTAKE: u8> {
+    /// The n that the lent memory has room for.
+    n: u32,
+    /// The listed symbols' pages in the order added.
+    pages: Vec<Page>,
+    directory: Directory,
+    lines: [Line; LINES],
+    day_open: bool,
+    update: PhantomData<U>,
+}
+
+/// A line's record.
+#[derive(Clone, Copy)]
+struct Line {
+    /// The line's letter, if it is open.
+    letter: Option<u8>,
+    expected: u32,
+    count: u64,
+}
+
+impl Line {
+    const CLOSED: Line = Line::starting(None);
+
+    /// A line begins with 1 and 0, when it is opened and at Start of Day.
+    const fn starting(letter: Option<u8>) -> Line {
+        Line {
+            letter,
+            expected: 1,
+            count: 0,
+        }
+    }
+}
+
+impl<U: Update, const M: u8> Book<U, M> {
+    /// A fresh book: memory for n symbols in which make has just answered 0. There is none if n is
+    /// not 1 to 64.
+    pub fn fresh(n: u32) -> Option<Self> {
+        (1..=SYMBOLS_MAX).contains(&n).then(|| Book {
+            n,
+            pages: Vec::with_capacity(n as usize),
+            directory: Directory::EMPTY,
+            lines: [Line::CLOSED; LINES],
+            day_open: false,
+            update: PhantomData,
+        })
+    }
+}
+
+impl<U: Update, const M: u8> QuoteBook for Book<U, M> {
+    /// The memory keeps its length, so n has to be the fresh book's.
+    fn make(&mut self, n: u32) -> u8 {
+        if !(1..=SYMBOLS_MAX).contains(&n) || n != self.n {
+            return number::MAKE;
+        }
+        self.pages.clear();
+        self.directory = Directory::EMPTY;
+        if M != mistake::MAKE_KEEPS_LINES {
+            self.lines = [Line::CLOSED; LINES];
+        }
+        self.day_open = false;
+        number::DONE
+    }
+
+    /// Checks 3, 6, 4, 5.
+    fn add_symbol(&mut self, symbol: &[u8], round_lot: u32) -> u8 {
+        let Some(symbol) = as_symbol(symbol) else {
+            return number::SYMBOL_MALFORMED;
+        };
+        let round_lot = match M {
+            mistake::LOT_CUT => round_lot % 256,
+            _ => round_lot,
+        };
+        let listed = self.directory.find(symbol).is_some();
+        if M == mistake::LOT_AFTER_LISTED && listed {
+            return number::SYMBOL_LISTED;
+        }
+        if !ROUND_LOTS.contains(&round_lot) {
+            return number::ROUND_LOT;
+        }
+        if listed {
+            return number::SYMBOL_LISTED;
+        }
+        if self.pages.len() == self.n as usize {
+            return number::BOOK_FULL;
+        }
+        self.directory.list(symbol, self.pages.len() as u8);
+        self.pages.push(Page::empty(round_lot));
+        number::DONE
+    }
+
+    /// Checks 7, 8.
+    fn open_line(&mut self, line: u32, letter: u8) -> u8 {
+        let is_letter = letter.is_ascii_uppercase() && letter != PROCESSOR;
+        let has_line = self.lines.iter().any(|line| line.letter == Some(letter));
+        let Some(record) = self.lines.get_mut(line as usize).filter(|_| is_letter) else {
+            return number::LINE_OR_LETTER;
+        };
+        if record.letter.is_some() || M == mistake::SECOND_LINE_REFUSED && has_line {
+            return number::LINE_OPEN;
+        }
+        *record = Line::starting(Some(letter));
+        number::DONE
+    }
+
+    fn start_day(&mut self) -> u8 {
+        if self.day_open {
+            return number::DAY_OPEN;
+        }
+        for page in &mut self.pages {
+            page.start_day::<M>();
+        }
+        for line in &mut self.lines {
+            *line = Line::starting(line.letter);
+        }
+        self.day_open = true;
+        number::DONE
+    }
+
+    fn end_day(&mut self) -> u8 {
+        if !self.day_open {
+            return number::DAY_CLOSED;
+        }
+        if M == mistake::END_EMPTIES {
+            for page in &mut self.pages {
+                page.start_day::<M>();
+            }
+        }
+        self.day_open = false;
+        number::DONE
+    }
+
+    fn take_block(&mut self, line: u32, block: &[u8], answer: &mut [u8]) -> Report {
+        self.take(line, block, answer)
+    }
+
+    /// Checks 9, 10.
+    fn read(&self, symbol: &[u8], publication: &mut [u8]) -> u8 {
+        if publication.len() < PUBLICATION_LEN {
+            return number::BUFFER_SHORT;
+        }
+        let listed = as_symbol(symbol).and_then(|symbol| self.directory.find(symbol));
+        let Some(page) = listed else {
+            return number::SYMBOL_UNKNOWN;
+        };
+        publication[..PUBLICATION_LEN].copy_from_slice(&self.pages[page].publication());
+        number::DONE
+    }
+}
+
+/// A well-formed symbol of eleven bytes, or none.
+fn as_symbol(bytes: &[u8]) -> Option<&Symbol> {
+    let symbol = bytes.try_into().ok()?;
+    well_formed(symbol).then_some(symbol)
+}

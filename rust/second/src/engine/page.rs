@@ -1,0 +1,176 @@
+//! One symbol's page: its quotes, makers and levels, and its six kept entries.
+
+use super::candidate::{national_name, Candidate, Entry, Side};
+use super::mistake;
+use super::odd_part::Levels;
+use super::page_side::{Leaders, PageSide};
+use super::quote::{counts, Quote};
+use crate::terms::{ENTRY_LEN, MAKERS_MAX, PUBLICATION_LEN};
+
+/// No maker's name has a zero byte, so these two are no names.
+const FREE_CELL: u32 = 0;
+const SPENT_CELL: u32 = 1;
+
+/// National bid, offer, FINRA bid, offer, odd bid, offer.
+pub type Entries = [Entry; 6];
+
+pub struct Page {
+    pub round_lot: u32,
+    pub sides: [PageSide; 2],
+    /// The name of each cell's maker.
+    maker_names: [u32; MAKERS_MAX],
+    pub entries: Entries,
+}
+
+impl Page {
+    /// An added symbol begins with no quotes and six entries of none.
+    pub fn empty(round_lot: u32) -> Page {
+        Page {
+            round_lot,
+            sides: [PageSide::EMPTY; 2],
+            maker_names: [FREE_CELL; MAKERS_MAX],
+            entries: [Entry::NONE; 6],
+        }
+    }
+
+    /// Start of Day empties all quotes, makers and levels and makes every entry none.
+    pub fn start_day<const M: u8>(&mut self) {
+        let old = std::mem::replace(self, Page::empty(self.round_lot));
+        if M == mistake::START_KEEPS_LEVELS {
+            for letter in b'A'..=b'Z' {
+                self.set_levels::<M>(letter, old.levels(letter));
+            }
+        }
+    }
+
+    /// An accepted Q K replaces its letter's quote.
+    #[inline]
+    pub fn set_quote<const M: u8>(&mut self, letter: u8, quote: &Quote) {
+        let name = national_name(letter, quote.condition);
+        for side in Side::BOTH {
+            let (candidate, counts) = quote.side::<M>(side, name);
+            self.sides[side as usize].set_quote(letter, candidate, counts);
+        }
+    }
+
+    /// The cell of a standing maker.
+    #[inline]
+    pub fn maker_cell(&self, name: u32) -> Option<usize> {
+        self.maker_names.iter().position(|&cell| cell == name)
+    }
+
+    /// A cell for a new maker; none if sixteen stand.
+    #[inline]
+    pub fn free_cell<const M: u8>(&self) -> Option<usize> {
+        let is_free = |&&cell: &&u32| cell == FREE_CELL;
+        if M == mistake::FIFTEEN_MAKERS && self.maker_names.iter().filter(is_free).count() == 1 {
+            return None;
+        }
+        self.maker_cell(FREE_CELL)
+    }
+
+    /// An accepted Q U replaces its maker's quote.
+    #[inline]
+    pub fn set_maker<const M: u8>(&mut self, cell: usize, name: u32, quote: &Quote) {
+        self.maker_names[cell] = name;
+        for side in Side::BOTH {
+            let (candidate, counts) = quote.side::<M>(side, name);
+            self.sides[side as usize]
+                .makers
+                .set(cell, candidate, counts);
+        }
+    }
+
+    /// A maker's quote with both sides 0 and 0 frees its cell.
+    #[inline]
+    pub fn free_maker<const M: u8>(&mut self, cell: usize) {
+        self.maker_names[cell] = if M == mistake::CELL_NOT_REUSED {
+            SPENT_CELL
+        } else {
+            FREE_CELL
+        };
+        for side in &mut self.sides {
+            side.makers.set(cell, Candidate::NONE, false);
+        }
+    }
+
+    /// FINRA Close gives every standing maker quote condition L, FINRA Open gives R; times hold.
+    pub fn set_conditions<const M: u8>(&mut self, condition: u8, time: u64) {
+        for (cell, &name) in self.maker_names.iter().enumerate() {
+            if name == FREE_CELL || name == SPENT_CELL {
+                continue;
+            }
+            for side in Side::BOTH {
+                let makers = &mut self.sides[side as usize].makers;
+                let mut quote = makers.standing(cell);
+                if M == mistake::CLOSE_RENEWS_TIMES {
+                    quote.time = time;
+                }
+                let counts = counts::<M>(condition, side, side.price(quote.rank), quote.size);
+                makers.set(cell, quote, counts);
+            }
+        }
+    }
+
+    /// A letter's levels, sides by levels.
+    #[inline]
+    pub fn levels(&self, letter: u8) -> [Levels; 2] {
+        [self.sides[0].levels(letter), self.sides[1].levels(letter)]
+    }
+
+    /// An accepted odd part leaves these levels.
+    #[inline]
+    pub fn set_levels<const M: u8>(&mut self, letter: u8, levels: [Levels; 2]) {
+        for (side, levels) in self.sides.iter_mut().zip(levels) {
+            side.set_levels::<M>(letter, levels);
+        }
+    }
+
+    /// Keeps one side's three entries as its leaders give them. An odd level is published if it is
+    /// priced above the national bid (below the national offer), or if that side has none, whose
+    /// rank is 0. The odd order begins with the price, so only the best level has to be looked at.
+    #[inline]
+    pub fn publish<const M: u8>(&mut self, side: Side) {
+        let at = side as usize;
+        let leaders = &self.sides[at].leaders;
+        let Leaders { national, odd, .. } = leaders;
+        let mut inside = odd.rank > national.rank;
+        if M == mistake::ODD_AT_NATIONAL {
+            inside |= odd.rank == national.rank;
+        }
+        if M == mistake::ODD_NEEDS_NATIONAL {
+            inside &= national.stands();
+        }
+        self.entries[at] = Entry::of(national, side);
+        self.entries[2 + at] = Entry::of(&leaders.finra, side);
+        self.entries[4 + at] = if inside {
+            Entry::of(odd, side)
+        } else {
+            Entry::NONE
+        };
+    }
+
+    /// The change flags: 1 national bid, 2 national offer, 4 FINRA bid, 8 FINRA offer, 16 odd bid,
+    /// 32 odd offer.
+    #[inline]
+    pub fn changes<const M: u8>(&self, before: &Entries) -> u8 {
+        let pairs = self.entries.iter().zip(before).enumerate();
+        let flags = pairs.fold(0, |flags, (i, (now, old))| {
+            flags | u8::from(now != old) << i
+        });
+        if M == mistake::ODD_FLAGS_LOST {
+            flags & 15
+        } else {
+            flags
+        }
+    }
+
+    /// The six entries as a publication.
+    pub fn publication(&self) -> [u8; PUBLICATION_LEN] {
+        let mut publication = [0; PUBLICATION_LEN];
+        for (bytes, entry) in publication.chunks_exact_mut(ENTRY_LEN).zip(self.entries) {
+            bytes.copy_from_slice(&entry.bytes());
+        }
+        publication
+    }
+}

@@ -1,0 +1,85 @@
+//! One ranking of a symbol's side: national, FINRA or odd.
+
+use std::hint::select_unpredictable;
+
+use super::candidate::Candidate;
+
+/// Candidates by their places, an even number of them, at most 32.
+pub struct Ranking<const N: usize> {
+    /// The rank of each candidate that counts, 0 for the others.
+    ranks: [u64; N],
+    candidates: [Candidate; N],
+}
+
+impl<const N: usize> Ranking<N> {
+    pub const EMPTY: Ranking<N> = {
+        assert!(N.is_multiple_of(2) && N <= 32);
+        Ranking {
+            ranks: [0; N],
+            candidates: [Candidate::NONE; N],
+        }
+    };
+
+    #[inline]
+    pub fn set(&mut self, place: usize, candidate: Candidate, counts: bool) {
+        self.ranks[place] = if counts { candidate.rank } else { 0 };
+        self.candidates[place] = candidate;
+    }
+
+    /// What stands in a place, whether it counts or not.
+    #[inline]
+    pub fn standing(&self, place: usize) -> Candidate {
+        self.candidates[place]
+    }
+
+    /// What stands in a place if it counts, else none.
+    #[inline]
+    pub fn counting(&self, place: usize) -> Candidate {
+        if self.ranks[place] > 0 {
+            self.candidates[place]
+        } else {
+            Candidate::NONE
+        }
+    }
+
+    /// The best of all that count, or none: the best price first, then the order among the
+    /// candidates at that price.
+    #[inline]
+    pub fn best<const M: u8>(&self) -> Candidate {
+        let mut best = &Candidate::NONE;
+        let top = self.top_rank();
+        if top > 0 {
+            let mut left = self.places_of(top);
+            while left != 0 {
+                let candidate = &self.candidates[left.trailing_zeros() as usize];
+                if candidate.beats::<M>(best) {
+                    best = candidate;
+                }
+                left &= left - 1;
+            }
+        }
+        *best
+    }
+
+    /// The highest rank, 0 if nothing counts. Two maxima are kept apart, and selected rather than
+    /// branched to, since the branches could not be predicted.
+    #[inline]
+    fn top_rank(&self) -> u64 {
+        let mut tops = [0; 2];
+        for pair in self.ranks.chunks_exact(2) {
+            for (top, &rank) in tops.iter_mut().zip(pair) {
+                *top = select_unpredictable(rank > *top, rank, *top);
+            }
+        }
+        tops[0].max(tops[1])
+    }
+
+    /// A bit for each place with this rank.
+    #[inline]
+    fn places_of(&self, rank: u64) -> u32 {
+        let places = self.ranks.iter().enumerate();
+        places.fold(0, |bits, (place, &other)| {
+            bits | u32::from(other == rank) << place
+        })
+    }
+}

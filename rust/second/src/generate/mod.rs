@@ -1,0 +1,226 @@
+//! Deterministic random lists of calls.
+//!
+//! A list is a function of its seed and length. While it is drawn its calls are also made on an
+//! engine, only to know which lines are open and which numbers they expect: most blocks are to be
+//! taken and most messages accepted, so that the rules behind the checks are reached.
+
+mod blocks;
+mod damage;
+mod messages;
+mod pools;
+mod random;
+
+use std::collections::VecDeque;
+
+use crate::call::{Call, List};
+use crate::engine::Engine;
+use crate::quote_book::QuoteBook;
+use crate::terms::{number, PUBLICATION_LEN, ROUND_LOTS};
+use pools::{Pools, Symbol, Theme};
+use random::Random;
+
+/// The list of so many calls that a seed gives.
+pub fn list(seed: u64, calls: usize) -> List {
+    let mut generator = Generator::new(seed);
+    let calls = (0..calls).map(|_| generator.next_call()).collect();
+    List {
+        n: generator.n,
+        calls,
+    }
+}
+
+/// A line that is open, as far as the drawn calls have led.
+#[derive(Clone, Copy)]
+struct OpenLine {
+    line: u32,
+    letter: u8,
+    expected: u32,
+}
+
+struct Generator {
+    random: Random,
+    theme: Theme,
+    pools: Pools,
+    n: u32,
+    /// Calls that set up a made book.
+    setup: VecDeque<Call>,
+    book: Engine,
+    lines: Vec<OpenLine>,
+    listed: Vec<(Symbol, u32)>,
+    day_open: bool,
+}
+
+impl Generator {
+    fn new(seed: u64) -> Generator {
+        let mut random = Random::new(seed);
+        let theme = Theme::draw(&mut random);
+        let n = theme.draw_n(&mut random);
+        let pools = Pools::draw(&mut random, theme, n);
+        let mut generator = Generator {
+            random,
+            theme,
+            pools,
+            n,
+            setup: VecDeque::new(),
+            book: Engine::fresh(n).expect("a theme's n is 1 to 64"),
+            lines: Vec::new(),
+            listed: Vec::new(),
+            day_open: false,
+        };
+        generator.set_up();
+        generator
+    }
+
+    fn next_call(&mut self) -> Call {
+        let call = match self.setup.pop_front() {
+            Some(call) => call,
+            None => self.draw_call(),
+        };
+        self.follow(&call);
+        call
+    }
+
+    /// Symbols, lines and the day of a made book, seldom one of them left out.
+    fn set_up(&mut self) {
+        let symbols = match self.theme {
+            Theme::Wide => self.pools.symbols.len(),
+            _ => self.n as usize,
+        };
+        for at in 0..symbols {
+            self.setup.push_back(Call::AddSymbol {
+                symbol: self.pools.symbols[at].to_vec(),
+                round_lot: self.random.pick(&[1, 10, 25, 50, 100, 100]),
+            });
+        }
+        for letter in self.pools.letters.clone() {
+            self.setup.push_back(Call::OpenLine {
+                line: self.random.below(64) as u32,
+                letter,
+            });
+        }
+        self.setup.push_back(Call::StartDay);
+        if self.random.percent(10) {
+            let left_out = self.random.below(self.setup.len());
+            self.setup.remove(left_out);
+        }
+    }
+
+    fn draw_call(&mut self) -> Call {
+        if !self.day_open && self.random.percent(20) {
+            return Call::StartDay;
+        }
+        match self.random.weighted(&self.theme.calls()) {
+            0 => self.take_call(),
+            1 => self.read_call(),
+            2 => self.add_call(),
+            3 => self.open_call(),
+            4 => Call::StartDay,
+            5 => Call::EndDay,
+            _ => self.make_call(),
+        }
+    }
+
+    fn read_call(&mut self) -> Call {
+        let odd_lengths = [0, 1, 16, 95, 97, 128, 192];
+        Call::Read {
+            symbol: self.draw_symbol_argument(),
+            publication_len: self.random.usually(70, &[PUBLICATION_LEN], &odd_lengths),
+        }
+    }
+
+    fn add_call(&mut self) -> Call {
+        let wrong = [0, 2, 99, 101, 257, 356, u32::MAX];
+        Call::AddSymbol {
+            symbol: self.draw_symbol_argument(),
+            round_lot: self.random.usually(75, &ROUND_LOTS, &wrong),
+        }
+    }
+
+    fn open_call(&mut self) -> Call {
+        let (lines, no_lines) = ([0, 1, 5, 62, 63], [64, 65, 255, 256, 261, u32::MAX]);
+        Call::OpenLine {
+            line: self.random.usually(75, &lines, &no_lines),
+            letter: self.random.usually(75, b"ADNPZ", b"S@[anz \x00\xff"),
+        }
+    }
+
+    fn make_call(&mut self) -> Call {
+        let n = self.n;
+        let wrong = [0, n - 1, n + 1, 64, 65, 256 + n, u32::MAX];
+        Call::Make {
+            n: self.random.usually(50, &[n], &wrong),
+        }
+    }
+
+    /// A symbol of the list, or one with a damaged byte or another length.
+    fn draw_symbol_argument(&mut self) -> Vec<u8> {
+        let mut symbol = self.random.pick(&self.pools.symbols).to_vec();
+        match self.random.weighted(&[70, 15, 10, 5]) {
+            0 => {}
+            1 => {
+                let at = self.random.below(symbol.len());
+                symbol[at] = self.random.pick(b"A~! \x1f\x7f\x80\x00@[az");
+            }
+            2 => symbol[0] = self.random.pick(b"@[az ~\x00"),
+            _ => {
+                let len = self.random.pick(&[0, 1, 10, 12, 22]);
+                symbol.resize(len, b' ');
+            }
+        }
+        symbol
+    }
+
+    /// Makes the call on the generator's own book and notes what it led to.
+    fn follow(&mut self, call: &Call) {
+        match call {
+            Call::Make { n } => {
+                if self.book.make(*n) == number::DONE {
+                    self.lines.clear();
+                    self.listed.clear();
+                    self.day_open = false;
+                    self.setup.clear();
+                    self.set_up();
+                }
+            }
+            Call::AddSymbol { symbol, round_lot } => {
+                let number = self.book.add_symbol(symbol, *round_lot);
+                if let (number::DONE, Ok(symbol)) = (number, symbol[..].try_into()) {
+                    self.listed.push((symbol, *round_lot));
+                }
+            }
+            Call::OpenLine { line, letter } => {
+                if self.book.open_line(*line, *letter) == number::DONE {
+                    self.lines.push(OpenLine {
+                        line: *line,
+                        letter: *letter,
+                        expected: 1,
+                    });
+                }
+            }
+            Call::StartDay => {
+                if self.book.start_day() == number::DONE {
+                    self.lines.iter_mut().for_each(|line| line.expected = 1);
+                }
+                self.day_open = true;
+            }
+            Call::EndDay => {
+                self.book.end_day();
+                self.day_open = false;
+            }
+            Call::TakeBlock {
+                line,
+                block,
+                answer_len,
+            } => {
+                let report = self
+                    .book
+                    .take_block(*line, block, &mut vec![0; *answer_len]);
+                let open = self.lines.iter_mut().find(|open| open.line == *line);
+                if let Some(open) = open.filter(|_| report.number != number::BUFFER_SHORT) {
+                    open.expected = report.expected;
+                }
+            }
+            Call::Read { .. } => {}
+        }
+    }
+}

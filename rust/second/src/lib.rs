@@ -1,0 +1,30 @@
+//! The second implementation of the quote book, written from document 01 alone.
+//!
+//! - [`Engine`] keeps native structs and works out a touched symbol's six entries after each
+//!   accepted message; [`Incremental`] is the same engine and ranks a side again only when its
+//!   leader worsens or leaves.
+//! - [`Reviewer`] holds a history of accepted messages and works out every answer anew from it.
+//! - [`generate`] makes random lists of calls, [`compare`] runs a list on several books, [`shrink`]
+//!   makes a list short on which they differ, and [`coverage`] counts what the lists reach.
+//!
+//! Engine and reviewer share the constants of [`terms`] and the answers of [`quote_book`],
+//! nothing else: every check and every rule is written twice.
+
+#![forbid(unsafe_code)]
+#![warn(missing_docs)]
+
+pub mod build;
+pub mod call;
+pub mod compare;
+pub mod coverage;
+pub mod engine;
+pub mod generate;
+pub mod quote_book;
+pub mod reviewer;
+pub mod shrink;
+pub mod terms;
+
+pub use call::{Call, List};
+pub use engine::{Engine, Incremental};
+pub use quote_book::{QuoteBook, Report};
+pub use reviewer::Reviewer;

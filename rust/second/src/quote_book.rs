@@ -1,0 +1,65 @@
+//! The seven calls of document 01 ("The book and its calls") and their answers.
+
+/// What the block call reports. A refused block carries its number, no gap and no messages.
+#[derive(Clone, Copy, PartialEq, Eq, Debug, Default)]
+pub struct Report {
+    /// 0 or 70 for a taken block, else the refusal.
+    pub number: u8,
+    /// The block's sequence number less the expected one.
+    pub gap: u32,
+    /// The line's next expected number.
+    pub expected: u32,
+    /// The line's count of messages.
+    pub count: u64,
+    /// Messages with code 0.
+    pub accepted: u32,
+    /// Q K messages with codes 60 to 64.
+    pub partly: u32,
+    /// All other messages of the block.
+    pub rejected: u32,
+}
+
+impl Report {
+    /// The seven fields in their order, as one row of numbers.
+    pub fn fields(&self) -> [u64; 7] {
+        [
+            u64::from(self.number),
+            u64::from(self.gap),
+            u64::from(self.expected),
+            self.count,
+            u64::from(self.accepted),
+            u64::from(self.partly),
+            u64::from(self.rejected),
+        ]
+    }
+}
+
+/// A quote book under its seven calls. Arguments are raw: a number may be out of range, a symbol,
+/// block or buffer may have any length. Each call answers its number of document 01.
+///
+/// An implementation begins as a fresh book, memory for n symbols in which make has just answered
+/// 0, and is lent all of this memory by every later call. So a later make answers 0 for the same n
+/// only, and number 1 does not occur.
+pub trait QuoteBook {
+    /// Makes the book anew: no symbols, no lines, a closed day.
+    fn make(&mut self, n: u32) -> u8;
+
+    /// Adds a symbol with its round lot in shares.
+    fn add_symbol(&mut self, symbol: &[u8], round_lot: u32) -> u8;
+
+    /// Opens a line for a letter.
+    fn open_line(&mut self, line: u32, letter: u8) -> u8;
+
+    /// Start of Day.
+    fn start_day(&mut self) -> u8;
+
+    /// End of Day.
+    fn end_day(&mut self) -> u8;
+
+    /// Takes a block on a line. Of a taken block's message i, the answer buffer's bytes 4i to
+    /// 4i + 3 are i, the code, the change flags and 0.
+    fn take_block(&mut self, line: u32, block: &[u8], answer: &mut [u8]) -> Report;
+
+    /// Reads a symbol's publication into the first 96 bytes of the buffer.
+    fn read(&self, symbol: &[u8], publication: &mut [u8]) -> u8;
+}

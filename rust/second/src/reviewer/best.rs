@@ -1,0 +1,127 @@
+//! Best entries and the publication, from what the history gives for one symbol.
+
+use std::cmp::Ordering;
+
+use super::account::Account;
+use super::fields::Side;
+use crate::terms::PUBLICATION_LEN;
+
+/// What is ranked, with the name that is published. A last tie goes to the lower name: the lower
+/// maker name, or the lowest letter, which a letter's name begins with.
+#[derive(Clone, Debug)]
+struct Candidate {
+    name: [u8; 4],
+    price: u64,
+    size: u32,
+    time: u64,
+}
+
+/// "Highest bid or lowest offer, then larger size, earlier time, lower maker name": less is better.
+fn order(side: Side, a: &Candidate, b: &Candidate) -> Ordering {
+    let price = match side {
+        Side::Bid => b.price.cmp(&a.price),
+        Side::Offer => a.price.cmp(&b.price),
+    };
+    price
+        .then(b.size.cmp(&a.size))
+        .then(a.time.cmp(&b.time))
+        .then(a.name.cmp(&b.name))
+}
+
+fn best(side: Side, mut candidates: Vec<Candidate>) -> Option<Candidate> {
+    candidates.sort_by(|a, b| order(side, a, b));
+    candidates.into_iter().next()
+}
+
+/// "FINRA best: over makers' counting sides." With it goes that maker's condition.
+fn finra_best(account: &Account, side: Side) -> Option<(Candidate, u8)> {
+    let makers = account.makers();
+    let counting = makers.iter().filter(|(_, quote)| quote.counts(side));
+    let candidates = counting.map(|(name, quote)| Candidate {
+        name: [name[0], name[1], name[2], name[3]],
+        price: quote.side(side).price,
+        size: quote.side(side).size,
+        time: quote.time,
+    });
+    let best = best(side, candidates.collect())?;
+    let (_, quote) = makers.iter().find(|(name, _)| name[..] == best.name)?;
+    Some((best, quote.condition))
+}
+
+/// "National best: the same over letters, D standing with its FINRA best and that maker's
+/// condition; a last tie goes to the lowest letter."
+fn national_best(account: &Account, side: Side) -> Option<Candidate> {
+    let mut candidates = Vec::new();
+    for letter in b'A'..=b'Z' {
+        if letter == b'D' {
+            if let Some((finra, condition)) = finra_best(account, side) {
+                candidates.push(Candidate {
+                    name: [b'D', condition, b' ', b' '],
+                    ..finra
+                });
+            }
+        } else if let Some(quote) = account.quote(letter).filter(|quote| quote.counts(side)) {
+            candidates.push(Candidate {
+                name: [letter, quote.condition, b' ', b' '],
+                price: quote.side(side).price,
+                size: quote.side(side).size,
+                time: quote.time,
+            });
+        }
+    }
+    best(side, candidates)
+}
+
+/// "Odd best: over all letters' levels priced above the national bid (below the national offer;
+/// any level if that side has none)."
+fn odd_best(account: &Account, side: Side) -> Option<Candidate> {
+    let national = national_best(account, side);
+    let is_inside = |price: u64| match (&national, side) {
+        (None, _) => true,
+        (Some(national), Side::Bid) => price > national.price,
+        (Some(national), Side::Offer) => price < national.price,
+    };
+    let mut candidates = Vec::new();
+    for letter in b'A'..=b'Z' {
+        for level in account.levels(letter, side) {
+            if is_inside(level.price) {
+                candidates.push(Candidate {
+                    name: [letter, b' ', b' ', b' '],
+                    price: level.price,
+                    size: level.shares,
+                    time: level.time,
+                });
+            }
+        }
+    }
+    best(side, candidates)
+}
+
+/// The 96 bytes: national bid, offer, FINRA bid, offer, odd bid, offer.
+pub fn publication(account: &Account) -> [u8; PUBLICATION_LEN] {
+    let entries = [
+        national_best(account, Side::Bid),
+        national_best(account, Side::Offer),
+        finra_best(account, Side::Bid).map(|(best, _)| best),
+        finra_best(account, Side::Offer).map(|(best, _)| best),
+        odd_best(account, Side::Bid),
+        odd_best(account, Side::Offer),
+    ];
+    let mut bytes = Vec::new();
+    for entry in entries {
+        match entry {
+            Some(best) => {
+                bytes.extend(best.name);
+                bytes.extend(best.price.to_be_bytes());
+                bytes.extend(best.size.to_be_bytes());
+            }
+            None => {
+                bytes.extend([b' '; 4]);
+                bytes.extend([0; 12]);
+            }
+        }
+    }
+    let mut publication = [0; PUBLICATION_LEN];
+    publication.copy_from_slice(&bytes);
+    publication
+}

@@ -1,0 +1,243 @@
+//! The reviewer of document 01 ("The reviewer's history").
+//!
+//! It holds n, the symbols with their round lots, the lines, the day and a history: the bytes of
+//! each accepted message, and of a partly accepted Q K its round part. It keeps no quotes, makers,
+//! levels or entries. Whatever it answers is worked out anew from the history, by the plainest way.
+
+mod account;
+mod best;
+mod block;
+mod fields;
+mod judge;
+
+use crate::quote_book::{QuoteBook, Report};
+use crate::terms::{number, ANSWER_LEN, ENTRY_LEN, LINES, PUBLICATION_LEN, ROUND_LOTS};
+use account::Account;
+use best::publication;
+use fields::{is_symbol, symbol_of, Kind};
+use judge::is_partly_accepted;
+
+/// The reviewer of one book.
+pub struct Reviewer {
+    n: u32,
+    symbols: Vec<Listed>,
+    lines: Vec<Line>,
+    day_open: bool,
+    history: Vec<Vec<u8>>,
+}
+
+/// A listed symbol.
+struct Listed {
+    symbol: Vec<u8>,
+    round_lot: u32,
+}
+
+/// A line's record; a line without a letter is not open.
+#[derive(Clone)]
+struct Line {
+    letter: Option<u8>,
+    expected: u32,
+    count: u64,
+}
+
+/// "An opened line begins with 1 and 0."
+const NEW_LINE: Line = Line {
+    letter: None,
+    expected: 1,
+    count: 0,
+};
+
+impl Reviewer {
+    /// The reviewer starts with the make that gave the fresh book: none if n is not 1 to 64.
+    pub fn fresh(n: u32) -> Option<Reviewer> {
+        if !(1..=64).contains(&n) {
+            return None;
+        }
+        Some(Reviewer {
+            n,
+            symbols: Vec::new(),
+            lines: vec![NEW_LINE; LINES],
+            day_open: false,
+            history: Vec::new(),
+        })
+    }
+
+    fn listed(&self, symbol: &[u8]) -> Option<&Listed> {
+        self.symbols.iter().find(|listed| listed.symbol == symbol)
+    }
+
+    /// The 96 bytes that the history gives for a symbol.
+    fn publication(&self, symbol: &[u8]) -> [u8; PUBLICATION_LEN] {
+        publication(&Account::of(&self.history, symbol))
+    }
+
+    /// Works one message: its code and flags. What is accepted of it goes into the history.
+    fn work(&mut self, letter: u8, message: &[u8]) -> (u8, u8) {
+        let code = judge::code(letter, message, &self.symbols, &self.history);
+        let part = if code == 0 {
+            message
+        } else if is_partly_accepted(message, code) {
+            &message[..56]
+        } else {
+            return (code, 0);
+        };
+        let before = self.publications_concerned(message);
+        self.history.push(part.to_vec());
+        let after = self.publications_concerned(message);
+        (code, changes(&before, &after))
+    }
+
+    /// The publications whose changes a message's flags tell: its symbol's, and for FINRA Open and
+    /// Close every symbol's.
+    fn publications_concerned(&self, message: &[u8]) -> Vec<[u8; PUBLICATION_LEN]> {
+        let kind = Kind::of(message);
+        let in_any_symbol = matches!(kind, Some(Kind::FinraClose | Kind::FinraOpen));
+        let named = symbol_of(message);
+        self.symbols
+            .iter()
+            .filter(|listed| in_any_symbol || named == Some(&listed.symbol))
+            .map(|listed| self.publication(&listed.symbol))
+            .collect()
+    }
+}
+
+/// 1 national bid, 2 national offer, 4 FINRA bid, 8 FINRA offer, 16 odd bid, 32 odd offer, set
+/// exactly if that entry changed in one of the publications.
+fn changes(before: &[[u8; PUBLICATION_LEN]], after: &[[u8; PUBLICATION_LEN]]) -> u8 {
+    let mut flags = 0;
+    for (old, new) in before.iter().zip(after) {
+        for (i, flag) in [1, 2, 4, 8, 16, 32].into_iter().enumerate() {
+            let entry = i * ENTRY_LEN..(i + 1) * ENTRY_LEN;
+            if old[entry.clone()] != new[entry] {
+                flags |= flag;
+            }
+        }
+    }
+    flags
+}
+
+impl QuoteBook for Reviewer {
+    fn make(&mut self, n: u32) -> u8 {
+        if !(1..=64).contains(&n) {
+            return number::MAKE;
+        }
+        if n != self.n {
+            // The lent memory has the length of the fresh book's n.
+            return number::MAKE;
+        }
+        self.symbols.clear();
+        self.lines = vec![NEW_LINE; LINES];
+        self.day_open = false;
+        self.history.clear();
+        number::DONE
+    }
+
+    fn add_symbol(&mut self, symbol: &[u8], round_lot: u32) -> u8 {
+        if !is_symbol(symbol) {
+            return number::SYMBOL_MALFORMED;
+        }
+        if !ROUND_LOTS.contains(&round_lot) {
+            return number::ROUND_LOT;
+        }
+        if self.listed(symbol).is_some() {
+            return number::SYMBOL_LISTED;
+        }
+        if self.symbols.len() as u32 >= self.n {
+            return number::BOOK_FULL;
+        }
+        self.symbols.push(Listed {
+            symbol: symbol.to_vec(),
+            round_lot,
+        });
+        number::DONE
+    }
+
+    fn open_line(&mut self, line: u32, letter: u8) -> u8 {
+        if line > 63 || !letter.is_ascii_uppercase() || letter == b'S' {
+            return number::LINE_OR_LETTER;
+        }
+        let record = &mut self.lines[line as usize];
+        if record.letter.is_some() {
+            return number::LINE_OPEN;
+        }
+        *record = Line {
+            letter: Some(letter),
+            ..NEW_LINE
+        };
+        number::DONE
+    }
+
+    fn start_day(&mut self) -> u8 {
+        if self.day_open {
+            return number::DAY_OPEN;
+        }
+        self.history.clear();
+        for line in &mut self.lines {
+            line.expected = 1;
+            line.count = 0;
+        }
+        self.day_open = true;
+        number::DONE
+    }
+
+    fn end_day(&mut self) -> u8 {
+        if !self.day_open {
+            return number::DAY_CLOSED;
+        }
+        self.day_open = false;
+        number::DONE
+    }
+
+    fn take_block(&mut self, line: u32, block: &[u8], answer: &mut [u8]) -> Report {
+        let mut report = Report::default();
+        if answer.len() < ANSWER_LEN {
+            report.number = number::BUFFER_SHORT;
+            return report;
+        }
+        let Some(letter) = self.lines.get(line as usize).and_then(|line| line.letter) else {
+            report.number = number::LINE_NOT_OPEN;
+            return report;
+        };
+        let expected = self.lines[line as usize].expected;
+        match block::check(block, self.day_open, expected) {
+            Err(number) => report.number = number,
+            Ok(taken) => {
+                report.number = if taken.gap == 0 { 0 } else { number::GAP };
+                report.gap = taken.gap;
+                for (i, message) in taken.messages.iter().enumerate() {
+                    let (code, flags) = self.work(letter, message);
+                    answer[4 * i] = i as u8;
+                    answer[4 * i + 1] = code;
+                    answer[4 * i + 2] = flags;
+                    answer[4 * i + 3] = 0;
+                    if code == 0 {
+                        report.accepted += 1;
+                    } else if is_partly_accepted(message, code) {
+                        report.partly += 1;
+                    } else {
+                        report.rejected += 1;
+                    }
+                }
+                if let Some(next) = taken.next_expected {
+                    let record = &mut self.lines[line as usize];
+                    record.expected = next;
+                    record.count = record.count.wrapping_add(taken.messages.len() as u64);
+                }
+            }
+        }
+        report.expected = self.lines[line as usize].expected;
+        report.count = self.lines[line as usize].count;
+        report
+    }
+
+    fn read(&self, symbol: &[u8], publication: &mut [u8]) -> u8 {
+        if publication.len() < PUBLICATION_LEN {
+            return number::BUFFER_SHORT;
+        }
+        if !is_symbol(symbol) || self.listed(symbol).is_none() {
+            return number::SYMBOL_UNKNOWN;
+        }
+        publication[..PUBLICATION_LEN].copy_from_slice(&self.publication(symbol));
+        number::DONE
+    }
+}
