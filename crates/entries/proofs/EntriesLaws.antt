@@ -1,7 +1,7 @@
 -- The walk gives the page's six entries: makers and letters one after another, one level for each letter and side.
 -- Assumes nothing.
 use Prim.Native.Nat.{ℕ, _+_, _^_, _≤_, _<_}
-use mathlib.Core.Path.{_≡_, refl, sym, ap, ap₂, _∙_, fun-ext}
+use mathlib.Core.Path.{_≡_, refl, sym, ap, ap₂, _∙_}
 use mathlib.Core.Bool.{Bool, true, false, _&&_, cond}
 use mathlib.Core.List.{List, [], _∷_, map}
 use mathlib.Core.Option.{Option, none, some}
@@ -9,19 +9,18 @@ use native.Mathlib.Omega.{arith}
 use native.Mathlib.Nat.{lt-of-lt-of-le, pow-le-pow-right, min-le-left}
 use lib.Dec.{eqb, ltb}
 use lib.ListN.{length, take, drop, length-take}
-use borrow.Author.Tests.{eqb-false, ltb-true}
+use borrow.Author.Tests.{ltb-true}
 use Rattle.lists.specs.Lists.{member, mapOption, bindOption, consOption, collect, gather, range, upper}
-use Rattle.field.specs.Field.{Bytes, be, part, field}
+use Rattle.field.specs.Field.{Bytes, part, field}
 use Rattle.field.proofs.Laws.{be-lt, bytes-part}
 use Rattle.ranking.specs.declared.Side.{Side}
 use Rattle.ranking.specs.declared.Side.the-variants.{Bid, Offer}
 use Rattle.ranking.specs.declared.Candidate.{Candidate}
 use Rattle.ranking.specs.declared.Sides.{Sides}
 use Rattle.ranking.specs.Ranking.{better, best}
-use Rattle.ranking.specs.Choice.{noCandidate, orNone, live, ofSide, bothSides, noSides, sidesFrom, beyondOf}
+use Rattle.ranking.specs.Choice.{orNone, live, ofSide, bothSides, noSides, sidesFrom, beyondOf}
 use Rattle.ranking.proofs.OrderLaws.{keep}
-use Rattle.ranking.proofs.Bridge.{Counting, OrCounting, live-back, sides-best, best-counts}
-use Rattle.quote.specs.declared.Level.{Level}
+use Rattle.ranking.proofs.Bridge.{OrCounting, live-counts, live-back, sides-best, best-counts}
 use Rattle.quote.specs.declared.Quote.{Quote}
 use Rattle.quote.specs.Quote.{noQuote, sideOf, admits, counts, levelCandidate, candidateOf, levelIn, quoteIn}
 use Rattle.levels.specs.Levels.{emptyCell, sideLevels, noLevels, levelsIn}
@@ -30,7 +29,7 @@ use Rattle.entries.specs.declared.BestEntries.{BestEntries}
 use Rattle.entries.specs.Entries.{Entries, letters, asD, makerCandidate, finraBest, letterCandidate, nationalBest, oddCandidate, letterLevels, oddBest, entriesBy, entriesOf}
 use Rattle.entries.specs.Page.{slotAt, cellAt, quotesIn, levelsFor, makerIn, makersIn, same, occupied, pageEntries}
 use Rattle.entries.specs.Walk.{inQuote, inLevels, makerAt, letterAt, firstOf, firstAt, orNones, noTops, topsFrom, bestsOf}
-use Rattle.entries.proofs.ReadLaws.{level-at, quote-side, maker-at, first-level}
+use Rattle.entries.proofs.ReadLaws.{level-at, quote-side, maker-at, first-level, cell-live}
 use Rattle.entries.proofs.OddLaws.{collect-bind, page-falls, far, odd-once, beyond-is}
 
 both-same : {f g : Side → Candidate} → ((s : Side) → f s ≡ g s) → bothSides f ≡ bothSides g
@@ -105,13 +104,7 @@ module _ (p : List ℕ) (b : Bytes p) where
       go false false false = candidate-counts s l noQuote (no-quote s)
 
   level-counts : (l at : ℕ) → OrCounting (mapOption (levelCandidate l 32) (cond (emptyCell (levelIn (part p at 20))) none (some (levelIn (part p at 20)))))
-  level-counts l at = go (eqb (levelIn (part p at 20) .price) 0) refl (eqb (levelIn (part p at 20) .size) 0) refl
-    where
-      go : (t : Bool) → eqb (levelIn (part p at 20) .price) 0 ≡ t → (u : Bool) → eqb (levelIn (part p at 20) .size) 0 ≡ u
-          → OrCounting (mapOption (levelCandidate l 32) (cond (cond t true u) none (some (levelIn (part p at 20)))))
-      go true e u f = tt
-      go false e true f = tt
-      go false e false f = record { price = eqb-false _ _ e; size = eqb-false _ _ f; fits = price-below p at b }
+  level-counts l at = rw (cell-live l (levelIn (part p at 20))) (live-counts (levelCandidate l 32 (levelIn (part p at 20))) (price-below p at b))
 
   first-counts : (s : Side) (l : ℕ) → OrCounting (firstAt p s l)
   unfolding firstAt letterLevels levelsFor

@@ -1,27 +1,19 @@
 -- Writing the entries moves no quote, maker or level; and a page with nothing in it has six entries of none.
 -- Assumes nothing.
-use Prim.Native.Nat.{ℕ, zero, suc, _+_, _*_, _-_, _^_, _≤_, _<_}
-use mathlib.Core.Path.{_≡_, refl, sym, ap, ap₂, _∙_, fun-ext}
-use mathlib.Core.Bool.{Bool, true, false, _&&_, cond}
-use mathlib.Core.List.{List, [], _∷_, _++_, map}
-use mathlib.Core.Option.{Option, none, some}
+use Prim.Native.Nat.{ℕ, _+_, _≤_}
+use mathlib.Core.Path.{_≡_, sym, ap, _∙_, fun-ext}
+use mathlib.Core.Bool.{cond}
+use mathlib.Core.List.{List, map}
+use mathlib.Core.Option.{Option}
 use native.Mathlib.Omega.{arith}
-use lib.Dec.{eqb}
-use lib.ListN.{length, getD, take, drop}
-use lib.Seq.{getD-drop}
-use Rattle.lists.specs.Lists.{member, mapOption, collect, gather, range, upper}
-use Rattle.field.specs.Field.{Bytes, be, part, field, splice}
+use lib.ListN.{length}
+use Rattle.lists.specs.Lists.{range, upper}
+use Rattle.field.specs.Field.{Bytes, part, splice}
 use Rattle.field.proofs.Laws.{length-splice, part-before, part-behind, part-put, splice-part, bytes-splice}
-use Rattle.ranking.specs.declared.Side.{Side}
-use Rattle.ranking.specs.declared.Side.the-variants.{Bid, Offer}
-use Rattle.ranking.specs.declared.Candidate.{Candidate}
-use Rattle.ranking.specs.Ranking.{better, best}
-use Rattle.quote.specs.declared.Level.{Level}
-use Rattle.quote.specs.declared.Quote.{Quote}
-use Rattle.quote.specs.Quote.{noLevel, noQuote, sideOf, counts, candidateOf, levelIn, quoteIn}
-use Rattle.levels.specs.Levels.{Standing, noLevels, sideLevels, ranked, cellsIn, sideIn, levelsIn}
-use Rattle.entries.specs.Entries.{Maker, Entries, letters, finraBest, letterCandidate, nationalBest, oddCandidate, letterLevels, oddBest, entriesBy, entriesOf}
-use Rattle.entries.specs.Publication.{noEntry, noEntries, publication}
+use Rattle.quote.specs.Quote.{noQuote, quoteIn}
+use Rattle.levels.specs.Levels.{noLevels, levelsIn}
+use Rattle.entries.specs.Entries.{Maker, entriesOf}
+use Rattle.entries.specs.Publication.{publication}
 use Rattle.entries.specs.Page.{slotAt, cellAt, quotesIn, levelsFor, makerIn, makersIn, occupied, pageEntries, refreshed}
 use Rattle.entries.proofs.PublicationLaws.{length-publication, bytes-publication}
 

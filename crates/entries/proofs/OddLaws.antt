@@ -14,14 +14,14 @@ use Rattle.ranking.specs.declared.Side.the-variants.{Bid, Offer}
 use Rattle.ranking.specs.declared.Candidate.{Candidate}
 use Rattle.ranking.specs.Ranking.{ahead, better, pick, best}
 use Rattle.ranking.specs.Choice.{rankOf, noCandidate, orNone, beyondOf}
-use Rattle.ranking.proofs.OrderLaws.{Weak, Top, best-top, keep, best-keep}
+use Rattle.ranking.proofs.OrderLaws.{Top, best-top, keep, best-keep}
 use Rattle.ranking.proofs.RankingLaws.{better-weak, better-ahead, better-not-ahead, ahead-chain, ahead-up}
 use Rattle.ranking.proofs.ChoiceLaws.{rank-zero}
-use Rattle.ranking.proofs.Bridge.{Counting, OrCounting, rank-ahead, rank-some}
+use Rattle.ranking.proofs.Bridge.{OrCounting, rank-ahead, rank-some}
 use Rattle.quote.specs.declared.Level.{Level}
 use Rattle.quote.specs.Quote.{levelCandidate}
-use Rattle.levels.specs.Levels.{Standing, sideLevels, noLevels, emptyCell, behind, ranked, cellsIn, sideIn, levelsIn}
-use Rattle.entries.specs.Entries.{letters, beyond, oddCandidate, letterLevels, oddBest}
+use Rattle.levels.specs.Levels.{sideLevels, noLevels, emptyCell, behind, ranked, cellsIn, sideIn, levelsIn}
+use Rattle.entries.specs.Entries.{beyond, oddCandidate, letterLevels}
 use Rattle.entries.specs.Page.{slotAt, levelsFor}
 use Rattle.entries.specs.Walk.{firstOf}
 use Rattle.field.specs.Field.{part}

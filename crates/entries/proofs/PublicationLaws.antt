@@ -1,23 +1,21 @@
 -- The publication's bytes and flags, as the code makes them: one law for each `return`. Its length, and that its elements are bytes.
 -- Assumes nothing.
-use Prim.Native.Nat.{ℕ, zero, suc, _+_, _*_, _/_, _%_, _^_, _≤_, _<_}
+use Prim.Native.Nat.{ℕ, zero, suc, _+_, _*_, _/_, _%_, _^_, _<_}
 use mathlib.Core.Path.{_≡_, refl, sym, ap, ap₂, _∙_}
 use mathlib.Core.Bool.{Bool, true, false, _&&_, cond}
 use mathlib.Core.List.{List, [], _∷_, _++_}
 use mathlib.Core.Option.{Option, none, some}
 use native.Mathlib.Omega.{arith}
-use lib.Dec.{eqb, lit≤, lit<}
+use lib.Dec.{eqb, lit<}
 use lib.ListN.{length, getD, replicate, length-append, length-replicate}
 use borrow.Author.Tests.{eq-eqb, ne-eqb}
-use Rattle.field.specs.Field.{Bytes, be, part, field, splice, beBytes}
+use Rattle.field.specs.Field.{Bytes, part, field, splice, beBytes}
 use Rattle.field.proofs.Laws.{be-beBytes, length-beBytes, bytes-beBytes, bytes-append, field-part, splice-join}
-use Rattle.ranking.specs.declared.Side.{Side}
 use Rattle.ranking.specs.declared.Side.the-variants.{Bid, Offer}
 use Rattle.ranking.specs.declared.Candidate.{Candidate}
-use Rattle.ranking.specs.Choice.{orNone, ofSide}
+use Rattle.ranking.specs.Choice.{orNone}
 use Rattle.ranking.proofs.Bridge.{OrCounting}
 use Rattle.entries.specs.declared.Entry.{Entry}
-use Rattle.entries.specs.declared.EntrySides.{EntrySides}
 use Rattle.entries.specs.declared.Published.{Published}
 use Rattle.entries.specs.declared.BestEntries.{BestEntries}
 use Rattle.entries.specs.Entries.{Entries}
@@ -29,14 +27,22 @@ use Rattle.entries.proofs.EntriesLaws.{SixCount, six-count}
 
 -- ---- one entry
 
-module _ (name : Candidate → List ℕ) (c : Candidate) where
-  pub entry-none : c .price ≡ 0 → bytesOf (record { name = 538976288; price = 0; size = 0 }) ≡ entryBytes name (priced c)
+module _ (c : Candidate) (n : ℕ) where
+  pub named-none : c .price ≡ 0 → bytesOf (record { name = 538976288; price = 0; size = 0 }) ≡ entryBytes (λ c. beBytes 4 n) (priced c)
   unfolding priced bytesOf noEntry beBytes
-  entry-none e = rw (eq-eqb (c .price) 0 e)
+  named-none e = rw (eq-eqb (c .price) 0 e)
 
-  pub entry-some : (n : ℕ) → (c .price ≡ 0 → ⊥) → beBytes 4 n ≡ name c → bytesOf (record { name = n; price = c .price; size = c .size }) ≡ entryBytes name (priced c)
+  pub named-some : (c .price ≡ 0 → ⊥) → bytesOf (record { name = n; price = c .price; size = c .size }) ≡ entryBytes (λ c. beBytes 4 n) (priced c)
   unfolding priced bytesOf
-  entry-some n z e = rw (ne-eqb (c .price) 0 z) (ap (λ (b : List ℕ). b ++ (beBytes 8 (c .price) ++ beBytes 4 (c .size))) e)
+  named-some z = rw (ne-eqb (c .price) 0 z)
+
+  pub named-as : (name : Candidate → List ℕ) (r : Entry) → beBytes 4 n ≡ name c → bytesOf r ≡ entryBytes (λ c. beBytes 4 n) (priced c) → bytesOf r ≡ entryBytes name (priced c)
+  unfolding priced
+  named-as name r e er = er ∙ go (eqb (c .price) 0)
+    where
+      go : (t : Bool) → entryBytes (λ c. beBytes 4 n) (cond t none (some c)) ≡ entryBytes name (cond t none (some c))
+      go true = refl
+      go false = ap (λ (b : List ℕ). b ++ (beBytes 8 (c .price) ++ beBytes 4 (c .size))) e
 
 pub national-name : (n c : ℕ) → c < 256 → beBytes 4 (n % 256 * 16777216 + c * 65536 + 8224) ≡ beBytes 1 n ++ beBytes 1 c ++ (32 ∷ 32 ∷ [])
 unfolding beBytes
@@ -143,11 +149,13 @@ pub put-three : (p : List ℕ) (at : ℕ) (e : Entry) → splice (splice (splice
 unfolding bytesOf beBytes
 put-three p at e = rw (splice-join p at 4 _ _ refl, splice-join p at 12 _ _ refl)
 
-pub put-six : (p : List ℕ) (x : Published) →
-    splice (splice (splice (splice (splice (splice p 12 (bytesOf (x .national .bid))) 28 (bytesOf (x .national .offer)))
-    44 (bytesOf (x .finra .bid))) 60 (bytesOf (x .finra .offer))) 76 (bytesOf (x .odd .bid))) 92 (bytesOf (x .odd .offer)) ≡ splice p 12 (publishedBytes x)
+-- one entry after another
+pub put-six : (x : Published) (p a b c d e f : List ℕ) → a ≡ splice p 12 (bytesOf (x .national .bid)) → b ≡ splice a 28 (bytesOf (x .national .offer))
+    → c ≡ splice b 44 (bytesOf (x .finra .bid)) → d ≡ splice c 60 (bytesOf (x .finra .offer)) → e ≡ splice d 76 (bytesOf (x .odd .bid))
+    → f ≡ splice e 92 (bytesOf (x .odd .offer)) → f ≡ splice p 12 (publishedBytes x)
 unfolding publishedBytes bytesOf beBytes
-put-six p x = rw (splice-join p 12 16 _ _ refl, splice-join p 12 32 _ _ refl, splice-join p 12 48 _ _ refl, splice-join p 12 64 _ _ refl, splice-join p 12 80 _ _ refl)
+put-six x p a b c d e f ea eb ec ed ee ef =
+    rw (ef, ee, ed, ec, eb, ea, splice-join p 12 16 _ _ refl, splice-join p 12 32 _ _ refl, splice-join p 12 48 _ _ refl, splice-join p 12 64 _ _ refl, splice-join p 12 80 _ _ refl)
 
 -- ---- the whole
 

@@ -1,27 +1,27 @@
 -- Where the numbers of a level, a quote, a maker and a letter's levels stand in a page.
 -- Assumes nothing.
-use Prim.Native.Nat.{ℕ, _+_, _*_, _-_, _≤_, _<_}
+use Prim.Native.Nat.{ℕ, _+_, _≤_, _<_}
 use mathlib.Core.Path.{_≡_, refl, sym, ap, _∙_}
-use mathlib.Core.Bool.{Bool, true, false, _&&_, cond}
+use mathlib.Core.Bool.{Bool, true, false, cond}
 use mathlib.Core.List.{List, [], _∷_}
-use mathlib.Core.Option.{Option, none, some}
+use mathlib.Core.Option.{none, some}
 use native.Mathlib.Omega.{arith}
-use lib.Dec.{eqb, leb, lit≤}
+use lib.Dec.{eqb, lit≤}
 use native.Mathlib.Nat.{add-zero}
 use lib.ListN.{take, drop}
 use borrow.Author.Tests.{ne-eqb, le-leb}
-use Rattle.lists.specs.Lists.{member, upper}
+use Rattle.lists.specs.Lists.{member, upper, mapOption}
 use Rattle.field.specs.Field.{part, field}
 use Rattle.field.proofs.Laws.{part-part, field-part, field-part-0}
 use Rattle.ranking.specs.declared.Side.{Side}
 use Rattle.ranking.specs.declared.Side.the-variants.{Bid, Offer}
 use Rattle.quote.specs.declared.Level.{Level}
-use Rattle.quote.specs.declared.Quote.{Quote}
-use Rattle.quote.specs.Quote.{noQuote, sideOf, levelIn, quoteIn}
-use Rattle.levels.specs.Levels.{sideLevels, noLevels, emptyCell, behind, ranked, cellsIn, sideIn, levelsIn}
-use Rattle.entries.specs.Entries.{Maker, letterLevels}
+use Rattle.ranking.specs.Choice.{live}
+use Rattle.quote.specs.Quote.{levelCandidate, sideOf, levelIn, quoteIn}
+use Rattle.levels.specs.Levels.{sideLevels, emptyCell, ranked, cellsIn, sideIn, levelsIn}
+use Rattle.entries.specs.Entries.{letterLevels}
 use Rattle.entries.specs.Page.{slotAt, quotesIn, levelsFor, makerIn}
-use Rattle.entries.specs.Walk.{inQuote, inLevels, firstOf}
+use Rattle.entries.specs.Walk.{inQuote, inLevels, firstOf, firstAt}
 
 module _ (p : List ℕ) (at : ℕ) where
   pub level-at : _≡_ {A = Level} (levelIn (part p at 20)) (record { price = field p at 8; size = field p (at + 8) 4; time = field p (at + 12) 8 })
@@ -66,6 +66,16 @@ first-level p at s =
     side Bid = ap (sideIn Bid) (part-part p at 160 0 80 (lit≤ tt))
     side Offer = ap (sideIn Offer) (part-part p at 160 80 80 (lit≤ tt))
 
+-- a cell that is not empty counts
+pub cell-live : (l : ℕ) (v : Level) → mapOption (levelCandidate l 32) (cond (emptyCell v) none (some v)) ≡ live (levelCandidate l 32 v)
+unfolding live
+cell-live l v = go (eqb (v .price) 0) (eqb (v .size) 0)
+  where
+    go : (t u : Bool) → mapOption (levelCandidate l 32) (cond (cond t true u) none (some v)) ≡ cond t none (cond u none (some (levelCandidate l 32 v)))
+    go true u = refl
+    go false true = refl
+    go false false = refl
+
 -- ---- a letter A to Z
 
 module _ (p : List ℕ) (l : ℕ) (h : 65 ≤ l) (k : l < 91) where
@@ -76,7 +86,6 @@ module _ (p : List ℕ) (l : ℕ) (h : 65 ≤ l) (k : l < 91) where
   unfolding quotesIn
   quotes-at = rw is-upper
 
-  pub first-of : (s : Side) → (l ≡ 83 → ⊥) → firstOf (letterLevels s (levelsFor p) l)
-      ≡ cond (emptyCell (levelIn (part p (slotAt l + 41 + inLevels s) 20))) none (some (levelIn (part p (slotAt l + 41 + inLevels s) 20)))
-  unfolding letterLevels levelsFor
-  first-of s n = rw (ne-eqb l 83 n, is-upper) (first-level p (slotAt l + 41) s)
+  pub first-at : (s : Side) → (l ≡ 83 → ⊥) → firstAt p s l ≡ live (levelCandidate l 32 (levelIn (part p (slotAt l + 41 + inLevels s) 20)))
+  unfolding firstAt letterLevels levelsFor
+  first-at s n = rw (ne-eqb l 83 n, is-upper) (ap (mapOption (levelCandidate l 32)) (first-level p (slotAt l + 41) s) ∙ cell-live l (levelIn (part p (slotAt l + 41 + inLevels s) 20)))

@@ -7,25 +7,23 @@ use mathlib.Core.List.{List, [], _∷_}
 use mathlib.Core.Option.{Option, none, some}
 use native.Mathlib.Omega.{arith}
 use lib.Dec.{eqb, ltb}
-use borrow.Author.Tests.{eq-eqb, ne-eqb, eqb-true, ltb-false}
-use Rattle.lists.specs.Lists.{member, mapOption, bindOption}
+use borrow.Author.Tests.{eq-eqb, ne-eqb, ltb-false}
+use Rattle.lists.specs.Lists.{member, mapOption}
 use Rattle.lists.proofs.Searches.{less-one}
 use Rattle.field.specs.Field.{part, field}
 use Rattle.ranking.specs.declared.Side.{Side}
 use Rattle.ranking.specs.declared.Side.the-variants.{Bid, Offer}
 use Rattle.ranking.specs.declared.Candidate.{Candidate}
 use Rattle.ranking.specs.declared.Sides.{Sides}
-use Rattle.ranking.specs.Choice.{rankOf, noCandidate, orNone, live, choose, ofSide, stepSides, sidesFrom, bestFrom}
-use Rattle.ranking.proofs.ChoiceLaws.{choose-none, choose-behind, choose-priceless, choose-sizeless, sides-again, sides-end}
-use Rattle.quote.specs.declared.Level.{Level}
+use Rattle.ranking.specs.Choice.{rankOf, noCandidate, orNone, live, choose, stepSides, sidesFrom, bestFrom}
+use Rattle.ranking.proofs.ChoiceLaws.{choose-none, choose-live, choose-behind, choose-priceless, choose-sizeless}
 use Rattle.quote.specs.declared.Quote.{Quote}
 use Rattle.quote.specs.Quote.{sideOf, admits, counts, levelCandidate, candidateOf, levelIn, quoteIn}
-use Rattle.levels.specs.Levels.{emptyCell}
 use Rattle.entries.specs.declared.Tops.{Tops}
 use Rattle.entries.specs.Entries.{asD, makerCandidate, letterCandidate, letterLevels}
-use Rattle.entries.specs.Page.{slotAt, cellAt, quotesIn, levelsFor, makerIn}
-use Rattle.entries.specs.Walk.{inQuote, inLevels, makerAt, letterAt, firstOf, firstAt, orNones, stepTops, topsFrom}
-use Rattle.entries.proofs.ReadLaws.{level-at, quote-side, quote-condition, maker-at, quotes-at, first-of}
+use Rattle.entries.specs.Page.{slotAt, cellAt}
+use Rattle.entries.specs.Walk.{inQuote, inLevels, makerAt, letterAt, firstAt, orNones, stepTops, topsFrom}
+use Rattle.entries.proofs.ReadLaws.{level-at, quote-side, quote-condition, maker-at, quotes-at, first-at}
 
 -- ---- a level
 
@@ -98,15 +96,12 @@ module _ (p : List ℕ) (k : ℕ) (t : Sides) (a c : ℕ) (u : Bool) (ea : a ≡
 
 choose-d : (s : Side) (b c : Candidate) → choose s b (asD c) ≡ choose s b (orNone (mapOption asD (live c)))
 unfolding live asD
-choose-d s b c = go (eqb (c .price) 0) refl (eqb (c .size) 0) refl
+choose-d s b c = choose-live s b (asD c) ∙ ap (λ (o : Option Candidate). choose s b (orNone o)) (go (eqb (c .price) 0) (eqb (c .size) 0))
   where
-    x : Candidate
-    x = record { name = 68; price = c .price; size = c .size; time = c .time; condition = c .condition }
-
-    go : (t : Bool) → eqb (c .price) 0 ≡ t → (u : Bool) → eqb (c .size) 0 ≡ u → choose s b x ≡ choose s b (orNone (mapOption asD (cond t none (cond u none (some c)))))
-    go true e u f = sym (choose-priceless s b x (eqb-true (c .price) 0 e)) ∙ choose-none s b
-    go false e true f = sym (choose-sizeless s b x (eqb-true (c .size) 0 f)) ∙ choose-none s b
-    go false e false f = refl
+    go : (t u : Bool) → cond t none (cond u none (some (asD c))) ≡ mapOption asD (cond t none (cond u none (some c)))
+    go true u = refl
+    go false true = refl
+    go false false = refl
 
 module _ (p : List ℕ) (f : Sides) (l : ℕ) (t : Sides) (rb ro : Candidate) where
   pub national-d : l ≡ 68 → (xb xo : Candidate) → xb ≡ asD (f .bid) → xo ≡ asD (f .offer) → rb ≡ choose Bid (t .bid) xb → ro ≡ choose Offer (t .offer) xo
@@ -126,20 +121,7 @@ module _ (p : List ℕ) (f : Sides) (l : ℕ) (t : Sides) (rb ro : Candidate) wh
 
 module _ (p : List ℕ) (l : ℕ) (h : 65 ≤ l) (k : l < 91) (n : l ≡ 83 → ⊥) where
   choose-first : (s : Side) (b : Candidate) → choose s b (levelCandidate l 32 (levelIn (part p (slotAt l + 41 + inLevels s) 20))) ≡ choose s b (orNone (firstAt p s l))
-  unfolding firstAt
-  choose-first s b = rw (first-of p l h k s n) (go (eqb (v .price) 0) refl (eqb (v .size) 0) refl)
-    where
-      v : Level
-      v = levelIn (part p (slotAt l + 41 + inLevels s) 20)
-
-      x : Candidate
-      x = levelCandidate l 32 v
-
-      go : (t : Bool) → eqb (v .price) 0 ≡ t → (u : Bool) → eqb (v .size) 0 ≡ u
-          → choose s b x ≡ choose s b (orNone (mapOption (levelCandidate l 32) (cond (cond t true u) none (some v))))
-      go true e u f = sym (choose-priceless s b x (eqb-true (v .price) 0 e)) ∙ choose-none s b
-      go false e true f = sym (choose-sizeless s b x (eqb-true (v .size) 0 f)) ∙ choose-none s b
-      go false e false f = refl
+  choose-first s b = rw (first-at p l h k s n) (choose-live s b (levelCandidate l 32 (levelIn (part p (slotAt l + 41 + inLevels s) 20))))
 
   pub first-read : (t : Sides) (a ob oo : ℕ) (rb ro : Candidate) → a ≡ slotAt l → ob ≡ inLevels Bid → oo ≡ inLevels Offer
       → rb ≡ choose Bid (t .bid) (levelCandidate l 32 (levelIn (part p (a + 41 + ob) 20)))

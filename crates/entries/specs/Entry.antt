@@ -1,12 +1,11 @@
 -- The published entries as the code holds them, in the words of Publication: for the contracts of its steps.
 -- Assumes nothing.
 use Prim.Native.Nat.{ℕ, _+_}
-use mathlib.Core.Bool.{Bool, true, false, _&&_, cond}
+use mathlib.Core.Bool.{Bool, _&&_, cond}
 use mathlib.Core.List.{List, _++_}
 use mathlib.Core.Option.{Option, none, some}
 use lib.Dec.{eqb}
 use Rattle.field.specs.Field.{field, beBytes}
-use Rattle.ranking.specs.declared.Side.{Side}
 use Rattle.ranking.specs.declared.Candidate.{Candidate}
 use Rattle.ranking.specs.Choice.{ofSide}
 use Rattle.entries.specs.declared.Entry.{Entry}

@@ -1,10 +1,8 @@
 -- What the walk looks at, one candidate after another, in the words of Entries and Page: for the contracts of its steps.
 -- Assumes nothing.
 use Prim.Native.Nat.{ℕ}
-use mathlib.Core.Bool.{Bool, true, false, cond}
 use mathlib.Core.List.{List, [], _∷_}
 use mathlib.Core.Option.{Option, none, some}
-use lib.Dec.{eqb}
 use Rattle.field.specs.Field.{part}
 use Rattle.lists.specs.Lists.{mapOption, bindOption}
 use Rattle.ranking.specs.declared.Side.{Side}

@@ -4,7 +4,7 @@ ghost use mathlib.Core.Bool.{cond};
 ghost use mathlib.Core.List.{[], _∷_};
 ghost use Prim.Native.Nat.{_+_, _≤_, _<_};
 ghost use lib.ListN.{length};
-ghost use Rattle.field.specs.Field.{part, splice};
+ghost use Rattle.field.specs.Field.{part, splice, beBytes};
 ghost use Rattle.lists.specs.Lists.{member};
 ghost use Rattle.ranking.specs.Choice.{orNone, choose, noSides, stepSides, sidesFrom};
 ghost use Rattle.quote.specs.Quote.{levelIn, quoteIn, levelCandidate, candidateOf};
@@ -14,7 +14,7 @@ ghost use Rattle.entries.specs.Page.{slotAt, cellAt, pageEntries, refres
 ghost use Rattle.entries.specs.Walk.{inQuote, inLevels, makerAt, letterAt, firstAt, orNones, noTops, stepTops, topsFrom, bestsOf};
 ghost use Rattle.entries.specs.Entry.{priced, entriesIn, bytesOf, publishedBytes, holds};
 use levels::Levels;
-use quote::Level;
+use quote::Quote;
 use ranking::Candidate;
 use ranking::Side;
 use ranking::Sides;
@@ -108,6 +108,7 @@ impl Entry {
     };
 }
 
+/// A published bid and offer.
 pub struct EntrySides {
     pub bid: Entry,
     pub offer: Entry,
@@ -166,8 +167,8 @@ fn in_quote(side: Side) -> usize
     ensures { λ r. ⌜ (r ≡ inQuote side) × (r ≤ 21) ⌝ }
 {
     match side {
-        Side::Bid => 1,
-        Side::Offer => 1 + Level::LEN,
+        Side::Bid => Quote::BID,
+        Side::Offer => Quote::OFFER,
     }
 }
 
@@ -193,6 +194,7 @@ fn with_level(
     requires { ⌜ at + 20 ≤ length (now page) ⌝ }
     ensures { λ r. ⌜ r ≡ choose side best (levelCandidate name condition (levelIn (part (now (page .entry)) at 20))) ⌝ }
 {
+    // price 8, size 4, time 8
     let price = field::get64(page, at);
     if ranking::is_behind(side, price, best) {
         return best;
@@ -229,6 +231,7 @@ fn with_quote(page: &[u8], at: usize, side: Side, name: u32, best: Candidate) ->
     best
 }
 
+// One maker cell more, both sides.
 fn with_maker(page: &[u8], k: usize, best: Sides) -> Sides
     requires { ⌜ length (now page) ≡ 6054 ⌝ }
     requires { ⌜ k < 16 ⌝ }
@@ -245,6 +248,7 @@ fn with_maker(page: &[u8], k: usize, best: Sides) -> Sides
     best
 }
 
+// The FINRA best, both sides.
 fn walk_makers(page: &[u8]) -> Sides
     requires { ⌜ length (now page) ≡ 6054 ⌝ }
     ensures { λ r. ⌜ r ≡ sidesFrom (orNones (makerAt (now (page .entry)))) 0 16 noSides ⌝ }
@@ -261,7 +265,7 @@ fn as_d(c: Candidate) -> Candidate
     ensures { λ r. ⌜ r ≡ asD c ⌝ }
 {
     Candidate {
-        name: 68,
+        name: Letter::D as u32,
         price: c.price,
         size: c.size,
         time: c.time,
@@ -269,10 +273,12 @@ fn as_d(c: Candidate) -> Candidate
     }
 }
 
-fn with_national(page: &[u8], letter: usize, finra: Sides, best: Sides) -> Sides
+// The round quote of one letter more, whose slot starts at `at`, both sides; D stands with its FINRA best.
+fn with_national(page: &[u8], at: usize, letter: usize, finra: Sides, best: Sides) -> Sides
     requires { ⌜ length (now page) ≡ 6054 ⌝ }
     requires { ⌜ (65 ≤ letter) × (letter < 91) ⌝ }
     requires { ⌜ (letter ≡ 83 → ⊥) ⌝ }
+    requires { ⌜ at ≡ slotAt letter ⌝ }
     ensures { λ r. ⌜ r ≡ stepSides (orNones (letterAt (now (page .entry)) finra)) letter best ⌝ }
 {
     if letter == Letter::D {
@@ -280,40 +286,42 @@ fn with_national(page: &[u8], letter: usize, finra: Sides, best: Sides) -> Sides
         let offer = ranking::choose(Side::Offer, best.offer, as_d(finra.offer));
         return Sides { bid, offer };
     }
-    let at = slot_at(letter);
     let name = letter as u32;
     let bid = with_quote(page, at, Side::Bid, name, best.bid);
     let offer = with_quote(page, at, Side::Offer, name, best.offer);
     Sides { bid, offer }
 }
 
-fn with_first(page: &[u8], letter: usize, best: Sides) -> Sides
+// The odd-lot levels of one letter more, both sides. They are read best first, so the first one is enough.
+fn with_first(page: &[u8], at: usize, letter: usize, best: Sides) -> Sides
     requires { ⌜ length (now page) ≡ 6054 ⌝ }
     requires { ⌜ (65 ≤ letter) × (letter < 91) ⌝ }
     requires { ⌜ (letter ≡ 83 → ⊥) ⌝ }
+    requires { ⌜ at ≡ slotAt letter ⌝ }
     ensures { λ r. ⌜ r ≡ stepSides (orNones (firstAt (now (page .entry)))) letter best ⌝ }
 {
-    let at = slot_at(letter) + Slot::LEVELS;
+    let levels = at + Slot::LEVELS;
     let name = letter as u32;
     let bid = with_level(
         page,
-        at + in_levels(Side::Bid),
+        levels + in_levels(Side::Bid),
         Side::Bid,
         name,
-        32,
+        b' ',
         best.bid,
     );
     let offer = with_level(
         page,
-        at + in_levels(Side::Offer),
+        levels + in_levels(Side::Offer),
         Side::Offer,
         name,
-        32,
+        b' ',
         best.offer,
     );
     Sides { bid, offer }
 }
 
+// One letter more.
 fn with_letter(page: &[u8], letter: usize, finra: Sides, tops: Tops) -> Tops
     requires { ⌜ length (now page) ≡ 6054 ⌝ }
     requires { ⌜ (65 ≤ letter) × (letter < 91) ⌝ }
@@ -322,11 +330,13 @@ fn with_letter(page: &[u8], letter: usize, finra: Sides, tops: Tops) -> Tops
     if letter == Letter::S {
         return tops;
     }
-    let national = with_national(page, letter, finra, tops.national);
-    let odd = with_first(page, letter, tops.odd);
+    let at = slot_at(letter);
+    let national = with_national(page, at, letter, finra, tops.national);
+    let odd = with_first(page, at, letter, tops.odd);
     Tops { national, odd }
 }
 
+// The letters in order. After each letter, the best of the letters so far.
 fn walk_letters(page: &[u8], finra: Sides) -> Tops
     requires { ⌜ length (now page) ≡ 6054 ⌝ }
     ensures { λ r. ⌜ r ≡ topsFrom (now (page .entry)) finra 65 26 noTops ⌝ }
@@ -349,6 +359,7 @@ pub fn walk_page(page: &[u8]) -> BestEntries
     let finra = walk_makers(page);
     let tops = walk_letters(page, finra);
     let national = tops.national;
+    // The best level is beyond the national best if any level is, so one test at the end is enough.
     let bid = ranking::beyond(Side::Bid, tops.national.bid, tops.odd.bid);
     let offer = ranking::beyond(Side::Offer, tops.national.offer, tops.odd.offer);
     let odd = Sides { bid, offer };
@@ -359,50 +370,45 @@ pub fn walk_page(page: &[u8]) -> BestEntries
     }
 }
 
-// Name: letter, condition, two spaces.
+// A candidate's entry under a name; none if there is none.
+fn named(name: u32, c: Candidate) -> Entry
+    ensures { λ r. ⌜ bytesOf r ≡ entryBytes (λ _. beBytes 4 name) (priced c) ⌝ }
+{
+    if c.price == 0 {
+        return Entry::NONE;
+    }
+    Entry {
+        name,
+        price: c.price,
+        size: c.size,
+    }
+}
+
+// Letter, condition, two spaces.
 fn national_entry(c: Candidate) -> Entry
     ensures { λ r. ⌜ bytesOf r ≡ entryBytes nationalName (priced c) ⌝ }
 {
-    if c.price == 0 {
-        return Entry::NONE;
-    }
-    let name = (c.name % 256) * 0x1000000 + (c.condition as u32) * 0x10000 + 0x2020;
-    Entry {
-        name,
-        price: c.price,
-        size: c.size,
-    }
+    named(
+        (c.name % 256) * 0x1000000 + (c.condition as u32) * 0x10000 + 0x2020,
+        c,
+    )
 }
 
-// Name: the maker's four bytes.
+// The maker's four bytes.
 fn finra_entry(c: Candidate) -> Entry
     ensures { λ r. ⌜ bytesOf r ≡ entryBytes finraName (priced c) ⌝ }
 {
-    if c.price == 0 {
-        return Entry::NONE;
-    }
-    Entry {
-        name: c.name,
-        price: c.price,
-        size: c.size,
-    }
+    named(c.name, c)
 }
 
-// Name: letter, three spaces.
+// Letter, three spaces.
 fn odd_entry(c: Candidate) -> Entry
     ensures { λ r. ⌜ bytesOf r ≡ entryBytes oddName (priced c) ⌝ }
 {
-    if c.price == 0 {
-        return Entry::NONE;
-    }
-    let name = (c.name % 256) * 0x1000000 + 0x202020;
-    Entry {
-        name,
-        price: c.price,
-        size: c.size,
-    }
+    named((c.name % 256) * 0x1000000 + 0x202020, c)
 }
 
+// The six entries as they are published.
 fn to_publish(e: BestEntries) -> Published
     ensures { λ r. ⌜ publishedBytes r ≡ publication (entriesIn e) ⌝ }
 {
@@ -440,6 +446,7 @@ fn flag(page: &[u8], at: usize, e: Entry, bit: u8) -> u8
     bit
 }
 
+// The flags of the entries that are not yet those of p.
 fn flags(page: &[u8], p: Published) -> u8
     requires { ⌜ length (now page) ≡ 6054 ⌝ }
     ensures { λ r. ⌜ r ≡ changeFlags (part (now (page .entry)) 12 96) (publishedBytes p) ⌝ }

@@ -1,24 +1,23 @@
 -- The two languages agree: the running choice over candidates, price 0 being none, finds the best of the list of those that count.
 -- Assumes nothing.
 use Prim.Native.Nat.{ℕ, zero, suc, _+_, _-_, _^_, _≤_, _<_}
-use mathlib.Core.Path.{_≡_, refl, sym, ap, ap₂, _∙_, fun-ext}
+use mathlib.Core.Path.{_≡_, refl, sym, ap, _∙_, fun-ext}
 use mathlib.Core.Bool.{Bool, true, false, cond}
 use mathlib.Core.List.{List, [], _∷_}
 use mathlib.Core.Option.{Option, none, some}
 use native.Mathlib.Omega.{arith}
 use native.Mathlib.Numerals.{add-one}
 use lib.Dec.{eqb, ltb}
-use borrow.Author.Tests.{eqb-true, eqb-false, ne-eqb, ltb-true, ltb-false, lt-ltb, le-ltb}
+use borrow.Author.Tests.{eqb-false, ne-eqb, ltb-true, ltb-false, lt-ltb, le-ltb}
 use Rattle.lists.specs.Lists.{collect, range}
 use Rattle.ranking.specs.declared.Side.{Side}
 use Rattle.ranking.specs.declared.Side.the-variants.{Bid, Offer}
 use Rattle.ranking.specs.declared.Candidate.{Candidate}
-use Rattle.ranking.specs.declared.Sides.{Sides}
-use Rattle.ranking.specs.Ranking.{ahead, first, lex, low, high, byPrice, bySize, byTime, byName, better, pick, best}
+use Rattle.ranking.specs.Ranking.{ahead, first, lex, low, high, byPrice, bySize, byTime, byName, better, best}
 use Rattle.ranking.specs.Choice.{rankOf, noCandidate, orNone, live, larger, byRest, beats, choose, bestFrom, bothSides, noSides, sidesFrom}
 use Rattle.ranking.proofs.OrderLaws.{either, best-cons, either-either}
 use Rattle.ranking.proofs.RankingLaws.{better-weak}
-use Rattle.ranking.proofs.ChoiceLaws.{rank-zero, choose-priceless, choose-sizeless, choose-ahead}
+use Rattle.ranking.proofs.ChoiceLaws.{rank-zero, choose-ahead, choose-none, choose-live}
 
 -- ---- ranks and prices
 
@@ -113,16 +112,12 @@ choose-counting s none x h k =
 choose-counting s (some c) x h k = choose-better s x c (k .price) (k .size) (h .price) (k .fits) (h .fits)
 
 pub choose-either : (s : Side) (o : Option Candidate) (x : Candidate) → OrCounting o → x .price < 2 ^ 64 → choose s (orNone o) x ≡ orNone (either (better s) o (live x))
-unfolding live
-choose-either s o x h k = go (eqb (x .price) 0) refl (eqb (x .size) 0) refl
+choose-either s o x h k = choose-live s (orNone o) x ∙ go o h (live x) (live-counts x k)
   where
-    alone : (o : Option Candidate) → orNone o ≡ orNone (either (better s) o none)
-    alone none = refl
-    alone (some c) = refl
-    go : (t : Bool) → eqb (x .price) 0 ≡ t → (u : Bool) → eqb (x .size) 0 ≡ u → choose s (orNone o) x ≡ orNone (either (better s) o (cond t none (cond u none (some x))))
-    go true e u f = sym (choose-priceless s (orNone o) x (eqb-true (x .price) 0 e)) ∙ alone o
-    go false e true f = sym (choose-sizeless s (orNone o) x (eqb-true (x .size) 0 f)) ∙ alone o
-    go false e false f = choose-counting s o x h (record { price = eqb-false (x .price) 0 e; size = eqb-false (x .size) 0 f; fits = k })
+    go : (o : Option Candidate) → OrCounting o → (y : Option Candidate) → OrCounting y → choose s (orNone o) (orNone y) ≡ orNone (either (better s) o y)
+    go none h none k = sym (choose-none s noCandidate)
+    go (some c) h none k = sym (choose-none s c)
+    go o h (some y) k = choose-counting s o y h k
 
 -- ---- the loop
 

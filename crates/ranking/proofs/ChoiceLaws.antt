@@ -3,16 +3,17 @@
 use Prim.Native.Nat.{ℕ, zero, suc, _+_, _-_, _%_, _^_, _≤_, _<_}
 use mathlib.Core.Path.{_≡_, refl, sym, ap, _∙_}
 use mathlib.Core.Bool.{Bool, true, false, cond}
+use mathlib.Core.Option.{none, some}
 use native.Mathlib.Omega.{arith}
 use native.Mathlib.Nat.{le-of-lt}
 use lib.Dec.{eqb, ltb}
-use borrow.Author.Tests.{eq-eqb, ne-eqb, lt-ltb, le-ltb, ltb-true}
+use borrow.Author.Tests.{eq-eqb, ne-eqb, eqb-true, lt-ltb, le-ltb, ltb-true}
 use Rattle.lists.proofs.Searches.{less-one}
 use Rattle.ranking.specs.declared.Side.{Side}
 use Rattle.ranking.specs.declared.Side.the-variants.{Bid, Offer}
 use Rattle.ranking.specs.declared.Candidate.{Candidate}
 use Rattle.ranking.specs.declared.Sides.{Sides}
-use Rattle.ranking.specs.Choice.{rankOf, noCandidate, larger, byRest, beats, choose, bestFrom, beyondOf, sidesFrom, stepSides}
+use Rattle.ranking.specs.Choice.{rankOf, noCandidate, orNone, live, larger, byRest, beats, choose, bestFrom, beyondOf, sidesFrom, stepSides}
 
 pub larger-more : (a b : ℕ) (r : Bool) → b < a → true ≡ larger a b r
 larger-more a b r h = rw (lt-ltb b a h)
@@ -22,6 +23,10 @@ larger-less a b r h = rw (le-ltb b a (le-of-lt h), lt-ltb a b h)
 
 pub larger-tie : (a b : ℕ) (r : Bool) → a ≤ b → b ≤ a → r ≡ larger a b r
 larger-tie a b r h k = rw (le-ltb b a h, le-ltb a b k)
+
+pub rest-by : (x b : Candidate) (n t z : Bool) → n ≡ larger (b .name) (x .name) false → t ≡ larger (b .time) (x .time) n → z ≡ larger (x .size) (b .size) t → z ≡ byRest x b
+unfolding byRest
+rest-by x b n t z en et ez = ez ∙ ap (larger (x .size) (b .size)) (et ∙ ap (larger (b .time) (x .time)) en)
 
 -- ---- ranks
 
@@ -36,6 +41,9 @@ rank-offer s p r e h k w = rw e (go p h w)
     go : (p : ℕ) → p < 2 ^ 64 → (r + p) % 2 ^ 64 ≡ 0 → r ≡ cond (eqb p 0) 0 (18446744073709551616 - p)
     go zero h w = omega arith
     go (suc p) h w = rw (ne-eqb (suc p) 0 (λ e. omega arith)) (omega arith)
+
+pub behind-by : (s : Side) (p q a b : ℕ) → a ≡ rankOf s p → b ≡ rankOf s q → ltb a b ≡ ltb (rankOf s p) (rankOf s q)
+behind-by s p q a b ea eb = rw (← ea, ← eb)
 
 pub rank-zero : (s : Side) → rankOf s 0 ≡ 0
 unfolding rankOf
@@ -81,6 +89,16 @@ module _ (s : Side) (b x : Candidate) where
 pub choose-none : (s : Side) (b : Candidate) → b ≡ choose s b noCandidate
 unfolding choose beats
 choose-none s b = refl
+
+-- what does not count is as none
+pub choose-live : (s : Side) (b x : Candidate) → choose s b x ≡ choose s b (orNone (live x))
+unfolding live
+choose-live s b x = go (eqb (x .price) 0) refl (eqb (x .size) 0) refl
+  where
+    go : (t : Bool) → eqb (x .price) 0 ≡ t → (u : Bool) → eqb (x .size) 0 ≡ u → choose s b x ≡ choose s b (orNone (cond t none (cond u none (some x))))
+    go true e u f = sym (choose-priceless s b x (eqb-true (x .price) 0 e)) ∙ choose-none s b
+    go false e true f = sym (choose-sizeless s b x (eqb-true (x .size) 0 f)) ∙ choose-none s b
+    go false e false f = refl
 
 pub beyond-by : (s : Side) (nat x : Candidate) (t : Bool) → t ≡ ltb (rankOf s (nat .price)) (rankOf s (x .price)) → (v : Bool) → t ≡ v → cond v x noCandidate ≡ beyondOf s nat x
 unfolding beyondOf

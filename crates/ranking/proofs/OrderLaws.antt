@@ -48,14 +48,14 @@ module _ {A : Type 0} (P Q : A → A → Bool) where
         asym = λ a b. first-asym (P a b) (P b a) (Q a b) (Q b a) (p .asym a b) (q .asym a b);
         steps =
             λ a b c e f.
-              let ab : P a b ≡ false = first-left (P a b) (P b a) (Q a b) e in
-              let bc : P b c ≡ false = first-left (P b c) (P c b) (Q b c) f in
-              first-false (P a c) (P c a) (Q a c)
-              (p .steps a b c ab bc)
-              (λ ca.
-                q .steps a b c
-                (first-right (P a b) (P b a) (Q a b) e (p .steps b c a bc ca))
-                (first-right (P b c) (P c b) (Q b c) f (p .steps c a b ca ab)))
+            let ab : P a b ≡ false = first-left (P a b) (P b a) (Q a b) e in
+            let bc : P b c ≡ false = first-left (P b c) (P c b) (Q b c) f in
+            first-false (P a c) (P c a) (Q a c)
+            (p .steps a b c ab bc)
+            (λ ca.
+            q .steps a b c
+            (first-right (P a b) (P b a) (Q a b) e (p .steps b c a bc ca))
+            (first-right (P b c) (P c b) (Q b c) f (p .steps c a b ca ab)));
       }
 
   pub lex-left : (a b : A) → lex P Q a b ≡ false → P a b ≡ false
@@ -76,7 +76,7 @@ module _ {A : Type 0} (k : A → ℕ) where
   low-weak =
       record {
         asym = λ a b e. le-ltb (k b) (k a) (omega (arith, ltb-true (k a) (k b) e));
-        steps = λ a b c e f. le-ltb (k a) (k c) (omega (arith, ltb-false (k a) (k b) e, ltb-false (k b) (k c) f))
+        steps = λ a b c e f. le-ltb (k a) (k c) (omega (arith, ltb-false (k a) (k b) e, ltb-false (k b) (k c) f));
       }
 
   pub high-weak : Weak (high k)
@@ -84,7 +84,7 @@ module _ {A : Type 0} (k : A → ℕ) where
   high-weak =
       record {
         asym = λ a b e. le-ltb (k a) (k b) (omega (arith, ltb-true (k b) (k a) e));
-        steps = λ a b c e f. le-ltb (k c) (k a) (omega (arith, ltb-false (k b) (k a) e, ltb-false (k c) (k b) f))
+        steps = λ a b c e f. le-ltb (k c) (k a) (omega (arith, ltb-false (k b) (k a) e, ltb-false (k c) (k b) f));
       }
 
   pub low-tie : (a b : A) → low k a b ≡ false → low k b a ≡ false → k a ≡ k b

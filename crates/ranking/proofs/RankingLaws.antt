@@ -4,8 +4,7 @@ use Prim.Native.Nat.{ℕ}
 use mathlib.Core.Path.{_≡_, refl, sym, _∙_}
 use mathlib.Core.Bool.{Bool, true, false, not}
 use native.Mathlib.Omega.{arith}
-use lib.Dec.{ltb}
-use borrow.Author.Tests.{ltb-true, ltb-false, lt-ltb, le-ltb}
+use borrow.Author.Tests.{ltb-true, ltb-false, lt-ltb}
 use Rattle.lists.proofs.Tests.{clash}
 use Rattle.ranking.specs.declared.Side.{Side}
 use Rattle.ranking.specs.declared.Side.the-variants.{Bid, Offer}
@@ -41,6 +40,7 @@ by-name s a b e f = lex-right byTime byName a b (times a b e f) (times b a f e)
     sizes : (a b : Candidate) → lex (byPrice s) (lex bySize (lex byTime byName)) a b ≡ false → lex (byPrice s) (lex bySize (lex byTime byName)) b a ≡ false
         → lex bySize (lex byTime byName) a b ≡ false
     sizes a b e f = lex-right (byPrice s) (lex bySize (lex byTime byName)) a b e f
+
     times : (a b : Candidate) → lex (byPrice s) (lex bySize (lex byTime byName)) a b ≡ false → lex (byPrice s) (lex bySize (lex byTime byName)) b a ≡ false
         → lex byTime byName a b ≡ false
     times a b e f = lex-right bySize (lex byTime byName) a b (sizes a b e f) (sizes b a f e)

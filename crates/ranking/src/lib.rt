@@ -82,10 +82,10 @@ fn by_rest(x: Candidate, best: Candidate) -> bool
 }
 
 /// The better of the best so far and x, which counts only if its price and size are above zero.
-// Each test returns the candidate that it decides for: a test that were first made a bool takes a third more time in the walk.
 pub fn choose(side: Side, best: Candidate, x: Candidate) -> Candidate
     ensures { λ r. ⌜ r ≡ choose side best x ⌝ }
 {
+    // Each test returns the candidate it decides for. Made one bool first, the comparison slows the walk by a third.
     if is_behind(side, x.price, best) {
         return best;
     }

@@ -1,5 +1,6 @@
 -- `entries::as_d` meets its contract.
 use mathlib.Core.Path.{refl}
+use borrow.Author.Needs.{needs}
 use Rattle.entries.specs.Entries.{asD}
 use Rattle.entries.proofs.as_d.Statement.{statement}
 use Rattle.entries.proofs.as_d.Tie as tie
@@ -12,4 +13,5 @@ pub as-d-spec : {M : Type 1} → statement M
 as-d-spec =
     tie.close
     (tie.spec
+    (λ c. search needs)
     returns)

@@ -5,7 +5,14 @@ use Rattle.entries.proofs.put_entries.Statement.{statement}
 use Rattle.entries.proofs.put_entries.Tie as tie
 
 returns : tie.Need-returns
-returns c = rw (← put-six) (cc)
+returns c =
+    let f = c .before .before in
+    let e = f .before .before .before .before in
+    let d = e .before .before .before .before in
+    let k = d .before .before .before .before in
+    let b = k .before .before .before .before in
+    let a = b .before .before .before .before in
+    put-six _ _ _ _ _ _ _ _ (a .put-entry .ensures) (b .put-entry2 .ensures) (k .put-entry3 .ensures) (d .put-entry4 .ensures) (e .put-entry5 .ensures) (f .put-entry6 .ensures)
 
 pub put-entries-spec : {M : Type 1} → statement M
 put-entries-spec =

@@ -12,8 +12,8 @@ returns c =
 returns-2 : tie.Need-returns-2
 returns-2 c =
     let q = c .before .before in
-    let s = q .before .before .before in
-    national-read _ _ _ _ _ _ (s .pre .1 .0 .0) (s .pre .1 .0 .1) (s .pre .1 .1) _ (q .slot-at .ensures) (q .before .if1 .left) (c .before .with-quote .ensures)
+    let s = q .before .before in
+    national-read _ _ _ _ _ _ (s .pre .1 .0 .0) (s .pre .1 .0 .1) (s .pre .1 .1 .0) _ (s .pre .1 .1 .1) (q .if1 .left) (c .before .with-quote .ensures)
     (c .with-quote2 .ensures)
 
 pub with-national-spec : {M : Type 1} → statement M
@@ -25,7 +25,6 @@ with-national-spec =
     (λ c κs. search needs)
     (λ c κs. search needs)
     returns
-    (λ c κs. search needs)
     (λ c. search needs)
     (λ c κs. search needs)
     (λ c κs. search needs)
