@@ -1,8 +1,9 @@
 # make test   proves everything, tries every must-fail edit, reads the machine code, runs the Rust tests
 # make lib    builds the static libraries that can be linked
 # make listing   prints the machine code that the tests look at
+# make bench  measures the walk of a page beside the same walk in C
 
-.PHONY: test lib listing
+.PHONY: test lib listing bench
 
 test:
 	@tests/run
@@ -12,3 +13,6 @@ lib:
 
 listing: lib
 	objdump -d --no-show-raw-insn target/staticlib/liblisting.a
+
+bench:
+	@bench/walk/run

@@ -28,6 +28,7 @@ use Rattle.page.proofs.UpdateLaws.{flags-none}
 use Rattle.page.proofs.WorkLaws.{pageCode, pageAfter, said-kept}
 use Rattle.book.specs.Opening.{symbolsOf, countOf, pageAt, pagesIn, pagePlace, onPage, eachPage}
 use Rattle.book.specs.Call.{flagsOf, publications, codeOn, messageOn, toldOn}
+use Rattle.book.specs.Code.{orFrom, finraFlags}
 use Rattle.book.proofs.OpeningLaws.{Sound}
 use Rattle.book.proofs.PageLaws.{at-same, nowhere, kept-count, place-hit, on-kept, on-same, on-other, each-kept, each-page}
 use Rattle.book.proofs.WorkLaws.{saidOn, message-on}
@@ -58,11 +59,6 @@ or-assoc = bin-ind (λ (n : ℕ). (b c : ℕ) → bitOr (bitOr n b) c ≡ bitOr 
         ∙ (λ i. bitOr (half n b i) (c / 2) * 2 + max (bit n b i) (c % 2))
         ∙ (λ i. ih (b / 2) (c / 2) i * 2 + max-assoc (n % 2) (b % 2) (c % 2) i)
         ∙ sym (or-step n (bitOr b c) ∙ (λ i. bitOr (n / 2) (half b c i) * 2 + max (n % 2) (bit b c i)))
-
--- the flags of k pages from i on
-unfoldable pub orFrom : (ℕ → ℕ) → ℕ → ℕ → ℕ
-orFrom f i zero = 0
-orFrom f i (suc k) = bitOr (f i) (orFrom f (i + 1) k)
 
 -- as a loop joins them
 pub or-again : (f : ℕ → ℕ) (acc i k : ℕ) → bitOr acc (orFrom f i (suc k)) ≡ bitOr (bitOr acc (f i)) (orFrom f (i + 1) k)
@@ -133,27 +129,27 @@ module _ (b b′ : List ℕ) (count : countOf b′ ≡ countOf b) where
 
 -- ---- of a message
 
-module _ (n : ℕ) (b : List ℕ) (sd : Sound n b) (h : List ℕ → List ℕ) (keeps : (p : List ℕ) → length p ≡ 6054 → Kept p (h p)) where
-  -- the flags of one page that h changes
-  abbrev pub pageFlags : ℕ → ℕ
-  pageFlags k = changeFlags (entriesAt b k) (part (h (pageAt b k)) 12 96)
+-- the flags of page k where h changes it
+abbrev pub flagsBy : (List ℕ → List ℕ) → List ℕ → ℕ → ℕ
+flagsBy h b k = changeFlags (entriesAt b k) (part (h (pageAt b k)) 12 96)
 
-  pub flags-on : (s : ℕ) → flagsOf (publications (pagesIn b)) (publications (pagesIn (onPage s h b))) ≡ foundBy pageFlags 0 (pagePlace b s)
+module _ (n : ℕ) (b : List ℕ) (sd : Sound n b) (h : List ℕ → List ℕ) (keeps : (p : List ℕ) → length p ≡ 6054 → Kept p (h p)) where
+  pub flags-on : (s : ℕ) → flagsOf (publications (pagesIn b)) (publications (pagesIn (onPage s h b))) ≡ foundBy (flagsBy h b) 0 (pagePlace b s)
   flags-on s = go (pagePlace b s) refl
     where
       count : countOf (onPage s h b) ≡ countOf b
       count = kept-count b (onPage s h b) (on-kept n b sd s h keeps)
 
-      go : (r : Found) → pagePlace b s ≡ r → flagsOf (publications (pagesIn b)) (publications (pagesIn (onPage s h b))) ≡ foundBy pageFlags 0 r
+      go : (r : Found) → pagePlace b s ≡ r → flagsOf (publications (pagesIn b)) (publications (pagesIn (onPage s h b))) ≡ foundBy (flagsBy h b) 0 r
       go (At k) e =
           flags-one b (onPage s h b) count k (place-hit b s k e .0) (λ j z. on-other n b sd s h keeps j (λ y. z (at-same j k (sym y ∙ e))))
           ∙ ap (λ (p : List ℕ). changeFlags (entriesAt b k) (part p 12 96)) (on-same n b sd s h keeps k e)
       go Nothing e = flags-nothing b (onPage s h b) count (λ j. on-other n b sd s h keeps j (λ y. nowhere j (sym e ∙ y)))
 
-  pub flags-each : flagsOf (publications (pagesIn b)) (publications (pagesIn (eachPage h 0 (symbolsOf b) b))) ≡ orFrom pageFlags 0 (countOf b)
+  pub flags-each : flagsOf (publications (pagesIn b)) (publications (pagesIn (eachPage h 0 (symbolsOf b) b))) ≡ orFrom (flagsBy h b) 0 (countOf b)
   flags-each = flags-all b (eachPage h 0 (symbolsOf b) b) (kept-count b (eachPage h 0 (symbolsOf b) b) (each-kept n h keeps b sd)) ∙ or-same
     where
-      or-same : orFrom (λ k. changeFlags (entriesAt b k) (entriesAt (eachPage h 0 (symbolsOf b) b) k)) 0 (countOf b) ≡ orFrom pageFlags 0 (countOf b)
+      or-same : orFrom (λ k. changeFlags (entriesAt b k) (entriesAt (eachPage h 0 (symbolsOf b) b) k)) 0 (countOf b) ≡ orFrom (flagsBy h b) 0 (countOf b)
       or-same = or-ext _ _ (countOf b) 0
           (λ j l k. ap (λ (p : List ℕ). changeFlags (entriesAt b j) (part p 12 96)) (each-page n h keeps b sd j (omega (arith, sd .count))))
 
@@ -161,10 +157,10 @@ module _ (n : ℕ) (b : List ℕ) (sd : Sound n b) (h : List ℕ → List ℕ) (
 abbrev pub saidFlags : ℕ → List ℕ → List ℕ → Message → ℕ
 saidFlags letter m b (says.Refused k) = 0
 saidFlags letter m b says.Idle = 0
-saidFlags letter m b (says.Finra c) = orFrom (λ k. changeFlags (entriesAt b k) (part (finraOn c (pageAt b k)) 12 96)) 0 (countOf b)
-saidFlags letter m b (says.RoundLot f q o) = foundBy (λ k. changeFlags (entriesAt b k) (part (pageAfter letter m (says.RoundLot f q o) (pageAt b k)) 12 96)) 0 (pagePlace b (symbolOf m))
-saidFlags letter m b (says.OddLot o) = foundBy (λ k. changeFlags (entriesAt b k) (part (pageAfter letter m (says.OddLot o) (pageAt b k)) 12 96)) 0 (pagePlace b (symbolOf m))
-saidFlags letter m b (says.Maker f name q) = foundBy (λ k. changeFlags (entriesAt b k) (part (pageAfter letter m (says.Maker f name q) (pageAt b k)) 12 96)) 0 (pagePlace b (symbolOf m))
+saidFlags letter m b (says.Finra c) = finraFlags c b
+saidFlags letter m b (says.RoundLot f q o) = foundBy (flagsBy (pageAfter letter m (says.RoundLot f q o)) b) 0 (pagePlace b (symbolOf m))
+saidFlags letter m b (says.OddLot o) = foundBy (flagsBy (pageAfter letter m (says.OddLot o)) b) 0 (pagePlace b (symbolOf m))
+saidFlags letter m b (says.Maker f name q) = foundBy (flagsBy (pageAfter letter m (says.Maker f name q)) b) 0 (pagePlace b (symbolOf m))
 
 module _ (n : ℕ) (b : List ℕ) (sd : Sound n b) (letter : ℕ) (u : upper letter ≡ true) (m : List ℕ) where
   keeps : (x : Message) (p : List ℕ) → length p ≡ 6054 → Kept p (pageAfter letter m x p)

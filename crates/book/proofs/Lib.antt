@@ -10,4 +10,12 @@ pub mod SoundLaws
 pub mod PlaceLaws
 pub mod WorkLaws
 pub mod FlagLaws
+pub mod ReadLaws
+pub mod WriteLaws
+pub mod CallLaws
+pub mod FinraLaws
 pub mod TakeLaws
+pub mod MessageLaws
+pub mod GateLaws
+pub mod RunLaws
+pub mod TakenLaws

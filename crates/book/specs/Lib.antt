@@ -1,2 +1,3 @@
 pub mod Opening
 pub mod Call
+pub mod Code

@@ -7,35 +7,49 @@ ghost use Rattle.field.specs.Field.{field};
 ghost use Rattle.lists.specs.Lists.{at, every, member, upper};
 ghost use Rattle.message.specs.Form.{space, padded, symbolGood, makerGood};
 ghost use Rattle.message.specs.Message.{controlKind, quoteKind, kindOf, timeOf, levelAt, quoteAt, makerName, oddAt, roundConditions, makerConditions, sideBad, priceFault, quoteFault, testBytes, readInquiry, readTest, readFinra, readRoundLot, readOddLot, readMaker, messageOf};
-use quote::{Level, Quote};
+use quote::Level;
+use quote::Quote;
 
 /// Where each field of a message stands.
 pub struct Layout {}
 
 impl Layout {
     pub const CATEGORY: usize = 0;
+
     pub const TYPE: usize = 1;
+
     pub const LETTER: usize = 2;
+
     pub const ZERO: usize = 3;
+
     pub const TIME: usize = 4;
     /// Bytes of a header, and of C I, C T, C C and C O.
     pub const HEADER: usize = 20;
     /// C 5: 95 bytes more than a header.
     pub const TEST_LEN: usize = 115;
+
     pub const SYMBOL: usize = 20;
+
     pub const CONDITION: usize = 31;
+
     pub const BID: usize = 32;
+
     pub const OFFER: usize = 44;
     /// Q K: clear mark, behind it the two counts, a zero, then the items.
     pub const ROUND_LOT_CLEAR: usize = 56;
+
     pub const ROUND_LOT_ZERO: usize = 59;
+
     pub const ROUND_LOT_ITEMS: usize = 60;
     /// Q M: clear mark, behind it the two counts, two zeros, then the items.
     pub const ODD_LOT_CLEAR: usize = 31;
+
     pub const ODD_LOT_ZEROS: usize = 34;
+
     pub const ODD_LOT_ITEMS: usize = 36;
     /// Q U.
     pub const MAKER: usize = 56;
+
     pub const MAKER_LEN: usize = 60;
 }
 

@@ -175,6 +175,7 @@ marks-stand c i (suc k) p w h =
 pub finra-is : (c : ℕ) (p p′ q : List ℕ) (r : ℕ) → length p ≡ 6054 → p′ ≡ markCells c 0 16 p → length p′ ≡ 6054 → r ≡ changeFlags (part p′ 12 96) (publication (pageEntries p′)) → q ≡ refreshed p′
     → (r ≡ changeFlags (part p 12 96) (part (finraOn c p) 12 96)) × (q ≡ finraOn c p)
 unfolding finraOn
-finra-is c p p′ q r w d n e f =
-    (e ∙ ap₂ changeFlags (ap (λ (z : List ℕ). part z 12 96) d ∙ marks-stand c 0 16 p w (omega arith)) (sym (refreshed-entries p′ n) ∙ ap (λ (z : List ℕ). part (refreshed z) 12 96) d),
-    f ∙ ap refreshed d)
+finra-is c p p′ q r w d n e f = (
+  e ∙ ap₂ changeFlags (ap (λ (z : List ℕ). part z 12 96) d ∙ marks-stand c 0 16 p w (omega arith)) (sym (refreshed-entries p′ n) ∙ ap (λ (z : List ℕ). part (refreshed z) 12 96) d),
+  f ∙ ap refreshed d,
+)

@@ -145,7 +145,7 @@ module _ (p s : List ℕ) (lot : ℕ) (w : length p ≡ 6054) (eleven : length s
       let n2 : length (beBytes 8 (field s 0 8) ++ beBytes 2 (field s 8 2)) ≡ 10 = length-append (beBytes 8 (field s 0 8)) (beBytes 2 (field s 8 2)) ∙ ap₂ _+_ (length-beBytes 8 (field s 0 8)) (length-beBytes 2 (field s 8 2)) in
       let c : p3 ≡ splice p 0 (beBytes 8 (field s 0 8) ++ beBytes 2 (field s 8 2) ++ beBytes 1 (field s 10 1)) = e3 ∙ rw (a, ez) (splice-join p 0 10 _ _ n2) in
       let n3 : length (beBytes 8 (field s 0 8) ++ beBytes 2 (field s 8 2) ++ beBytes 1 (field s 10 1)) ≡ 11 =
-          length-append (beBytes 8 (field s 0 8) ++ beBytes 2 (field s 8 2)) (beBytes 1 (field s 10 1)) ∙ ap₂ _+_ n2 (length-beBytes 1 (field s 10 1)) in
+      length-append (beBytes 8 (field s 0 8) ++ beBytes 2 (field s 8 2)) (beBytes 1 (field s 10 1)) ∙ ap₂ _+_ n2 (length-beBytes 1 (field s 10 1)) in
       let d : p4 ≡ splice p 0 (s ++ (lot ∷ [])) = e4 ∙ rw c (splice-join p 0 11 _ _ n3) ∙ ap (splice p 0) head-is in
       let n4 : length (s ++ (lot ∷ [])) ≡ 12 = length-append s (lot ∷ []) ∙ ap (λ (k : ℕ). k + 1) eleven in
       e5 ∙ ap blankPage (ap (λ (l : List ℕ). part l 0 12) d ∙ part-put p 0 (s ++ (lot ∷ [])) 12 n4 (omega arith))

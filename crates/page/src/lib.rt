@@ -186,7 +186,14 @@ fn put_levels(page: &mut [u8], at: usize, bids: Levels, offers: Levels)
 }
 
 /// A Q K on the page of its symbol: its round part, then its odd part, whose items are lent. A refused odd part does nothing, and the round part stays.
-pub fn round_lot(page: &mut [u8], letter: u8, fault: u8, quote: Quote, odd: OddPart, items: &[u8]) -> Effect
+pub fn round_lot(
+    page: &mut [u8],
+    letter: u8,
+    fault: u8,
+    quote: Quote,
+    odd: OddPart,
+    items: &[u8],
+) -> Effect
     requires { ⌜ (length (now page) ≡ 6054) × (upper letter ≡ true) ⌝ }
     requires { ⌜ length (now items) ≡ 12 * (odd .bids + odd .offers) ⌝ }
     ensures { λ r. ⌜ record { code = r .code; flags = r .flags; page = now (page .exit) } ≡ roundLotOn letter fault quote (oddIn (odd .mark) (odd .bids) (odd .offers) (odd .time) (now (items .entry))) (now (page .entry)) ⌝ }

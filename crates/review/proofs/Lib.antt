@@ -26,3 +26,4 @@ pub mod Cases
 pub mod Shared
 pub mod Checks
 pub mod BookCases
+pub mod Run

@@ -26,6 +26,7 @@ use Rattle.book.specs.declared.Line.{Line}
 use Rattle.book.specs.Opening.{sound, linesIn, Rest, restIn, pagesIn}
 use Rattle.book.specs.Call.{Call, take, Listed, findReading, listedOf, checkedNumberOf, blockNumber, onLine, numberOf, done, Told, Answer, bare, quads, tally, isAccepted, isPartly, isRejected, report, gapTold, advanced, lineAnswer, letterOf, answerOf, flagsOf, publications, codeOn, messageOn, toldOn, publishedOn, numberOn, call}
 use Rattle.book.proofs.NumberLaws.{unsound}
+use Rattle.book.proofs.TakenLaws.{taken-passes}
 use Rattle.review.specs.Numbers.{codes}
 use Rattle.review.proofs.NumberLaws.{code-known}
 use Rattle.review.proofs.ReportLaws.{number-told}
@@ -162,20 +163,6 @@ quad-at i (t ∷ ts) c (suc j) h =
 
 -- ---- a block that is taken has passed checks 30 to 34
 
-passes : (r : Line) (day : Bool) (k : List ℕ) → done (checkedNumberOf r day k (checked k)) ≡ true → checked k ≡ checks.Pass (countIn k)
-unfolding checked done
-passes r day k = go (lengthGood k) (eqb (at k 0) 1) (eqb (checksumOf k) (field k 8 2)) (tableGood k) (controlAmong k)
-  where
-    go : (a b c d e : Bool)
-        → done (checkedNumberOf r day k (cond a (cond b (cond c (cond d (cond e (checks.Refused 34) (checks.Pass (countIn k))) (checks.Refused 33)) (checks.Refused 32)) (checks.Refused 31)) (checks.Refused 30))) ≡ true
-        → cond a (cond b (cond c (cond d (cond e (checks.Refused 34) (checks.Pass (countIn k))) (checks.Refused 33)) (checks.Refused 32)) (checks.Refused 31)) (checks.Refused 30) ≡ checks.Pass (countIn k)
-    go true true true true false h = refl
-    go true true true true true h = clash (sym h)
-    go true true true false e h = clash (sym h)
-    go true true false d e h = clash (sym h)
-    go true false c d e h = clash (sym h)
-    go false b c d e h = clash (sym h)
-
 -- the answer to a taken block
 pub record BlockTold (k : List ℕ) (a : Answer) : Type 0 where
   pub some : 1 ≤ countIn k
@@ -189,7 +176,7 @@ pub record BlockTold (k : List ℕ) (a : Answer) : Type 0 where
 line-told : (b : List ℕ) (q : ℕ) (k : List ℕ) (r : Line) (day : Bool) → q ≡ blockNumber r day k → done q ≡ true → BlockTold k (lineAnswer q k (toldOn b (r .letter) (messagesOf k)) (some r))
 unfolding blockNumber
 line-told b q k r day e d =
-    let p : Passed k (countIn k) = passed k (countIn k) (passes r day k (sym (ap done e) ∙ d)) in
+    let p : Passed k (countIn k) = passed k (countIn k) (taken-passes r day k (sym (ap done e) ∙ d)) in
     let ts : List Told = toldOn b (r .letter) (messagesOf k) in
     let c : AllClean ts = told-clean b (r .letter) (messagesOf k) in
     let l : length ts ≡ countIn k = told-length b (r .letter) (messagesOf k) ∙ messages-length k in

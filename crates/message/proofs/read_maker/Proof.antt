@@ -25,7 +25,7 @@ returns-3 c = let z = c .before in rw (eq-eqb _ _ (z .before .before .if1 .left)
 formed : (c : tie.Else3) → let a = c .before .before .before .before .before .args in
     readMaker (a .letter) (a .msg .now)
     ≡ checkedSymbol (a .msg .now)
-      (says.Maker (quoteFault makerConditions (quoteAt (a .msg .now)) (cond (makerGood (part (a .msg .now) 56 4)) 0 48)) (makerName (a .msg .now)) (quoteAt (a .msg .now)))
+    (says.Maker (quoteFault makerConditions (quoteAt (a .msg .now)) (cond (makerGood (part (a .msg .now) 56 4)) 0 48)) (makerName (a .msg .now)) (quoteAt (a .msg .now)))
 unfolding readMaker
 formed c = let z = c .before in rw (eq-eqb _ _ (z .before .before .if1 .left), ← z .before .byte .ensures, eq-eqb _ _ (z .if2 .left), eq-eqb _ _ (c .if3 .left))
 

@@ -30,8 +30,16 @@ returns-4 c =
     let y = c .before .before in
     let z = y .before .before in
     let l = z .before .before in
-    rw (← l .before .odd-length .ensures, eq-eqb _ _ (l .if1 .left), ← z .before .byte .ensures, eq-eqb _ _ (z .if2 .left), ← y .before .byte2 .ensures, eq-eqb _ _ (y .if3 .left),
-      ← c .before .byte3 .ensures, ne-eqb _ _ (c .if4 .taken))
+    rw (
+      ← l .before .odd-length .ensures,
+      eq-eqb _ _ (l .if1 .left),
+      ← z .before .byte .ensures,
+      eq-eqb _ _ (z .if2 .left),
+      ← y .before .byte2 .ensures,
+      eq-eqb _ _ (y .if3 .left),
+      ← c .before .byte3 .ensures,
+      ne-eqb _ _ (c .if4 .taken),
+    )
 
 returns-5 : tie.Need-returns-5
 unfolding readOddLot oddAt
@@ -40,8 +48,17 @@ returns-5 c =
     let y = x .before .before in
     let z = y .before .before in
     let l = z .before .before in
-    rw (← l .before .odd-length .ensures, eq-eqb _ _ (l .if1 .left), ← z .before .byte .ensures, eq-eqb _ _ (z .if2 .left), ← y .before .byte2 .ensures, eq-eqb _ _ (y .if3 .left),
-      ← x .before .byte3 .ensures, eq-eqb _ _ (x .if4 .left), eq-eqb _ _ (c .if5 .taken))
+    rw (
+      ← l .before .odd-length .ensures,
+      eq-eqb _ _ (l .if1 .left),
+      ← z .before .byte .ensures,
+      eq-eqb _ _ (z .if2 .left),
+      ← y .before .byte2 .ensures,
+      eq-eqb _ _ (y .if3 .left),
+      ← x .before .byte3 .ensures,
+      eq-eqb _ _ (x .if4 .left),
+      eq-eqb _ _ (c .if5 .taken),
+    )
 
 -- 42, 43 and 44 have passed
 formed : (c : tie.Else5) → let a = c .before .before .before .before .before .before .before .before .before .before .args in
@@ -52,8 +69,17 @@ formed c =
     let y = x .before .before in
     let z = y .before .before in
     let l = z .before .before in
-    rw (← l .before .odd-length .ensures, eq-eqb _ _ (l .if1 .left), ← z .before .byte .ensures, eq-eqb _ _ (z .if2 .left), ← y .before .byte2 .ensures, eq-eqb _ _ (y .if3 .left),
-      ← x .before .byte3 .ensures, eq-eqb _ _ (x .if4 .left), ne-eqb _ _ (c .if5 .left))
+    rw (
+      ← l .before .odd-length .ensures,
+      eq-eqb _ _ (l .if1 .left),
+      ← z .before .byte .ensures,
+      eq-eqb _ _ (z .if2 .left),
+      ← y .before .byte2 .ensures,
+      eq-eqb _ _ (y .if3 .left),
+      ← x .before .byte3 .ensures,
+      eq-eqb _ _ (x .if4 .left),
+      ne-eqb _ _ (c .if5 .left),
+    )
 
 returns-6 : tie.Need-returns-6
 unfolding part

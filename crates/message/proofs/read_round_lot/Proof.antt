@@ -31,8 +31,15 @@ returns-4 c =
     let y = c .before in
     let z = y .before .before in
     let l = z .before .before in
-    rw (← l .before .odd-length .ensures, eq-eqb _ _ (l .if1 .left), ← z .before .byte .ensures, eq-eqb _ _ (z .if2 .left), ← y .before .byte2 .ensures, eq-eqb _ _ (y .if3 .left),
-      eq-eqb _ _ (c .if4 .taken))
+    rw (
+      ← l .before .odd-length .ensures,
+      eq-eqb _ _ (l .if1 .left),
+      ← z .before .byte .ensures,
+      eq-eqb _ _ (z .if2 .left),
+      ← y .before .byte2 .ensures,
+      eq-eqb _ _ (y .if3 .left),
+      eq-eqb _ _ (c .if4 .taken),
+    )
 
 -- 42, 43 and 44 have passed
 formed : (c : tie.Else4) → let a = c .before .before .before .before .before .before .before .before .args in
@@ -43,8 +50,15 @@ formed c =
     let y = c .before in
     let z = y .before .before in
     let l = z .before .before in
-    rw (← l .before .odd-length .ensures, eq-eqb _ _ (l .if1 .left), ← z .before .byte .ensures, eq-eqb _ _ (z .if2 .left), ← y .before .byte2 .ensures, eq-eqb _ _ (y .if3 .left),
-      ne-eqb _ _ (c .if4 .left))
+    rw (
+      ← l .before .odd-length .ensures,
+      eq-eqb _ _ (l .if1 .left),
+      ← z .before .byte .ensures,
+      eq-eqb _ _ (z .if2 .left),
+      ← y .before .byte2 .ensures,
+      eq-eqb _ _ (y .if3 .left),
+      ne-eqb _ _ (c .if4 .left),
+    )
 
 returns-5 : tie.Need-returns-5
 unfolding part

@@ -1,0 +1,102 @@
+// The same walk in plain C, over the same bytes: the yardstick of walk.rs. Makers first, then letters in order, both sides together,
+// price before eligibility before size and time, one odd cell for each letter and side.
+#include <stdint.h>
+#include <string.h>
+
+enum { SLOTS = 108, SLOT = 201, CELLS = 5334, CELL = 45, ENTRIES = 12 };
+
+typedef struct {
+    uint64_t price, time;
+    uint32_t size, name;
+    uint8_t condition;
+} Best;
+
+static inline uint64_t get64(const uint8_t *p) { uint64_t v; memcpy(&v, p, 8); return __builtin_bswap64(v); }
+static inline uint32_t get32(const uint8_t *p) { uint32_t v; memcpy(&v, p, 4); return __builtin_bswap32(v); }
+static inline void put64(uint8_t *p, uint64_t v) { v = __builtin_bswap64(v); memcpy(p, &v, 8); }
+static inline void put32(uint8_t *p, uint32_t v) { v = __builtin_bswap32(v); memcpy(p, &v, 4); }
+
+static inline uint64_t rank(int bid, uint64_t price) { return bid ? price : 0 - price; }
+
+static inline int admits(int bid, uint8_t c) {
+    switch (c) {
+    case 'A': case 'B': case 'H': case 'O': case 'R': case 'W': return 1;
+    case 'E': return !bid;
+    case 'F': return bid;
+    default: return 0;
+    }
+}
+
+static inline int wins(const Best *b, uint32_t size, uint64_t time, uint32_t name) {
+    if (size != b->size) return size > b->size;
+    if (time != b->time) return time < b->time;
+    return name < b->name;
+}
+
+// a level (any condition) or a side of a quote (its condition must admit it)
+static inline void take(const uint8_t *p, int bid, int quote, uint8_t condition, uint32_t name, Best *b) {
+    uint64_t price = get64(p), r = rank(bid, price), top = rank(bid, b->price);
+    if (r < top || price == 0) return;
+    if (quote && !admits(bid, condition)) return;
+    uint32_t size = get32(p + 8);
+    uint64_t time = get64(p + 12);
+    if (size == 0) return;
+    if (r > top || wins(b, size, time, name)) *b = (Best){price, time, size, name, condition};
+}
+
+static inline void take_d(int bid, const Best *f, Best *b) {
+    uint64_t r = rank(bid, f->price), top = rank(bid, b->price);
+    if (f->price == 0 || r < top) return;
+    if (r > top || wins(b, f->size, f->time, 'D')) { *b = *f; b->name = 'D'; }
+}
+
+static inline void walk(const uint8_t *page, Best e[6]) {
+    Best none = {0}, odd[2] = {none, none};
+    for (int i = 0; i < 6; i++) e[i] = none;
+    for (int i = 0; i < 16; i++) {
+        const uint8_t *c = page + CELLS + i * CELL;
+        if (c[4] != 'L' && c[4] != 'R') continue;
+        uint32_t name = get32(c);
+        take(c + 5, 1, 1, c[4], name, &e[2]);
+        take(c + 25, 0, 1, c[4], name, &e[3]);
+    }
+    for (uint32_t l = 'A'; l <= 'Z'; l++) {
+        const uint8_t *s = page + SLOTS + (l - 'A') * SLOT;
+        if (l == 'S') continue;
+        if (l == 'D') {
+            take_d(1, &e[2], &e[0]);
+            take_d(0, &e[3], &e[1]);
+        } else {
+            take(s + 1, 1, 1, s[0], l, &e[0]);
+            take(s + 21, 0, 1, s[0], l, &e[1]);
+        }
+        take(s + 41, 1, 0, ' ', l, &odd[0]);
+        take(s + 121, 0, 0, ' ', l, &odd[1]);
+    }
+    if (rank(1, e[0].price) < rank(1, odd[0].price)) e[4] = odd[0];
+    if (rank(0, e[1].price) < rank(0, odd[1].price)) e[5] = odd[1];
+}
+
+uint64_t c_walk(const uint8_t *page) {
+    Best e[6];
+    uint64_t sum = 0;
+    walk(page, e);
+    for (int i = 0; i < 6; i++) sum += e[i].price + e[i].time + ((uint64_t)e[i].size << 24) + ((uint64_t)e[i].name << 16) + e[i].condition;
+    return sum;
+}
+
+uint8_t c_renew(uint8_t *page) {
+    Best e[6];
+    uint8_t flags = 0;
+    walk(page, e);
+    for (int i = 0; i < 6; i++) {
+        uint8_t *p = page + ENTRIES + 16 * i;
+        uint32_t name = 0x20202020;
+        if (e[i].price) name = i < 2 ? e[i].name << 24 | (uint32_t)e[i].condition << 16 | 0x2020 : i < 4 ? e[i].name : e[i].name << 24 | 0x202020;
+        if (get32(p) != name || get64(p + 4) != e[i].price || get32(p + 12) != e[i].size) flags |= 1 << i;
+        put32(p, name);
+        put64(p + 4, e[i].price);
+        put32(p + 12, e[i].size);
+    }
+    return flags;
+}

@@ -1,0 +1,135 @@
+// Measures the proved walk beside the same walk in C over the same bytes: 64 pages picked at random, 16 letters quoting, a third of them
+// with odd lots, 4 makers; nanoseconds for each walk, lowest and median of interleaved rounds. First both are compared on all pages
+// and on pages of any bytes.
+use std::time::Instant;
+
+extern "C" {
+    fn rt_walk(page: *const u8, len: usize) -> u64;
+    fn rt_renew(page: *mut u8, len: usize) -> u8;
+    fn c_walk(page: *const u8) -> u64;
+    fn c_renew(page: *mut u8) -> u8;
+}
+
+const LEN: usize = 6054;
+
+struct Random(u64);
+
+impl Random {
+    fn next(&mut self) -> u64 {
+        self.0 ^= self.0 << 13;
+        self.0 ^= self.0 >> 7;
+        self.0 ^= self.0 << 17;
+        self.0.wrapping_mul(0x2545F4914F6CDD1D) >> 11
+    }
+    fn below(&mut self, n: u64) -> u64 {
+        self.next() % n
+    }
+}
+
+fn level(page: &mut [u8], at: usize, price: u64, size: u64, time: u64) {
+    page[at..at + 8].copy_from_slice(&price.to_be_bytes());
+    page[at + 8..at + 12].copy_from_slice(&(size as u32).to_be_bytes());
+    page[at + 12..at + 20].copy_from_slice(&time.to_be_bytes());
+}
+
+fn quote(r: &mut Random, page: &mut [u8], at: usize, condition: u8) {
+    page[at] = condition;
+    let (bid, offer) = (10_000_000 - 10_000 * r.below(8), 10_010_000 + 10_000 * r.below(8));
+    let time = r.below(1 << 40);
+    level(page, at + 1, bid, 1 + r.below(20), time);
+    level(page, at + 21, offer, 1 + r.below(20), time);
+}
+
+fn made(r: &mut Random) -> Vec<u8> {
+    let mut page = vec![0u8; LEN];
+    let mut letters: Vec<usize> = (0..26).filter(|l| *l != 3 && *l != 18).collect();
+    for i in 0..16 {
+        let j = i + r.below((letters.len() - i) as u64) as usize;
+        letters.swap(i, j);
+    }
+    for (i, l) in letters[..16].iter().enumerate() {
+        let at = 108 + l * 201;
+        let condition = if r.below(8) == 0 { b"ABHOWEFCNU"[r.below(10) as usize] } else { b'R' };
+        quote(r, &mut page, at, condition);
+        if i % 3 == 0 {
+            for k in 0..4 {
+                level(&mut page, at + 41 + 20 * k, 10_020_000 - 10_000 * (r.below(3) + 3 * k as u64), 1 + r.below(99), r.below(1 << 40));
+                level(&mut page, at + 121 + 20 * k, 9_990_000 + 10_000 * (r.below(3) + 3 * k as u64), 1 + r.below(99), r.below(1 << 40));
+            }
+        }
+    }
+    for k in 0..4 {
+        let at = 5334 + k * 45;
+        for b in 0..4 {
+            page[at + b] = b'A' + r.below(26) as u8;
+        }
+        quote(r, &mut page, at + 4, b'R');
+    }
+    page
+}
+
+// pages of any bytes, mostly small numbers so that ties and zeros are met
+fn any(r: &mut Random) -> Vec<u8> {
+    let most = [2, 3, 256, 100][r.below(4) as usize];
+    let mut page: Vec<u8> = (0..LEN).map(|_| r.below(most) as u8).collect();
+    for at in (0..26).map(|l| 108 + l * 201).chain((0..16).map(|k| 5338 + k * 45)) {
+        page[at] = b"ABHOWEFCNURRRRRLL\0"[r.below(18) as usize];
+        for side in 0..2 {
+            for b in 0..7 {
+                page[at + 1 + 20 * side + b] = 0;
+                if at < 5334 {
+                    page[at + 41 + 80 * side + b] = 0;
+                }
+            }
+        }
+    }
+    page
+}
+
+fn compare(r: &mut Random) {
+    for turn in 0..20_000 {
+        let page = if turn % 4 == 0 { made(r) } else { any(r) };
+        let (mut a, mut b) = (page.clone(), page.clone());
+        unsafe {
+            assert_eq!(rt_walk(page.as_ptr(), LEN), c_walk(page.as_ptr()), "walk, page {turn}");
+            assert_eq!(rt_renew(a.as_mut_ptr(), LEN), c_renew(b.as_mut_ptr()), "flags, page {turn}");
+            assert_eq!(a, b, "bytes, page {turn}");
+            assert_eq!(rt_renew(a.as_mut_ptr(), LEN), 0, "again, page {turn}");
+        }
+    }
+}
+
+fn rounds(name: &str, turns: &[usize], mut rt: impl FnMut(usize) -> u64, mut c: impl FnMut(usize) -> u64) {
+    let (mut a, mut b, mut sink) = (vec![], vec![], 0u64);
+    for round in 0..2001 {
+        let mut time = |f: &mut dyn FnMut(&[usize]) -> u64, to: &mut Vec<f64>| {
+            let began = Instant::now();
+            sink = sink.wrapping_add(f(turns));
+            if round > 0 {
+                to.push(began.elapsed().as_nanos() as f64 / turns.len() as f64);
+            }
+        };
+        time(&mut |t| t.iter().fold(0, |s, k| s.wrapping_add(rt(*k))), &mut a);
+        time(&mut |t| t.iter().fold(0, |s, k| s.wrapping_add(c(*k))), &mut b);
+    }
+    let mut ratios: Vec<f64> = a.iter().zip(&b).map(|(x, y)| x / y).collect();
+    a.sort_by(f64::total_cmp);
+    b.sort_by(f64::total_cmp);
+    ratios.sort_by(f64::total_cmp);
+    let m = a.len() / 2;
+    println!(
+        "{name}: Rattle {:.0} ns lowest, {:.0} median; C {:.0} lowest, {:.0} median; ratio {:.3} of the lowest, {:.3} round by round ({})",
+        a[0], a[m], b[0], b[m], a[0] / b[0], ratios[m], sink % 2
+    );
+}
+
+fn main() {
+    let mut r = Random(0x9E3779B97F4A7C15);
+    compare(&mut r);
+    println!("20000 pages agree");
+    let mut pages: Vec<Vec<u8>> = (0..64).map(|_| made(&mut r)).collect();
+    let turns: Vec<usize> = (0..4096).map(|_| r.below(64) as usize).collect();
+    let at: Vec<*mut u8> = pages.iter_mut().map(|p| p.as_mut_ptr()).collect();
+    rounds("walk", &turns, |k| unsafe { rt_walk(at[k], LEN) }, |k| unsafe { c_walk(at[k]) });
+    rounds("renew", &turns, |k| unsafe { rt_renew(at[k], LEN) as u64 }, |k| unsafe { c_renew(at[k]) as u64 });
+}
