@@ -1,0 +1,86 @@
+// The C interface: the seven calls under the names of include/quotebook.h. A `&[u8]` is a pointer and a length there.
+ghost use mathlib.Core.Path.{_≡_};
+ghost use Rattle.book.specs.Call.{bare, call, make, add, openLine, startDay, endDay};
+ghost use Rattle.book.specs.Code.{ReadOut, readOut};
+ghost use Rattle.quotebook.specs.Interface.{bookLen, TakenNumbers, takenNumbers};
+use book::Book;
+
+/// Bytes of a book for n symbols; 0 if n is not 1 to 64.
+#[no_mangle]
+pub extern "C" fn qb_book_len(n: u32) -> u64
+    ensures { λ r. ⌜ r ≡ bookLen n ⌝ }
+{
+    if n < 1 {
+        return 0;
+    }
+    if 64 < n {
+        return 0;
+    }
+    847 + (n as u64) * 6054
+}
+
+#[no_mangle]
+pub extern "C" fn qb_make(book: &mut [u8], n: u32) -> u8
+    ensures { λ r. ⌜ record { bytes = now (book .exit); answer = bare r } ≡ call (now (book .entry)) (make n) ⌝ }
+{
+    book::make(book, n)
+}
+
+#[no_mangle]
+pub extern "C" fn qb_add_symbol(book: &mut [u8], symbol: &[u8], lot: u32) -> u8
+    ensures { λ r. ⌜ record { bytes = now (book .exit); answer = bare r } ≡ call (now (book .entry)) (add (now (symbol .entry)) lot) ⌝ }
+{
+    book::add_symbol(book, symbol, lot)
+}
+
+#[no_mangle]
+pub extern "C" fn qb_open_line(book: &mut [u8], line: u32, letter: u8) -> u8
+    ensures { λ r. ⌜ record { bytes = now (book .exit); answer = bare r } ≡ call (now (book .entry)) (openLine line letter) ⌝ }
+{
+    book::open_line(book, line, letter)
+}
+
+#[no_mangle]
+pub extern "C" fn qb_start_day(book: &mut [u8]) -> u8
+    ensures { λ r. ⌜ record { bytes = now (book .exit); answer = bare r } ≡ call (now (book .entry)) startDay ⌝ }
+{
+    book::start_day(book)
+}
+
+#[no_mangle]
+pub extern "C" fn qb_end_day(book: &mut [u8]) -> u8
+    ensures { λ r. ⌜ record { bytes = now (book .exit); answer = bare r } ≡ call (now (book .entry)) endDay ⌝ }
+{
+    book::end_day(book)
+}
+
+/// The report's seven numbers: number, gap, next expected, count, accepted, partly accepted, rejected. The result is the number too.
+#[no_mangle]
+pub extern "C" fn qb_take_block(
+    book: &mut [u8],
+    line: u32,
+    block: &[u8],
+    answer: &mut [u8],
+    report: &mut [u64; 7],
+) -> u8
+    ensures { λ r. ⌜ record { number = r; bytes = now (book .exit); report = now (report .exit); answer = now (answer .exit) } ≡ takenNumbers (now (book .entry)) line (now (block .entry)) (now (answer .entry)) ⌝ }
+{
+    let told = book::take_block(book, line, block, answer);
+    *report = [
+        told.number as u64,
+        told.gap as u64,
+        told.expected as u64,
+        told.count,
+        told.accepted as u64,
+        told.partly as u64,
+        told.rejected as u64,
+    ];
+    told.number
+}
+
+#[no_mangle]
+pub extern "C" fn qb_read(book: &[u8], symbol: &[u8], publication: &mut [u8]) -> u8
+    ensures { λ r. ⌜ record { number = r; publication = now (publication .exit) } ≡ readOut (now (book .entry)) (now (symbol .entry)) (now (publication .entry)) ⌝ }
+{
+    book::read(book, symbol, publication)
+}

@@ -1,0 +1,28 @@
+use Prim.Native.Nat.{_+_, _*_, _-_, _≤_}
+use mathlib.Core.Path.{_≡_}
+use lib.ListN.{length}
+use borrow.Author.Needs.{needs}
+use Rattle.tape.specs.Held.{Held, Buffers}
+use Rattle.tape.proofs.open_each.Statement.{statement}
+use Rattle.tape.proofs.open_each.Tie as tie
+
+abbrev Inv-loop : tie.InvT-loop
+Inv-loop book₀ count input₀ out step₀ counter₀ book input step counter = (length book ≡ length book₀) × ((counter ≤ count) × ((length input ≡ 131072) × ((length out ≡ 65536) × Held (step .tape))))
+
+abbrev μ-loop : tie.MeasureT-loop
+μ-loop book₀ count input₀ out step₀ counter₀ book input step counter = count - counter
+
+pub open-each-spec : {M : Type 1} → statement M
+open-each-spec =
+    tie.close
+    (tie.spec
+    Inv-loop
+    μ-loop
+    (λ c. search needs)
+    (λ c κs. search needs)
+    (λ c. search needs)
+    (λ c. search needs)
+    (λ c. search needs)
+    (λ c. search needs)
+    (λ c. search needs)
+    (λ c. search needs))

@@ -1,0 +1,31 @@
+use Prim.Native.Nat.{_+_, _-_, _≤_}
+use mathlib.Core.Path.{_≡_, refl, sym, _∙_}
+use native.Mathlib.Omega.{arith}
+use lib.ListN.{length}
+use borrow.Author.Needs.{needs}
+use Rattle.tape.proofs.output.put_name.Statement.{statement}
+use Rattle.tape.proofs.output.put_name.Tie as tie
+
+abbrev Inv-loop : tie.InvT-loop
+Inv-loop out₀ filled name at₀ i₀ i-end out at i = (at ≤ 65536) × ((i ≤ length name) × (length out ≡ 65536))
+
+abbrev μ-loop : tie.MeasureT-loop
+μ-loop out₀ filled name at₀ i₀ i-end out at i = length name - i
+
+pub put-name-spec : {M : Type 1} → statement M
+put-name-spec =
+    tie.close
+    (tie.spec
+    Inv-loop
+    μ-loop
+    (λ c. search needs)
+    (λ c. search needs)
+    (λ c. search needs)
+    (λ c. search needs)
+    (λ c. search needs)
+    (λ c κs. search needs)
+    (λ c. search needs)
+    (λ c. search needs)
+    (λ c. search needs)
+    (λ c. search needs)
+    (λ c. search needs))
