@@ -2,28 +2,30 @@
 -- Assumes nothing.
 use Prim.Native.Nat.{ℕ, zero, suc, _+_, _*_, _^_, _≤_, _<_}
 use mathlib.Core.Path.{_≡_, refl, sym, ap, _∙_}
-use mathlib.Core.Bool.{Bool, true, false, cond}
-use mathlib.Core.List.{List, [], _∷_}
+use mathlib.Core.Bool.{Bool, true, false, _&&_, cond}
+use mathlib.Core.List.{List, [], _∷_, _++_}
 use mathlib.Core.Option.{Option, none, some}
 use native.Mathlib.Omega.{arith}
 use native.Mathlib.Nat.{add-zero}
 use borrow.Author.Tests.{eqb-true}
 use lib.Dec.{eqb, lit≤}
-use lib.ListN.{length}
+use lib.ListN.{length, length-append}
 use Rattle.lists.specs.Lists.{member, orElse}
-use Rattle.lists.proofs.Tests.{clash}
+use Rattle.lists.proofs.Tests.{and-true, clash}
 use Rattle.field.specs.Field.{Bytes, part, splice}
 use Rattle.field.proofs.Laws.{part-part, splice-join, field-lt}
 use Rattle.ranking.specs.declared.Side.the-variants.{Bid, Offer}
 use Rattle.quote.specs.declared.Level.{Level}
+use Rattle.levels.specs.declared.Item.{Item}
 use Rattle.levels.specs.declared.OddAnswer.{OddAnswer}
 use Rattle.levels.specs.declared.Judged.the-variants.{Pass, Refused}
-use Rattle.levels.specs.Levels.{Standing, Odd, itemsOn, clearedBy, oddOn, itemsBad, oddBad, oddCode, fifth, itemAt, itemsFrom, oddIn, sideIn, levelsIn, levelsBytes}
+use Rattle.levels.specs.Levels.{Standing, Odd, itemsOn, clearedBy, oddOn, idleOdd, itemsBad, oddBad, oddCode, fifth, itemAt, itemsFrom, oddIn, sideIn, levelsIn, levelsBytes}
 use Rattle.levels.specs.Cells.{cellsOf, bytesOf}
 use Rattle.levels.specs.Part.{answerOf, sidesOf, standingIn, oddAnswer}
 use Rattle.levels.proofs.LevelLaws.{ItemsGood, OddGood}
 use Rattle.levels.proofs.SideLaws.{side-falls, side-short, cells-read, cells-bytes, length-cells}
 use Rattle.levels.proofs.ReadingLaws.{Priced}
+use Rattle.levels.proofs.PartLaws.{length-items}
 use Rattle.levels.proofs.OddLaws.{odd-priced}
 
 -- ---- both sides read
@@ -81,10 +83,25 @@ module _ (lot : ℕ) (v : Standing) (o : Odd) where
       go none true z e = absurd (omega arith)
       go none false z e = clash (sym (ap (λ (n : ℕ). eqb n 0) e) ∙ z)
 
--- a space and no items: accepted, and nothing is done
-pub odd-idle : (lot t : ℕ) (b : List ℕ) (v : Standing) → (oddCode lot v (oddIn 32 0 0 t b) ≡ 0) × (oddOn (oddIn 32 0 0 t b) v ≡ some v)
-unfolding oddCode oddBad itemsBad oddOn itemsOn clearedBy oddIn itemsFrom member
-odd-idle lot t b v = (refl, refl)
+-- ---- an idle part
+
+no-items : (xs ys : List Item) → length (xs ++ ys) ≡ 0 → (xs ≡ []) × (ys ≡ [])
+no-items [] [] e = (refl, refl)
+no-items [] (y ∷ ys) e = absurd (omega arith)
+no-items (x ∷ xs) ys e = absurd (omega arith)
+
+-- it is accepted, and nothing is done
+pub odd-idle : (lot : ℕ) (v : Standing) (o : Odd) → idleOdd o ≡ true → (oddCode lot v o ≡ 0) × (oddOn o v ≡ some v)
+unfolding idleOdd oddCode oddBad itemsBad oddOn itemsOn clearedBy member
+odd-idle lot v o e =
+    let (m, n) = and-true (eqb (o .mark) 32) (eqb (length (o .bids ++ o .offers)) 0) e in
+    let (b, a) = no-items (o .bids) (o .offers) (eqb-true (length (o .bids ++ o .offers)) 0 n) in
+    rw (eqb-true (o .mark) 32 m, b, a) (refl, refl)
+
+-- the part that stands in bytes
+pub idle-in : (mark bids offers t : ℕ) (b : List ℕ) → idleOdd (oddIn mark bids offers t b) ≡ (eqb mark 32 && eqb (bids + offers) 0)
+unfolding idleOdd oddIn
+idle-in mark bids offers t b = rw (length-append (itemsFrom b 0 bids) (itemsFrom b bids offers), length-items b 0 bids, length-items b bids offers)
 
 -- ---- both sides written
 

@@ -51,7 +51,7 @@ module _ (lot n : ℕ) (s : List ℕ) (w : ℕ) where
 
 -- ---- the checks of a part, in their order
 
-length-items : (s : List ℕ) (i n : ℕ) → length (itemsFrom s i n) ≡ n
+pub length-items : (s : List ℕ) (i n : ℕ) → length (itemsFrom s i n) ≡ n
 unfolding itemsFrom
 length-items s i zero = refl
 length-items s i (suc n) = ap suc (length-items s (i + 1) n)

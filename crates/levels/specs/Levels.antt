@@ -72,6 +72,10 @@ oddOn o v =
     bindOption (itemsOn Bid (o .time) (o .bids) (clearedBy (o .mark) Bid (v .bids)))
     (λ b. mapOption (λ a. record { bids = b; offers = a }) (itemsOn Offer (o .time) (o .offers) (clearedBy (o .mark) Offer (v .offers))))
 
+-- a part that asks for nothing: a space, and no items on both sides
+unfoldable pub idleOdd : Odd → Bool
+idleOdd o = eqb (o .mark) 32 && eqb (length (o .bids ++ o .offers)) 0
+
 -- "62 price 0, 63 shares of a round lot or more, item by item over all items"
 unfoldable pub itemsBad : ℕ → List Item → ℕ
 itemsBad lot [] = 0

@@ -13,22 +13,23 @@ use Rattle.field.proofs.Laws.{part-put, part-before, length-part, length-splice
 use Rattle.lists.specs.Lists.{upper, orElse, isSome}
 use Rattle.lists.specs.declared.Found.{Found}
 use Rattle.lists.specs.declared.Found.the-variants.{At, Nothing}
+use Rattle.lists.proofs.Tests.{Cut, equal, apart, cut}
 use Rattle.quote.specs.declared.Quote.{Quote}
 use Rattle.quote.specs.Quote.{emptyQuote, quoteBytes}
-use Rattle.levels.specs.Levels.{Standing, Odd, oddOn, oddCode, levelsBytes, levelsIn}
+use Rattle.levels.specs.Levels.{Standing, Odd, oddOn, idleOdd, oddIn, levelsBytes, levelsIn}
 use Rattle.levels.specs.Cells.{cellsOf, bytesOf}
 use Rattle.levels.specs.Part.{oddAnswer, judgedNumber, sidesOf, answerOf}
 use Rattle.levels.specs.declared.OddAnswer.{OddAnswer}
 use Rattle.levels.specs.declared.Judged.{Judged}
 use Rattle.levels.specs.declared.Judged.the-variants.{Pass, Refused}
-use Rattle.levels.proofs.AnswerLaws.{answer-pass, refused-nothing, refused-code, write-both}
+use Rattle.levels.proofs.AnswerLaws.{answer-pass, refused-nothing, refused-code, odd-idle, idle-in, write-both}
 use Rattle.entries.specs.Publication.{publication, changeFlags}
 use Rattle.entries.proofs.PublicationLaws.{length-publication}
 use Rattle.entries.specs.Page.{slotAt, cellAt, levelsFor, pageEntries, refreshed}
 use Rattle.message.specs.Message.{makerCode}
-use Rattle.page.specs.Page.{readingOf, knownBy, putRound, putOdd, oddOnPage, putMaker, putMakerBy, makerOn, makerPlace, freePlace, cellFor, finraOn, markCell, markCells}
-use Rattle.page.specs.Update.{Updated, rejected, flagged, roundLotOn, oddLotOn, makerQuoteOn}
-use Rattle.page.proofs.EntryLaws.{upper-low, Kept}
+use Rattle.page.specs.Page.{readingOf, knownBy, putRound, putLevels, putOdd, oddOnPage, putMaker, putMakerBy, makerOn, makerPlace, freePlace, cellFor, finraOn, markCell, markCells}
+use Rattle.page.specs.Update.{Updated, rejected, flagged, oddCodeOn, oddTaken, roundLotOn, oddLotOn, makerQuoteOn}
+use Rattle.page.proofs.EntryLaws.{upper-low, kept-lot}
 use Rattle.page.proofs.CellLaws.{mark-length}
 use Rattle.page.proofs.MakerLaws.{maker-hit, free-hit, maker-code}
 use Rattle.page.proofs.SlotLaws.{levels-here, put-round-levels, put-round-kept}
@@ -66,66 +67,92 @@ pub answer-here : (p : List ℕ) (l at : ℕ) (o : Odd) (a : OddAnswer) → uppe
     → a ≡ oddAnswer (field p 11 1) (levelsFor p l) o
 answer-here p l at o a u e f = f ∙ rw (e, levels-here p l u)
 
-module _ (p : List ℕ) (w : length p ≡ 6054) (l : ℕ) (u : upper l ≡ true) (o : Odd) (a : OddAnswer) (e : a ≡ oddAnswer (field p 11 1) (levelsFor p l) o) where
-  code-pass : a .judged ≡ Pass → oddCode (field p 11 1) (levelsFor p l) o ≡ 0
-  code-pass j = answer-pass (field p 11 1) (levelsFor p l) o (sym (ap (λ (x : OddAnswer). x .judged) e) ∙ j) .0
+-- no items are no bytes
+module _ (mark bids offers t : ℕ) (b : List ℕ) (h : length b ≡ 12 * (bids + offers)) where
+  pub idle-space : mark ≡ 32 → eqb (length b) 0 ≡ idleOdd (oddIn mark bids offers t b)
+  idle-space e = go (cut (bids + offers) 0) ∙ sym (idle-in mark bids offers t b ∙ rw (eq-eqb mark 32 e))
+    where
+      go : Cut (bids + offers) 0 → eqb (length b) 0 ≡ eqb (bids + offers) 0
+      go (equal x z) = eq-eqb (length b) 0 (omega arith) ∙ sym x
+      go (apart x z) = ne-eqb (length b) 0 (λ k. z (omega arith)) ∙ sym x
 
-  code-refused : (x : ℕ) → a .judged ≡ Refused x → oddCode (field p 11 1) (levelsFor p l) o ≡ x
-  code-refused x j = refused-nothing (field p 11 1) (levelsFor p l) o x (sym (ap (λ (y : OddAnswer). y .judged) e) ∙ j) .0
+  pub idle-marked : (mark ≡ 32 → ⊥) → false ≡ idleOdd (oddIn mark bids offers t b)
+  idle-marked n = sym (idle-in mark bids offers t b ∙ rw (ne-eqb mark 32 n))
 
-  not-zero : (x : ℕ) → a .judged ≡ Refused x → eqb (oddCode (field p 11 1) (levelsFor p l) o) 0 ≡ false
-  not-zero x j = refused-code (field p 11 1) (levelsFor p l) o x (sym (ap (λ (y : OddAnswer). y .judged) e) ∙ j)
+-- an odd part as it is done: idle, refused, or taken
+module _ (p : List ℕ) (l : ℕ) (o : Odd) where
+  pub odd-none : idleOdd o ≡ true → (_≡_ {A = ℕ} 0 (oddCodeOn l o p)) × (p ≡ oddTaken l o p)
+  unfolding putOdd
+  odd-none e = let z : oddCodeOn l o p ≡ 0 = odd-idle (field p 11 1) (levelsFor p l) o e .0 in (sym z, rw (z, e))
 
-  -- both sides written into a page with the same levels
-  levels-written : (p′ p″ : List ℕ) → levelsFor p′ l ≡ levelsFor p l → a .judged ≡ Pass
-      → p″ ≡ splice (splice p′ (slotAt l + 41) (bytesOf (a .bids .cells))) (slotAt l + 41 + 80) (bytesOf (a .offers .cells)) → p″ ≡ putOdd l o p′
-  unfolding putOdd sidesOf
-  levels-written p′ p″ s j f =
-      let v : a ≡ answerOf Pass (sidesOf (orElse (oddOn o (levelsFor p l)) (levelsFor p l))) = e ∙ answer-pass (field p 11 1) (levelsFor p l) o (sym (ap (λ (x : OddAnswer). x .judged) e) ∙ j) .1 in
-      f ∙ rw (v, s) (write-both p′ (slotAt l + 41) (orElse (oddOn o (levelsFor p l)) (levelsFor p l)))
+  module _ (a : OddAnswer) (e : a ≡ oddAnswer (field p 11 1) (levelsFor p l) o) where
+    told : (j : Judged) → a .judged ≡ j → oddAnswer (field p 11 1) (levelsFor p l) o .judged ≡ j
+    told j f = sym (ap (λ (x : OddAnswer). x .judged) e) ∙ f
+
+    pub odd-left : (x code : ℕ) → a .judged ≡ Refused x → code ≡ judgedNumber (a .judged) → (code ≡ oddCodeOn l o p) × (p ≡ oddTaken l o p)
+    odd-left x code j n = (
+      n ∙ ap judgedNumber j ∙ sym (refused-nothing (field p 11 1) (levelsFor p l) o x (told (Refused x) j) .0),
+      rw (refused-code (field p 11 1) (levelsFor p l) o x (told (Refused x) j)),
+    )
+
+    -- both sides written
+    pub odd-done : (at : ℕ) (p′ : List ℕ) → a .judged ≡ Pass → idleOdd o ≡ false → at ≡ slotAt l
+        → p′ ≡ splice (splice p (at + 41) (bytesOf (a .bids .cells))) (at + 41 + 80) (bytesOf (a .offers .cells)) → (_≡_ {A = ℕ} 0 (oddCodeOn l o p)) × (p′ ≡ oddTaken l o p)
+    unfolding putOdd putLevels sidesOf
+    odd-done at p′ j i h f =
+        let v : Standing = orElse (oddOn o (levelsFor p l)) (levelsFor p l) in
+        let (z, k) = answer-pass (field p 11 1) (levelsFor p l) o (told Pass j) in
+        let y : a ≡ answerOf Pass (sidesOf v) = e ∙ k in
+        (sym z, f ∙ rw (z, i, y, h) (write-both p (slotAt l + 41) v))
+
+module _ (p : List ℕ) (w : length p ≡ 6054) (l : ℕ) (u : upper l ≡ true) (o : Odd) where
+  taken-stands : part (oddTaken l o p) 12 96 ≡ part p 12 96
+  unfolding putOdd putLevels
+  taken-stands = go (eqb (oddCodeOn l o p) 0) (idleOdd o)
+    where
+      go : (s t : Bool) → part (cond s (cond t p (putLevels l o p)) p) 12 96 ≡ part p 12 96
+      go true true = refl
+      go true false = entries-stand p (slotAt l + 41) (levelsBytes (orElse (oddOn o (levelsFor p l)) (levelsFor p l))) w (omega arith) (omega (arith, upper-low l u .1))
+      go false t = refl
+
+  -- the round part leaves what the odd part's code is worked out from
+  code-same : (q : Quote) → oddCodeOn l o (putRound l q p) ≡ oddCodeOn l o p
+  code-same q = rw (kept-lot p (putRound l q p) (put-round-kept p w l u q), ap (λ (v : ℕ → Standing). v l) (put-round-levels p w l u q))
 
   round-stands : (q : Quote) → part (putRound l q p) 12 96 ≡ part p 12 96
   unfolding putRound
   round-stands q = entries-stand p (slotAt l) (quoteBytes q) w (omega arith) (omega (arith, upper-low l u .1))
 
-  odd-stands : (p′ : List ℕ) → length p′ ≡ 6054 → part (putOdd l o p′) 12 96 ≡ part p′ 12 96
-  unfolding putOdd
-  odd-stands p′ w′ = entries-stand p′ (slotAt l + 41) (levelsBytes (orElse (oddOn o (levelsFor p′ l)) (levelsFor p′ l))) w′ (omega arith) (omega (arith, upper-low l u .1))
+-- Q K: the round part, the odd part, then the entries
+pub round-done : (p : List ℕ) (l : ℕ) (q : Quote) (o : Odd) (at code : ℕ) (p′ p″ : List ℕ) (r : Updated) → length p ≡ 6054 → upper l ≡ true → at ≡ slotAt l
+    → p′ ≡ splice p at (quoteBytes q) → code ≡ oddCodeOn l o p′ → p″ ≡ oddTaken l o p′ → r ≡ flagged code p″ (refreshed p″) → r ≡ roundLotOn l 0 q o p
+unfolding roundLotOn putRound
+round-done p l q o at code p′ p″ r w u h d c g f =
+    let x : List ℕ = putRound l q p in
+    let y : p′ ≡ x = d ∙ ap (λ (k : ℕ). splice p k (quoteBytes q)) h in
+    let z : p″ ≡ oddTaken l o x = g ∙ ap (oddTaken l o) y in
+    let n : length x ≡ 6054 = put-round-kept p w l u q .size in
+    f ∙ ap₂ (λ (k : ℕ) (s : List ℕ). flagged k s (refreshed s)) (c ∙ ap (oddCodeOn l o) y) z
+    ∙ flagged-from (oddCodeOn l o x) p (oddTaken l o x) (refreshed (oddTaken l o x)) (taken-stands x n l u o ∙ round-stands p w l u o q)
+    ∙ rw (code-same p w l u o q)
 
-  -- Q K with a refused odd part: the round part alone
-  pub round-refused : (q : Quote) (x code : ℕ) (p′ : List ℕ) (r : Updated) → a .judged ≡ Refused x → code ≡ judgedNumber (a .judged) → p′ ≡ putRound l q p
-      → r ≡ flagged code p′ (refreshed p′) → r ≡ roundLotOn l 0 q o p
-  unfolding roundLotOn
-  round-refused q x code p′ r j n d f =
-      f ∙ ap₂ (λ (c : ℕ) (z : List ℕ). flagged c z (refreshed z)) (n ∙ ap judgedNumber j) d
-      ∙ flagged-from x p (putRound l q p) (refreshed (putRound l q p)) (round-stands q)
-      ∙ rw (not-zero x j) (ap (λ (c : ℕ). flagged c p (refreshed (putRound l q p))) (sym (code-refused x j)))
-
-  -- Q K accepted: both parts
-  pub round-taken : (q : Quote) (at : ℕ) (p′ p″ : List ℕ) (r : Updated) → a .judged ≡ Pass → at ≡ slotAt l → p′ ≡ putRound l q p
-      → p″ ≡ splice (splice p′ (at + 41) (bytesOf (a .bids .cells))) (at + 41 + 80) (bytesOf (a .offers .cells))
-      → r ≡ flagged 0 p″ (refreshed p″) → r ≡ roundLotOn l 0 q o p
-  unfolding roundLotOn
-  round-taken q at p′ p″ r j h d g f =
-      let y : p″ ≡ putOdd l o (putRound l q p) = levels-written (putRound l q p) p″ (ap (λ (v : ℕ → Standing). v l) (put-round-levels p w l u q)) j (rw (d, h) at g) in
-      f ∙ ap (λ (z : List ℕ). flagged 0 z (refreshed z)) y
-      ∙ flagged-from 0 p (putOdd l o (putRound l q p)) (refreshed (putOdd l o (putRound l q p))) (odd-stands (putRound l q p) (put-round-kept p w l u q .size) ∙ round-stands q)
-      ∙ rw (code-pass j)
-
-  -- Q M refused, and accepted
-  pub odd-refused : (x code : ℕ) → a .judged ≡ Refused x → code ≡ judgedNumber (a .judged) → _≡_ {A = Updated} (rejected code p) (oddLotOn l o p)
+-- Q M refused, and accepted
+module _ (p : List ℕ) (w : length p ≡ 6054) (l : ℕ) (u : upper l ≡ true) (o : Odd) (code : ℕ) (p′ : List ℕ) (c : code ≡ oddCodeOn l o p) (g : p′ ≡ oddTaken l o p) where
+  pub odd-refused : (code ≡ 0 → ⊥) → _≡_ {A = Updated} (record { code = code; flags = 0; page = p′ }) (oddLotOn l o p)
   unfolding oddLotOn
-  odd-refused x code j n = rw (not-zero x j) (ap (λ (c : ℕ). rejected c p) (n ∙ ap judgedNumber j ∙ sym (code-refused x j)))
+  odd-refused n =
+      let z : eqb (oddCodeOn l o p) 0 ≡ false = ne-eqb (oddCodeOn l o p) 0 (λ q. n (c ∙ q)) in
+      let y : p′ ≡ p = rw z at g in
+      rw (z, y, c)
 
-  pub odd-taken : (at : ℕ) (p″ : List ℕ) (r : Updated) → a .judged ≡ Pass → at ≡ slotAt l
-      → p″ ≡ splice (splice p (at + 41) (bytesOf (a .bids .cells))) (at + 41 + 80) (bytesOf (a .offers .cells))
-      → r ≡ flagged 0 p″ (refreshed p″) → r ≡ oddLotOn l o p
+  pub odd-taken : (r : Updated) → code ≡ 0 → r ≡ flagged 0 p′ (refreshed p′) → r ≡ oddLotOn l o p
   unfolding oddLotOn oddOnPage
-  odd-taken at p″ r j h g f =
-      let y : p″ ≡ putOdd l o p = levels-written p p″ refl j (rw h at g) in
-      f ∙ ap (λ (z : List ℕ). flagged 0 z (refreshed z)) y
-      ∙ flagged-from 0 p (putOdd l o p) (refreshed (putOdd l o p)) (odd-stands p w)
-      ∙ rw (code-pass j)
+  odd-taken r n f =
+      let z : oddCodeOn l o p ≡ 0 = sym c ∙ n in
+      let y : p′ ≡ putOdd l o p = rw z at g in
+      f ∙ ap (λ (s : List ℕ). flagged 0 s (refreshed s)) y
+      ∙ flagged-from 0 p (putOdd l o p) (refreshed (putOdd l o p)) (ap (λ (s : List ℕ). part s 12 96) (sym y ∙ g) ∙ taken-stands p w l u o)
+      ∙ rw z
 
 -- ---- Q U
 

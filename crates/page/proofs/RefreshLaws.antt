@@ -1,8 +1,8 @@
 -- A page that is written twice needs its entries worked out once: no update reads them.
 -- Assumes nothing.
 use Prim.Native.Nat.{ℕ, _+_, _*_, _-_, _≤_}
-use mathlib.Core.Path.{_≡_, sym, ap, _∙_}
-use mathlib.Core.Bool.{true}
+use mathlib.Core.Path.{_≡_, refl, sym, ap, _∙_}
+use mathlib.Core.Bool.{Bool, true, false, cond}
 use mathlib.Core.List.{List, _++_, append-assoc}
 use native.Mathlib.Omega.{arith}
 use lib.ListN.{length, take, drop, length-append, take-append-drop}
@@ -11,12 +11,12 @@ use Rattle.field.specs.Field.{splice}
 use Rattle.field.proofs.Laws.{length-splice}
 use Rattle.lists.specs.Lists.{upper}
 use Rattle.quote.specs.declared.Quote.{Quote}
-use Rattle.levels.specs.Levels.{Standing, Odd, levelsBytes}
+use Rattle.levels.specs.Levels.{Standing, Odd, idleOdd, levelsBytes}
 use Rattle.levels.proofs.SideLaws.{length-levels}
 use Rattle.entries.specs.Entries.{Entries}
 use Rattle.entries.specs.Publication.{publication}
 use Rattle.entries.specs.Page.{slotAt, levelsFor, pageEntries, refreshed}
-use Rattle.page.specs.Page.{putRound, roundOn, putOdd, oddOnPage}
+use Rattle.page.specs.Page.{putRound, roundOn, putLevels, putOdd, oddOnPage}
 use Rattle.entries.proofs.PublicationLaws.{length-publication}
 use Rattle.entries.proofs.FrameLaws.{levels-kept, entries-kept}
 use Rattle.page.proofs.EntryLaws.{upper-low}
@@ -90,16 +90,33 @@ refreshed-levels : (p : List ℕ) → levelsFor (refreshed p) ≡ levelsFor p
 unfolding refreshed
 refreshed-levels p = levels-kept p (publication (pageEntries p)) (length-publication (pageEntries p))
 
+-- a second refresh changes nothing
+refreshed-again : (p : List ℕ) → length p ≡ 6054 → refreshed (refreshed p) ≡ refreshed p
+unfolding refreshed
+refreshed-again p w =
+    let E : List ℕ = publication (pageEntries p) in
+    let n : length E ≡ 96 = length-publication (pageEntries p) in
+    ap (λ (e : Entries). splice (splice p 12 E) 12 (publication e)) (entries-kept p E n) ∙ splice-over p 12 E E (omega arith) refl
+
+module _ (p : List ℕ) (l : ℕ) (q : Quote) (o : Odd) (w : length p ≡ 6054) (u : upper l ≡ true) where
+  levels-refresh : refreshed (putLevels l o (refreshed (putRound l q p))) ≡ refreshed (putLevels l o (putRound l q p))
+  unfolding putLevels
+  levels-refresh =
+      let x : List ℕ = putRound l q p in
+      let n : length x ≡ 6054 = put-round-kept p w l u q .size in
+      let after : Standing → List ℕ = λ v. levelsBytes (afterOdd o v) in
+      let k : slotAt l + 41 ≡ 108 + ((l - 65) * 201 + 41) = omega arith in
+      let r : ℕ → List ℕ → List ℕ = λ a z. refreshed (splice z a (after (levelsFor x l))) in
+      ap (λ (v : ℕ → Standing). refreshed (splice (refreshed x) (slotAt l + 41) (after (v l)))) (refreshed-levels x)
+      ∙ ap (λ (a : ℕ). r a (refreshed x)) k
+      ∙ late-refresh x ((l - 65) * 201 + 41) (after (levelsFor x l)) (omega (arith, n, length-levels (afterOdd o (levelsFor x l)), upper-low l u .0, upper-low l u .1))
+      ∙ ap (λ (a : ℕ). r a x) (sym k)
+
 -- an accepted Q K with an odd part: both parts written, then the entries worked out once
 pub one-refresh : (p : List ℕ) (l : ℕ) (q : Quote) (o : Odd) → length p ≡ 6054 → upper l ≡ true → oddOnPage l o (roundOn l q p) ≡ refreshed (putOdd l o (putRound l q p))
 unfolding oddOnPage roundOn putOdd
-one-refresh p l q o w u =
-    let x : List ℕ = putRound l q p in
-    let n : length x ≡ 6054 = put-round-kept p w l u q .size in
-    let after : Standing → List ℕ = λ v. levelsBytes (afterOdd o v) in
-    let k : slotAt l + 41 ≡ 108 + ((l - 65) * 201 + 41) = omega arith in
-    let r : ℕ → List ℕ → List ℕ = λ a z. refreshed (splice z a (after (levelsFor x l))) in
-    ap (λ (v : ℕ → Standing). refreshed (splice (refreshed x) (slotAt l + 41) (after (v l)))) (refreshed-levels x)
-    ∙ ap (λ (a : ℕ). r a (refreshed x)) k
-    ∙ late-refresh x ((l - 65) * 201 + 41) (after (levelsFor x l)) (omega (arith, n, length-levels (afterOdd o (levelsFor x l)), upper-low l u .0, upper-low l u .1))
-    ∙ ap (λ (a : ℕ). r a x) (sym k)
+one-refresh p l q o w u = go (idleOdd o)
+  where
+    go : (t : Bool) → refreshed (cond t (refreshed (putRound l q p)) (putLevels l o (refreshed (putRound l q p)))) ≡ refreshed (cond t (putRound l q p) (putLevels l o (putRound l q p)))
+    go true = refreshed-again (putRound l q p) (put-round-kept p w l u q .size)
+    go false = levels-refresh p l q o w u

@@ -15,13 +15,14 @@ use Rattle.lists.proofs.Tests.{clash, Cut, equal, apart, cut}
 use Rattle.quote.specs.declared.Quote.{Quote}
 use Rattle.quote.specs.Quote.{noQuote, quoteIn, quoteBytes, QuoteFits}
 use Rattle.quote.proofs.QuoteLaws.{length-quote, quote-back, bytes-quote}
-use Rattle.levels.specs.Levels.{Standing, noLevels, Odd, oddOn, levelsIn, levelsBytes}
+use Rattle.levels.specs.Levels.{Standing, noLevels, Odd, oddOn, idleOdd, levelsIn, levelsBytes}
 use Rattle.levels.proofs.LevelLaws.{LevelsGood, OddGood, none-good, odd-good-levels}
+use Rattle.levels.proofs.AnswerLaws.{odd-idle}
 use Rattle.levels.proofs.SideLaws.{length-levels, bytes-levels, levels-back, levels-good}
 use Rattle.entries.specs.Page.{slotAt, cellAt, quotesIn, levelsFor, makersIn, refreshed}
-use Rattle.page.specs.Page.{readingOf, putRound, roundOn, putOdd, oddOnPage}
+use Rattle.page.specs.Page.{readingOf, putRound, roundOn, putLevels, putOdd, oddOnPage}
 use Rattle.page.proofs.Model.{setAt, roundReading, oddReading}
-use Rattle.page.proofs.EntryLaws.{upper-low, makers-same, Kept, kept-then, kept-splice, refreshed-kept, reads-by}
+use Rattle.page.proofs.EntryLaws.{upper-low, makers-same, Kept, kept-none, kept-then, kept-splice, refreshed-kept, reads-by}
 
 -- ---- a write in a letter's slot
 
@@ -155,25 +156,41 @@ module _ (p : List ℕ) (w : length p ≡ 6054) (l : ℕ) (u : upper l ≡ true)
   odd-high = omega (arith, length-levels after)
 
   pub put-odd-kept : Kept p (putOdd l o p)
-  unfolding putOdd
-  put-odd-kept = slot-kept p w l u (slotAt l + 41) (levelsBytes after) odd-low odd-high (bytes-levels after)
+  unfolding putOdd putLevels
+  put-odd-kept = go (idleOdd o)
+    where
+      go : (t : Bool) → Kept p (cond t p (splice p (slotAt l + 41) (levelsBytes after)))
+      go true = kept-none p w
+      go false = slot-kept p w l u (slotAt l + 41) (levelsBytes after) odd-low odd-high (bytes-levels after)
 
   put-odd-quotes : quotesIn (putOdd l o p) ≡ quotesIn p
-  unfolding putOdd
-  put-odd-quotes =
-      slot-quotes p w l u (slotAt l + 41) (levelsBytes after) odd-low odd-high (quotesIn p l)
-      (ap quoteIn (part-before p (slotAt l + 41) (levelsBytes after) (slotAt l) 41 (omega (arith, upper-low l u .1)) (omega arith)) ∙ sym (quote-here p l u))
-      ∙ set-same l (quotesIn p)
+  unfolding putOdd putLevels
+  put-odd-quotes = go (idleOdd o)
+    where
+      go : (t : Bool) → quotesIn (cond t p (splice p (slotAt l + 41) (levelsBytes after))) ≡ quotesIn p
+      go true = refl
+      go false =
+          slot-quotes p w l u (slotAt l + 41) (levelsBytes after) odd-low odd-high (quotesIn p l)
+          (ap quoteIn (part-before p (slotAt l + 41) (levelsBytes after) (slotAt l) 41 (omega (arith, upper-low l u .1)) (omega arith)) ∙ sym (quote-here p l u))
+          ∙ set-same l (quotesIn p)
 
   put-odd-levels : LevelsGood after → levelsFor (putOdd l o p) ≡ setAt l after (levelsFor p)
-  unfolding putOdd
-  put-odd-levels g =
-      slot-levels p w l u (slotAt l + 41) (levelsBytes after) odd-low odd-high after
-      (ap levelsIn (part-put p (slotAt l + 41) (levelsBytes after) 160 (length-levels after) (omega (arith, upper-low l u .1))) ∙ levels-back after g)
+  unfolding putOdd putLevels
+  put-odd-levels g = go (idleOdd o) refl
+    where
+      go : (t : Bool) → idleOdd o ≡ t → levelsFor (cond t p (splice p (slotAt l + 41) (levelsBytes after))) ≡ setAt l after (levelsFor p)
+      go true e = rw (odd-idle 0 (levelsFor p l) o e .1) (sym (set-same l (levelsFor p)))
+      go false e =
+          slot-levels p w l u (slotAt l + 41) (levelsBytes after) odd-low odd-high after
+          (ap levelsIn (part-put p (slotAt l + 41) (levelsBytes after) 160 (length-levels after) (omega (arith, upper-low l u .1))) ∙ levels-back after g)
 
   put-odd-makers : makersIn (putOdd l o p) ≡ makersIn p
-  unfolding putOdd
-  put-odd-makers = slot-makers p w l u (slotAt l + 41) (levelsBytes after) odd-low odd-high
+  unfolding putOdd putLevels
+  put-odd-makers = go (idleOdd o)
+    where
+      go : (t : Bool) → makersIn (cond t p (splice p (slotAt l + 41) (levelsBytes after))) ≡ makersIn p
+      go true = refl
+      go false = slot-makers p w l u (slotAt l + 41) (levelsBytes after) odd-low odd-high
 
   pub odd-kept : Kept p (oddOnPage l o p)
   unfolding oddOnPage

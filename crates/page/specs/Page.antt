@@ -13,7 +13,7 @@ use Rattle.lists.specs.declared.Found.{Found}
 use Rattle.lists.specs.declared.Found.the-variants.{At, Nothing}
 use Rattle.quote.specs.declared.Quote.{Quote}
 use Rattle.quote.specs.Quote.{emptyQuote, quoteBytes}
-use Rattle.levels.specs.Levels.{Standing, noLevels, Odd, oddOn, levelsBytes}
+use Rattle.levels.specs.Levels.{Standing, noLevels, Odd, oddOn, idleOdd, levelsBytes}
 use Rattle.message.specs.Message.{Known}
 use Rattle.entries.specs.Entries.{Maker}
 use Rattle.entries.specs.Publication.{noEntries}
@@ -52,9 +52,13 @@ roundOn l q p = refreshed (putRound l q p)
 
 -- ---- odd part
 
--- the levels after it; a refused part does nothing
+-- the levels after it, all cells written anew; a refused part does nothing
+unfoldable pub putLevels : ℕ → Odd → List ℕ → List ℕ
+putLevels l o p = splice p (slotAt l + 41) (levelsBytes (orElse (oddOn o (levelsFor p l)) (levelsFor p l)))
+
+-- an idle part leaves every byte, also of cells that no reading counts
 unfoldable pub putOdd : ℕ → Odd → List ℕ → List ℕ
-putOdd l o p = splice p (slotAt l + 41) (levelsBytes (orElse (oddOn o (levelsFor p l)) (levelsFor p l)))
+putOdd l o p = cond (idleOdd o) p (putLevels l o p)
 
 unfoldable pub oddOnPage : ℕ → Odd → List ℕ → List ℕ
 oddOnPage l o p = refreshed (putOdd l o p)

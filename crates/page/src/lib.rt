@@ -7,13 +7,13 @@ ghost use lib.ListN.{length, replicate};
 ghost use Rattle.field.specs.Field.{field, part, splice};
 ghost use Rattle.lists.specs.Lists.{isSome, upper};
 ghost use Rattle.quote.specs.Quote.{emptySide, emptyQuote};
-ghost use Rattle.levels.specs.Levels.{oddIn, levelsIn};
+ghost use Rattle.levels.specs.Levels.{oddIn, idleOdd, levelsIn};
 ghost use Rattle.levels.specs.Cells.{bytesOf};
 ghost use Rattle.levels.specs.Part.{oddAnswer};
 ghost use Rattle.entries.specs.Publication.{changeFlags};
 ghost use Rattle.entries.specs.Page.{cellAt, refreshed};
 ghost use Rattle.page.specs.Page.{named, cellOf, cellFor, makerPlace, freePlace, markCell, markCells, finraOn, blankPage, emptied};
-ghost use Rattle.page.specs.Update.{Updated, flagged, roundLotOn, oddLotOn, makerQuoteOn};
+ghost use Rattle.page.specs.Update.{Updated, flagged, oddCodeOn, oddTaken, roundLotOn, oddLotOn, makerQuoteOn};
 use entries::Cell;
 use entries::Page;
 use entries::Slot;
@@ -185,6 +185,36 @@ fn put_levels(page: &mut [u8], at: usize, bids: Levels, offers: Levels)
     offers.put(page, at + Slot::LEVELS + Levels::LEN);
 }
 
+// Whether an odd part asks for nothing: most messages have such a one.
+fn is_idle(odd: OddPart, items: &[u8]) -> bool
+    requires { ⌜ length (now items) ≡ 12 * (odd .bids + odd .offers) ⌝ }
+    ensures { λ r. ⌜ r ≡ idleOdd (oddIn (odd .mark) (odd .bids) (odd .offers) (odd .time) (now (items .entry))) ⌝ }
+{
+    if odd.mark == b' ' {
+        return items.len() == 0;
+    }
+    false
+}
+
+// An odd part on its letter's levels, and its code. An idle or a refused part leaves the page alone.
+fn put_odd(page: &mut [u8], letter: u8, odd: OddPart, items: &[u8]) -> u8
+    requires { ⌜ (length (now page) ≡ 6054) × (upper letter ≡ true) ⌝ }
+    requires { ⌜ length (now items) ≡ 12 * (odd .bids + odd .offers) ⌝ }
+    ensures { λ r. ⌜ (r ≡ oddCodeOn letter (oddIn (odd .mark) (odd .bids) (odd .offers) (odd .time) (now (items .entry))) (now (page .entry))) × (now (page .exit) ≡ oddTaken letter (oddIn (odd .mark) (odd .bids) (odd .offers) (odd .time) (now (items .entry))) (now (page .entry))) ⌝ }
+{
+    if is_idle(odd, items) {
+        return 0;
+    }
+    let at = entries::slot_at(letter as usize);
+    let answer = judge_odd(page, at, odd, items);
+    let judged = answer.judged;
+    let Judged::Pass = judged else {
+        return levels::number(judged);
+    };
+    put_levels(page, at, answer.bids, answer.offers);
+    0
+}
+
 /// A Q K on the page of its symbol: its round part, then its odd part, whose items are lent. A refused odd part does nothing, and the round part stays.
 pub fn round_lot(
     page: &mut [u8],
@@ -204,15 +234,9 @@ pub fn round_lot(
             flags: 0,
         };
     }
-    let at = entries::slot_at(letter as usize);
-    let answer = judge_odd(page, at, odd, items);
-    let judged = answer.judged;
-    quote.put(page, at);
-    let Judged::Pass = judged else {
-        return renewed(page, levels::number(judged));
-    };
-    put_levels(page, at, answer.bids, answer.offers);
-    renewed(page, 0)
+    quote.put(page, entries::slot_at(letter as usize));
+    let code = put_odd(page, letter, odd, items);
+    renewed(page, code)
 }
 
 /// A Q M on the page of its symbol. A refused odd part does nothing.
@@ -221,16 +245,10 @@ pub fn odd_lot(page: &mut [u8], letter: u8, odd: OddPart, items: &[u8]) -> Effec
     requires { ⌜ length (now items) ≡ 12 * (odd .bids + odd .offers) ⌝ }
     ensures { λ r. ⌜ record { code = r .code; flags = r .flags; page = now (page .exit) } ≡ oddLotOn letter (oddIn (odd .mark) (odd .bids) (odd .offers) (odd .time) (now (items .entry))) (now (page .entry)) ⌝ }
 {
-    let at = entries::slot_at(letter as usize);
-    let answer = judge_odd(page, at, odd, items);
-    let judged = answer.judged;
-    let Judged::Pass = judged else {
-        return Effect {
-            code: levels::number(judged),
-            flags: 0,
-        };
-    };
-    put_levels(page, at, answer.bids, answer.offers);
+    let code = put_odd(page, letter, odd, items);
+    if code != 0 {
+        return Effect { code, flags: 0 };
+    }
     renewed(page, 0)
 }
 

@@ -1,61 +1,22 @@
-use Prim.Native.Nat.{ℕ, _+_, _≤_}
-use mathlib.Core.Path.{_≡_, sym, ap, _∙_}
-use native.Mathlib.Omega.{arith}
-use lib.ListN.{length}
-use Rattle.field.specs.Field.{field}
-use Rattle.levels.specs.Levels.{oddIn}
-use Rattle.levels.specs.Part.{oddAnswer}
-use Rattle.entries.specs.Page.{levelsFor}
-use Rattle.page.proofs.EffectLaws.{slot-inside, letter-inside, answer-here, odd-refused, odd-taken}
+use Rattle.page.proofs.EffectLaws.{odd-refused, odd-taken}
 use borrow.Author.Needs.{needs}
 use Rattle.page.proofs.odd_lot.Statement.{statement}
 use Rattle.page.proofs.odd_lot.Tie as tie
 
-slot-at-requires : tie.Need-slot-at-requires
-slot-at-requires c κs = letter-inside _ (c .before .before .pre .0 .1)
-
-at-inside : (c : tie.After-slot-at) → c .slot-at .result + 201 ≤ 6054
-at-inside c = rw (c .slot-at .ensures) (slot-inside _ (c .before .before .before .pre .0 .1))
-
-judge-odd-requires : tie.Need-judge-odd-requires
-judge-odd-requires c κs = ((c .before .before .before .before .pre .0 .0, at-inside (c .before)), c .before .before .before .before .pre .1)
-
-answer-is : (c : tie.After-judge-odd) → let a = c .before .before .before .before .before .args in
-    c .judge-odd .result ≡ oddAnswer (field (a .page .now) 11 1) (levelsFor (a .page .now) (a .letter)) (oddIn (a .odd .mark) (a .odd .bids) (a .odd .offers) (a .odd .time) (a .items .now))
-answer-is c = answer-here _ _ _ _ _ (c .before .before .before .before .before .pre .0 .1) (c .before .before .slot-at .ensures) (c .judge-odd .ensures)
-
 returns : tie.Need-returns
 returns c =
-    let j = c .before .before .before in
-    let s = j .before .before .before .before .before in
-    odd-refused _ (s .pre .0 .0) _ (s .pre .0 .1) _ _ (answer-is j) _ _ (c .before .enum-told2 .given .1) (c .number .ensures)
-
-put-levels-requires : tie.Need-put-levels-requires
-put-levels-requires c κs =
-    let j = c .before .before .before in
-    (j .before .before .before .before .before .pre .0 .0, at-inside (j .before .before))
+    let o = c .before .before .before in
+    let s = o .before .before .before .before in
+    odd-refused _ (s .pre .0 .0) _ (s .pre .0 .1) _ _ _ (o .put-odd .ensures .0) (o .put-odd .ensures .1) (c .if1 .taken)
 
 returns-2 : tie.Need-returns-2
 returns-2 c =
     let r = c .before .before in
-    let l = r .before .before .before .before in
-    let t = l .before .before in
-    let j = t .before .before in
-    let s = j .before .before .before .before .before in
-    odd-taken _ (s .pre .0 .0) _ (s .pre .0 .1) _ _ (answer-is j) _ _ _ (t .enum-told .given .1) (j .before .before .slot-at .ensures) (l .put-levels .ensures) (r .renewed .ensures)
+    let z = r .before .before in
+    let o = z .before .before .before in
+    let s = o .before .before .before .before in
+    odd-taken _ (s .pre .0 .0) _ (s .pre .0 .1) _ _ _ (o .put-odd .ensures .0) (o .put-odd .ensures .1) _ (z .if1 .left) (r .renewed .ensures)
 
 pub odd-lot-spec : {M : Type 1} → statement M
 odd-lot-spec =
-    tie.close
-    (tie.spec
-    slot-at-requires
-    judge-odd-requires
-    (λ c. search needs)
-    (λ c. search needs)
-    (λ c κs. search needs)
-    (λ c. search needs)
-    returns
-    put-levels-requires
-    (λ c κs. search needs)
-    (λ c. search needs)
-    returns-2)
+    tie.close (tie.spec (λ c κs. search needs) (λ c. search needs) returns (λ c κs. search needs) (λ c. search needs) returns-2)
