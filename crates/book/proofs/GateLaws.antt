@@ -1,16 +1,16 @@
 -- The checks of a block call: what each `return` of the judging functions owes, over plain values.
 -- Assumes nothing.
-use Prim.Native.Nat.{ℕ, _+_, _%_, _≤_, _<_}
+use Prim.Native.Nat.{ℕ, _≤_, _<_}
 use mathlib.Core.Path.{_≡_, refl, sym, ap, _∙_}
 use mathlib.Core.Bool.{Bool, true, false, cond}
 use mathlib.Core.List.{List}
 use mathlib.Core.Option.{Option, none, some}
-use lib.Dec.{eqb}
+use lib.Dec.{leb, eqb}
 use borrow.Author.Tests.{lt-ltb, le-ltb}
 use Rattle.lists.specs.Lists.{at}
 use Rattle.field.specs.Field.{field}
 use Rattle.block.specs.Block.{countIn, sequenceIn, checksumOf, lengthGood, tableGood, controlAmong, checked, checkedNumber, idleBlock}
-use Rattle.block.specs.Sequence.{arrivalOf}
+use Rattle.block.specs.Sequence.{gapOf, nextOf, arrivalOf}
 use Rattle.block.specs.declared.Checked.{Checked}
 use Rattle.block.specs.declared.Checked.the-variants as checks
 use Rattle.block.specs.declared.Arrival.{Arrival}
@@ -22,7 +22,7 @@ use Rattle.book.specs.declared.LineState.the-variants.{Open, Closed}
 use Rattle.book.specs.declared.Gate.{Gate}
 use Rattle.book.specs.declared.Gate.the-variants as gate
 use Rattle.book.specs.Opening.{sound, linesIn, restIn}
-use Rattle.book.specs.Call.{arrivalNumberOf, checkedNumberOf, lineNumber, blockNumber, done, gapTold, advanced}
+use Rattle.book.specs.Call.{arrivalNumberOf, checkedNumberOf, lineNumber, blockNumber, done, gapTold, lineAfter, advanced}
 use Rattle.book.specs.Code.{opened, gateBy, gateOn, gateOf}
 use Rattle.lists.proofs.Tests.{clash}
 
@@ -75,6 +75,15 @@ block-nine r day k = go (checked k) refl
     go (checks.Pass c) e = line (idleBlock k) day
     go (checks.Refused n) e = refused-number k n e .1
 
+-- a block that is taken leaves the line at its number + c
+next-is : (s e c g n : ℕ) → arrivalOf s e c ≡ Taken g n → n ≡ nextOf s c
+unfolding arrivalOf
+next-is s e c g n = go (leb (gapOf s e) 2147483647)
+  where
+    go : (t : Bool) → cond t (Taken (gapOf s e) (nextOf s c)) Duplicate ≡ Taken g n → n ≡ nextOf s c
+    go true h = cc
+    go false h = clash (cc)
+
 module _ (r : Line) (day : Bool) (k : List ℕ) where
   -- refused by its own checks
   pub gate-refused : (n x : ℕ) → checked k ≡ checks.Refused n → x ≡ n → gate.Refused x r ≡ gateBy r (blockNumber r day k) k
@@ -99,14 +108,13 @@ module _ (r : Line) (day : Bool) (k : List ℕ) where
     admit-duplicate i d a = rw (e, i, d, ← counted, a)
 
     pub admit-taken : (g n w : ℕ) (x : Line) → idleBlock k ≡ false → day ≡ true → arrivalOf (sequenceIn k) (r .expected) c ≡ Taken g n → w ≡ cond (eqb g 0) 0 70
-        → x ≡ record { letter = r .letter; expected = n; count = (r .count + c) % 18446744073709551616 }
-        → gate.Taken w g c x ≡ gateBy r (blockNumber r day k) k
+        → x ≡ lineAfter r (nextOf (sequenceIn k) c) c → gate.Taken w g c x ≡ gateBy r (blockNumber r day k) k
     unfolding blockNumber lineNumber gapTold advanced done
-    admit-taken g n w x i d a f h = rw (e, i, d, ← counted, a, f, h) (go (eqb g 0))
+    admit-taken g n w x i d a f h = rw (e, i, d, ← counted, a, f, h, ← next-is _ _ _ _ _ a) (go (eqb g 0))
       where
-        go : (t : Bool) → gate.Taken (cond t 0 70) g c (record { letter = r .letter; expected = n; count = (r .count + c) % 18446744073709551616 })
+        go : (t : Bool) → gate.Taken (cond t 0 70) g c (lineAfter r n c)
             ≡ cond (cond (eqb (cond t 0 70) 0) true (eqb (cond t 0 70) 70))
-            (gate.Taken (cond t 0 70) g c (record { letter = r .letter; expected = n; count = (r .count + c) % 18446744073709551616 })) (gate.Refused (cond t 0 70) r)
+            (gate.Taken (cond t 0 70) g c (lineAfter r n c)) (gate.Refused (cond t 0 70) r)
         go true = refl
         go false = refl
 

@@ -1,6 +1,6 @@
 -- The block call by what its checks give.
 -- Assumes nothing.
-use Prim.Native.Nat.{ℕ, _+_, _%_, _≤_, _<_}
+use Prim.Native.Nat.{ℕ, _≤_, _<_}
 use mathlib.Core.Path.{_≡_, refl, sym, ap, _∙_}
 use mathlib.Core.Bool.{Bool, true, false, cond}
 use mathlib.Core.List.{List, []}
@@ -10,14 +10,13 @@ use lib.Dec.{ltb, eqb}
 use lib.ListN.{length}
 use Rattle.field.specs.Field.{part, splice}
 use Rattle.field.proofs.Laws.{splice-part}
-use Rattle.block.specs.Block.{messagesOf, countIn, sequenceIn, idleBlock, checked}
-use Rattle.block.specs.Sequence.{arrivalOf}
+use Rattle.block.specs.Block.{messagesOf, countIn, idleBlock, checked}
 use Rattle.book.specs.declared.Line.{Line}
 use Rattle.book.specs.declared.Report.{Report}
 use Rattle.book.specs.declared.Gate.{Gate}
 use Rattle.book.specs.declared.Gate.the-variants as gate
 use Rattle.book.specs.Opening.{sound, lineAt, lineBytes, linesIn, restIn, pagesIn}
-use Rattle.book.specs.Call.{take, Told, Answer, bare, onLine, blockNumber, numberOf, done, letterOf, lineAnswer, answerOf, quads, tally, isAccepted, isPartly, isRejected, nextBy, gapTold, report, advanced, messagesOn, toldOn, publishedOn, advanceOn, afterCall, listedOf, numberOn, answerOn, call}
+use Rattle.book.specs.Call.{take, Told, Answer, bare, onLine, blockNumber, numberOf, done, letterOf, lineAnswer, answerOf, quads, tally, isAccepted, isPartly, isRejected, gapTold, report, lineAfter, advanced, messagesOn, toldOn, publishedOn, advanceOn, afterCall, listedOf, numberOn, answerOn, call}
 use Rattle.book.specs.Code.{tallyOf, Ran, ran, gateBy, gateOn, gateOf, reportOf, TakenBlock, taken}
 use Rattle.lists.specs.Lists.{upper}
 use Rattle.lists.proofs.Tests.{clash}
@@ -59,11 +58,11 @@ nothing a = splice-part a 0 0 (omega arith)
 -- a block moves no letter
 letter-stays : (r : Line) (k : List ℕ) → advanced r k .letter ≡ r .letter
 unfolding advanced
-letter-stays r k = go (idleBlock k)
+letter-stays r k = go _ (idleBlock k)
   where
-    go : (t : Bool) → cond {A = Line} t r (record { letter = r .letter; expected = nextBy (r .expected) (arrivalOf (sequenceIn k) (r .expected) (countIn k)); count = (r .count + countIn k) % 18446744073709551616 }) .letter ≡ r .letter
-    go true = refl
-    go false = refl
+    go : (n : ℕ) (t : Bool) → cond {A = Line} t r (lineAfter r n (countIn k)) .letter ≡ r .letter
+    go n true = refl
+    go n false = refl
 
 module _ (b : List ℕ) (i : ℕ) (k a : List ℕ) (day : Bool) where
   abbrev numbered : Bool → Bool → Option Line → ℕ

@@ -176,15 +176,13 @@ nextBy expected Duplicate = expected
 unfoldable pub gapTold : Line → List ℕ → ℕ
 gapTold r b = cond (idleBlock b) 0 (gapBy (arrivalOf (sequenceIn b) (r .expected) (countIn b)))
 
--- "After a block is taken, expected becomes its number + c under that modulus, and the line's count rises by c modulo 2^64"
+-- "After a block is taken, expected becomes its number + c under that modulus, and the line's count rises by c modulo 2^64"; the letter stays
+abbrev pub lineAfter : Line → ℕ → ℕ → Line
+lineAfter r next c = record { letter = r .letter; expected = next; count = (r .count + c) % 18446744073709551616 }
+
+-- the same of a block's bytes: "Blocks whose message is C I, C T or C 5 .. move neither"
 unfoldable pub advanced : Line → List ℕ → Line
-advanced r b =
-    cond (idleBlock b) r
-    (record {
-      letter = r .letter;
-      expected = nextBy (r .expected) (arrivalOf (sequenceIn b) (r .expected) (countIn b));
-      count = (r .count + countIn b) % 18446744073709551616;
-    })
+advanced r b = cond (idleBlock b) r (lineAfter r (nextBy (r .expected) (arrivalOf (sequenceIn b) (r .expected) (countIn b))) (countIn b))
 
 -- "A taken block reports 0 or its 70, d, the new expected number and count"; "A refused block reports its number, d 0, no messages, and the line's
 -- expected number and count as they stand, 0 and 0 after 1, 9 or 21"

@@ -7,11 +7,12 @@ ghost use lib.ListN.{length};
 ghost use Rattle.field.specs.Field.{be, field, part, splice};
 ghost use Rattle.lists.specs.Lists.{upper, member};
 ghost use Rattle.block.specs.Block.{checked, messagesOf};
+ghost use Rattle.block.specs.Sequence.{nextOf};
 ghost use Rattle.message.specs.Form.{letterGood};
 ghost use Rattle.message.specs.Message.{messageOf};
 ghost use Rattle.page.specs.Page.{emptied, finraOn};
 ghost use Rattle.book.specs.Opening.{symbolsOf, countOf, sound, lineAt, lineBytes, linesIn, restIn, pageStart, pagePlace, eachPage, restarted, restartLines};
-ghost use Rattle.book.specs.Call.{Told, isRejected, Outcome, bare, call, make, add, openLine, startDay, endDay, lots, blockNumber, numberOn, messageOn};
+ghost use Rattle.book.specs.Call.{Told, isRejected, Outcome, bare, call, make, add, openLine, startDay, endDay, lots, blockNumber, lineAfter, numberOn, messageOn};
 ghost use Rattle.book.specs.Code.{opened, orFrom, pageFlags, finraFlags, toldOne, quad, tallyWith, gateBy, gateOf, Ran, ran, TakenBlock, taken, ReadOut, readOut};
 use block::Arrival;
 use block::Checked;
@@ -238,6 +239,23 @@ fn put_line(book: &mut [u8], line: u32, x: Line)
     field::put8(book, at, x.letter);
     field::put32(book, at + Line::EXPECTED, x.expected);
     field::put64(book, at + Line::COUNT, x.count);
+}
+
+// A block of c messages with that sequence number moves its line on, in place. Its proof is by hand, so this stays thin.
+fn step(line: &mut Line, sequence: u32, c: u32)
+    ensures { λ _. ⌜ now (line .exit) ≡ lineAfter (now (line .entry)) (nextOf sequence c) c ⌝ }
+{
+    line.expected = std::num::wrapping_add_u32(sequence, c);
+    line.count = std::num::wrapping_add_u64(line.count, c as u64);
+}
+
+// The same by value, so that no caller lends a record: whoever does needs a proof by hand, as this function has.
+fn advance(old: Line, sequence: u32, c: u32) -> Line
+    ensures { λ r. ⌜ r ≡ lineAfter old (nextOf sequence c) c ⌝ }
+{
+    let mut line = old;
+    step(&mut line, sequence, c);
+    line
 }
 
 fn restart_line(book: &mut [u8], i: usize)
@@ -514,15 +532,16 @@ fn admit(old: Line, day: bool, block: &[u8], c: usize) -> Gate
         };
     }
     if day {
-        let arrival = block::arrive(block::sequence(block), old.expected, c as u32);
-        let Arrival::Taken { gap, next } = arrival else {
+        let sequence = block::sequence(block);
+        let arrival = block::arrive(sequence, old.expected, c as u32);
+        let Arrival::Taken { gap, next: _ } = arrival else {
             return Gate::Refused(35, old);
         };
         return Gate::Taken {
             number: warning(gap),
             gap,
             count: c,
-            next: advance(old, next, c as u64),
+            next: advance(old, sequence, c as u32),
         };
     }
     Gate::Refused(20, old)
@@ -536,17 +555,6 @@ fn warning(gap: u32) -> u8
         return 0;
     }
     70
-}
-
-// A line's record after a block of c messages.
-fn advance(old: Line, next: u32, c: u64) -> Line
-    ensures { λ r. ⌜ r ≡ record { letter = old .letter; expected = next; count = (old .count + c) % 18446744073709551616 } ⌝ }
-{
-    Line {
-        letter: old.letter,
-        expected: next,
-        count: std::num::wrapping_add_u64(old.count, c),
-    }
 }
 
 // ---- the seven calls

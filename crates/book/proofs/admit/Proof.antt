@@ -1,4 +1,4 @@
-use Prim.Native.Nat.{ℕ, _≤_, _<_}
+use Prim.Native.Nat.{ℕ, _^_, _≤_, _<_}
 use mathlib.Core.Path.{_≡_, sym, ap, _∙_}
 use native.Mathlib.Omega.{arith}
 use lib.ListN.{length}
@@ -20,12 +20,15 @@ returns c = admit-idle _ _ _ _ (c .before .before .before .pre) (sym (c .before 
 sequence-requires : tie.Need-sequence-requires
 sequence-requires c κs = let p = passes (c .before .before .before .before) in omega (arith, p .long)
 
+-- c fits 32 bits
+small : (c : tie.Start) → c .args .c < 2 ^ 32
+small c = let p = passes c in omega (arith, p .table .few, p .counted)
+
 cast-arrive : tie.Need-cast-arrive
-cast-arrive c =
-    let s = c .before .before .before .before .before in
-    let p = passes s in
-    let h : s .args .c < 256 = omega (arith, p .table .few, p .counted) in
-    search needs
+cast-arrive c = let h = small (c .before .before .before .before .before) in search needs
+
+cast-advance : tie.Need-cast-advance
+cast-advance c = let h = small (c .before .before .before .before .before .before .before .before .before .before) in search needs
 
 returns-2 : tie.Need-returns-2
 returns-2 c =
@@ -44,7 +47,7 @@ returns-3 c =
     let i = s .before .before in
     let z = i .before in
     admit-taken _ _ _ _ (z .before .before .pre) _ _ _ _ (sym (z .is-idle .ensures) ∙ i .if1 .left) (s .before .if2 .taken)
-    (rw (s .sequence .ensures) at (sym (a .arrive .ensures) ∙ t .arrival .given .1)) (w .warning .ensures) (c .advance .ensures)
+    (rw (s .sequence .ensures) at (sym (a .arrive .ensures) ∙ t .arrival .given .1)) (w .warning .ensures) (rw (s .sequence .ensures) at (c .advance .ensures))
 
 returns-4 : tie.Need-returns-4
 returns-4 c = admit-closed _ _ _ _ (c .before .before .before .before .pre) (sym (c .before .before .is-idle .ensures) ∙ c .before .if1 .left) (c .if2 .left)
@@ -62,6 +65,7 @@ admit-spec =
     (λ c. search needs)
     returns-2
     (λ c κs. search needs)
+    cast-advance
     (λ c κs. search needs)
     returns-3
     returns-4)
