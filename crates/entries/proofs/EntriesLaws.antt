@@ -9,7 +9,8 @@ use native.Mathlib.Omega.{arith}
 use native.Mathlib.Nat.{lt-of-lt-of-le, pow-le-pow-right, min-le-left}
 use lib.Dec.{eqb, ltb}
 use lib.ListN.{length, take, drop, length-take}
-use borrow.Author.Tests.{ltb-true}
+use borrow.Author.Tests.{ltb-true, ltb-false}
+use Rattle.lists.proofs.Tests.{clash}
 use Rattle.lists.specs.Lists.{member, mapOption, bindOption, consOption, collect, gather, range, upper}
 use Rattle.field.specs.Field.{Bytes, part, field}
 use Rattle.field.proofs.Laws.{be-lt, bytes-part}
@@ -18,26 +19,23 @@ use Rattle.ranking.specs.declared.Side.the-variants.{Bid, Offer}
 use Rattle.ranking.specs.declared.Candidate.{Candidate}
 use Rattle.ranking.specs.declared.Sides.{Sides}
 use Rattle.ranking.specs.Ranking.{better, best}
-use Rattle.ranking.specs.Choice.{orNone, live, ofSide, bothSides, noSides, sidesFrom, beyondOf}
-use Rattle.ranking.proofs.OrderLaws.{keep}
-use Rattle.ranking.proofs.Bridge.{OrCounting, live-counts, live-back, sides-best, best-counts}
+use Rattle.ranking.specs.Choice.{rankOf, noCandidate, orNone, ofSide, choose, reaching, bestFrom, bothSides, noSides, sidesFrom, beyondOf}
+use Rattle.ranking.proofs.OrderLaws.{keep, either}
+use Rattle.ranking.proofs.ReachingLaws.{reach-none, reach-choose, reach-from, reach-twice, reach-all, reach-best, beyond-reach}
+use Rattle.ranking.proofs.Bridge.{OrCounting, live-counts, live-back, fits-or, side-best, best-counts, choose-either}
 use Rattle.quote.specs.declared.Quote.{Quote}
 use Rattle.quote.specs.Quote.{noQuote, sideOf, admits, counts, levelCandidate, candidateOf, levelIn, quoteIn}
 use Rattle.levels.specs.Levels.{emptyCell, sideLevels, noLevels, levelsIn}
+use Rattle.entries.specs.declared.Ranks.{Ranks}
+use Rattle.entries.specs.declared.Floors.{Floors}
 use Rattle.entries.specs.declared.Tops.{Tops}
 use Rattle.entries.specs.declared.BestEntries.{BestEntries}
 use Rattle.entries.specs.Entries.{Entries, letters, asD, makerCandidate, finraBest, letterCandidate, nationalBest, oddCandidate, letterLevels, oddBest, entriesBy, entriesOf}
 use Rattle.entries.specs.Page.{slotAt, cellAt, quotesIn, levelsFor, makerIn, makersIn, same, occupied, pageEntries}
-use Rattle.entries.specs.Walk.{inQuote, inLevels, makerAt, letterAt, firstOf, firstAt, orNones, noTops, topsFrom, bestsOf}
+use Rattle.entries.specs.Walk.{inQuote, inLevels, makerAt, quotedAt, firstOf, firstAt, floorOf, reachingAt, noTops, topsFrom, bothReach, allReach, bestsOf}
 use Rattle.entries.proofs.ReadLaws.{level-at, quote-side, maker-at, first-level, cell-live}
+use Rattle.entries.proofs.NationalLaws.{d-last, choose-d}
 use Rattle.entries.proofs.OddLaws.{collect-bind, page-falls, far, odd-once, beyond-is}
-
-both-same : {f g : Side → Candidate} → ((s : Side) → f s ≡ g s) → bothSides f ≡ bothSides g
-both-same e = λ i. record { bid = e Bid i; offer = e Offer i }
-
-of-both : (s : Side) (f : Side → Candidate) → ofSide s (bothSides f) ≡ f s
-of-both Bid f = refl
-of-both Offer f = refl
 
 -- ---- whatever stands in a page of bytes fits
 
@@ -132,32 +130,13 @@ module _ (p : List ℕ) (b : Bytes p) where
       occupied-is [] = refl
       occupied-is (k ∷ ks) = ap (consOption (makerIn (part p (cellAt k) 45))) (occupied-is ks)
 
-  pub finra-is : sidesFrom (orNones (makerAt p)) 0 16 noSides ≡ bothSides (λ s. orNone (fb s))
+  finra-is : (s : Side) → best (better s) (collect (makerAt p s) (range 16 0)) ≡ fb s
   unfolding finraBest
-  finra-is = sides-best (makerAt p) maker-counts 0 16 ∙ both-same (λ s. ap (λ (cs : List Candidate). orNone (best (better s) cs)) (maker-list s))
+  finra-is s = ap (best (better s)) (maker-list s)
 
   finra-counts : (s : Side) → OrCounting (fb s)
   unfolding finraBest
   finra-counts s = rw (← maker-list s) (best-counts s (makerAt p s) (maker-counts s) (range 16 0))
-
-  -- ---- the letters, as far as the k-th
-
-  module _ (f : Sides) (ef : f ≡ bothSides (λ s. orNone (fb s))) where
-    letter-is : (s : Side) → letterAt p f s ≡ letterCandidate s (quotesIn p) (fb s)
-    unfolding letterAt
-    letter-is s = ap (λ (o : Option Candidate). letterCandidate s (quotesIn p) o) (back s)
-      where
-        back : (s : Side) → live (ofSide s f) ≡ fb s
-        back Bid = ap (λ (t : Sides). live (t .bid)) ef ∙ live-back (fb Bid) (finra-counts Bid)
-        back Offer = ap (λ (t : Sides). live (t .offer)) ef ∙ live-back (fb Offer) (finra-counts Offer)
-
-    national-counts : (s : Side) (l : ℕ) → OrCounting (letterAt p f s l)
-    national-counts s l = rw (letter-is s) (letter-counts s (fb s) l (finra-counts s))
-
-    pub national-is : (k : ℕ) → sidesFrom (orNones (letterAt p f)) 65 k noSides ≡ bothSides (λ s. orNone (best (better s) (collect (letterCandidate s (quotesIn p) (fb s)) (range k 65))))
-    national-is k =
-        sides-best (letterAt p f) national-counts 65 k
-        ∙ both-same (λ s. ap (λ (c : ℕ → Option Candidate). orNone (best (better s) (collect c (range k 65)))) (letter-is s))
 
   -- the best first level, if it is beyond a national best
   pub odd-is : (s : Side) (nb : Option Candidate) (k : ℕ) → OrCounting nb
@@ -195,29 +174,150 @@ module _ (p : List ℕ) (b : Bytes p) where
   unfolding pageEntries entriesOf entriesBy
   six-count = record { national = national-best-counts; finra = finra-counts; odd = odd-best-counts }
 
+-- ---- the walk from floors
+
+-- the best of what reaches a floor
+from-floor : (f : Side → ℕ → Option Candidate) → ((s : Side) (j : ℕ) → OrCounting (f s j)) → (g : Ranks) (t : Sides) (i k : ℕ) → t ≡ sidesFrom (reachingAt g f) i k noSides → (s : Side)
+    → ofSide s t ≡ reaching s (floorOf s g) (orNone (best (better s) (collect (f s) (range k i))))
+unfolding sidesFrom
+from-floor f h g t i k e = side
+  where
+    found : (s : Side) → bestFrom s (reachingAt g f s) i k noCandidate ≡ reaching s (floorOf s g) (orNone (best (better s) (collect (f s) (range k i))))
+    found s =
+        ap (bestFrom s (reachingAt g f s) i k) (sym (reach-none s (floorOf s g)))
+        ∙ reach-from s (floorOf s g) (λ j. orNone (f s j)) i k noCandidate
+        ∙ ap (reaching s (floorOf s g)) (side-best s (f s) (h s) i k)
+
+    side : (s : Side) → ofSide s t ≡ reaching s (floorOf s g) (orNone (best (better s) (collect (f s) (range k i))))
+    side Bid = ap (λ (t : Sides). t .bid) e ∙ found Bid
+    side Offer = ap (λ (t : Sides). t .offer) e ∙ found Offer
+
+module _ (p : List ℕ) (b : Bytes p) (s : Side) where
+  -- the best of the letters' own quotes
+  abbrev quoted : Option Candidate
+  quoted = best (better s) (collect (quotedAt p s) (range 26 65))
+
+  quoted-counts : (l : ℕ) → OrCounting (quotedAt p s l)
+  unfolding quotedAt
+  quoted-counts l = letter-counts p b s none l tt
+
+  national-is : choose s (orNone quoted) (asD (orNone (fb p b s))) ≡ orNone (nb p b s)
+  unfolding nationalBest letters quotedAt
+  national-is =
+      choose-d s (orNone quoted) (orNone (fb p b s))
+      ∙ ap (λ (o : Option Candidate). choose s (orNone quoted) (orNone (mapOption asD o))) (live-back (fb p b s) (finra-counts p b s))
+      ∙ choose-either s quoted (orNone (mapOption asD (fb p b s))) (best-counts s (quotedAt p s) quoted-counts (range 26 65)) (fits-or (mapOption asD (fb p b s)) d-counts)
+      ∙ ap (λ (o : Option Candidate). orNone (either (better s) quoted o)) (live-back (mapOption asD (fb p b s)) d-counts)
+      ∙ ap orNone (sym (d-last s (quotesIn p) (fb p b s)))
+    where
+      d-counts : OrCounting (mapOption asD (fb p b s))
+      d-counts = as-d-counts p b (fb p b s) (finra-counts p b s)
+
+  -- one side, its FINRA and national best reaching their floors
+  module _ (h g : ℕ) (f q r n o : Candidate) (ef : f ≡ reaching s h (orNone (best (better s) (collect (makerAt p s) (range 16 0))))) (eq : q ≡ reaching s g (orNone quoted))
+      (er : r ≡ reaching s g (orNone (best (better s) (collect (firstAt p s) (range 26 65))))) (en : n ≡ choose s q (asD f)) (eo : o ≡ beyondOf s n r)
+      (kf : h ≤ rankOf s (f .price)) (kn : g ≤ rankOf s (n .price)) where
+    finra-side : f ≡ orNone (fb p b s)
+    finra-side = reach-best s h f (orNone (best (better s) (collect (makerAt p s) (range 16 0)))) ef kf ∙ ap orNone (finra-is p b s)
+
+    national-side : n ≡ orNone (nb p b s)
+    national-side =
+        reach-all s g n (choose s (orNone quoted) (asD f))
+        (ap (reaching s g) en
+        ∙ reach-choose s g q (asD f)
+        ∙ ap (λ (c : Candidate). choose s c (reaching s g (asD f))) (ap (reaching s g) eq ∙ reach-twice s g (orNone quoted))
+        ∙ sym (reach-choose s g (orNone quoted) (asD f)))
+        kn
+        ∙ ap (λ (c : Candidate). choose s (orNone quoted) (asD c)) finra-side
+        ∙ national-is
+
+    odd-side : o ≡ orNone (oddBest (levelsFor p) (nb p b) s)
+    unfolding oddBest letters
+    odd-side =
+        eo
+        ∙ ap (beyondOf s n) er
+        ∙ beyond-reach s g n (orNone (best (better s) (collect (firstAt p s) (range 26 65)))) kn
+        ∙ ap (λ (c : Candidate). beyondOf s c (orNone (best (better s) (collect (firstAt p s) (range 26 65))))) national-side
+        ∙ odd-is p b s (nb p b s) 26 (national-best-counts p b s)
+
+    side-walked : (f ≡ orNone (fb p b s)) × (n ≡ orNone (nb p b s)) × (o ≡ orNone (oddBest (levelsFor p) (nb p b) s))
+    side-walked = (finra-side, national-side, odd-side)
+
 -- ---- the whole
 
-module _ (p : List ℕ) (b : Bytes p) (f : Sides) (t : Tops) (rb ro : Candidate) (ef : f ≡ sidesFrom (orNones (makerAt p)) 0 16 noSides)
-    (et : t ≡ topsFrom p f 65 26 noTops) (eb : rb ≡ beyondOf Bid (t .national .bid) (t .odd .bid)) (eo : ro ≡ beyondOf Offer (t .national .offer) (t .odd .offer)) where
-  national-all : t .national ≡ bothSides (λ s. orNone (nb p b s))
-  unfolding topsFrom nationalBest letters
-  national-all = ap (λ (t : Tops). t .national) et ∙ national-is p b f (ef ∙ finra-is p b) 26
+both-reach : (g : Ranks) (t : Sides) → bothReach g t ≡ true → (s : Side) → floorOf s g ≤ rankOf s (ofSide s t .price)
+unfolding bothReach
+both-reach g t e = go (ltb (rankOf Bid (t .bid .price)) (g .bid)) refl (ltb (rankOf Offer (t .offer .price)) (g .offer)) refl e
+  where
+    go : (u : Bool) → ltb (rankOf Bid (t .bid .price)) (g .bid) ≡ u → (v : Bool) → ltb (rankOf Offer (t .offer .price)) (g .offer) ≡ v → cond u false (cond v false true) ≡ true
+        → (s : Side) → floorOf s g ≤ rankOf s (ofSide s t .price)
+    go true h v k e s = clash (sym e)
+    go false h true k e s = clash (sym e)
+    go false h false k e Bid = ltb-false (rankOf Bid (t .bid .price)) (g .bid) h
+    go false h false k e Offer = ltb-false (rankOf Offer (t .offer .price)) (g .offer) k
 
-  odd-all : t .odd ≡ bothSides (λ s. orNone (best (better s) (collect (firstAt p s) (range 26 65))))
+all-reach : (g : Floors) (e : BestEntries) → allReach g e ≡ true → (bothReach (g .finra) (e .finra) ≡ true) × (bothReach (g .national) (e .national) ≡ true)
+unfolding allReach
+all-reach g e = go (bothReach (g .finra) (e .finra)) refl
+  where
+    go : (t : Bool) → bothReach (g .finra) (e .finra) ≡ t → cond t (bothReach (g .national) (e .national)) false ≡ true
+        → (bothReach (g .finra) (e .finra) ≡ true) × (bothReach (g .national) (e .national) ≡ true)
+    go true h k = (h, k)
+    go false h k = clash (sym k)
+
+module _ (p : List ℕ) (b : Bytes p) (g : Floors) (f : Sides) (t : Tops) (db da mb ma ob oa : Candidate)
+    (ef : f ≡ sidesFrom (reachingAt (g .finra) (makerAt p)) 0 16 noSides) (et : t ≡ topsFrom p (g .national) 65 26 noTops)
+    (edb : db ≡ asD (f .bid)) (eda : da ≡ asD (f .offer)) (emb : mb ≡ choose Bid (t .national .bid) db) (ema : ma ≡ choose Offer (t .national .offer) da)
+    (eob : ob ≡ beyondOf Bid mb (t .odd .bid)) (eoa : oa ≡ beyondOf Offer ma (t .odd .offer)) where
+  abbrev six : BestEntries
+  six = record { national = record { bid = mb; offer = ma }; finra = f; odd = record { bid = ob; offer = oa } }
+
+  quotes-from : t .national ≡ sidesFrom (reachingAt (g .national) (quotedAt p)) 65 26 noSides
   unfolding topsFrom
-  odd-all = ap (λ (t : Tops). t .odd) et ∙ sides-best (firstAt p) (first-counts p b) 65 26
+  quotes-from = ap (λ (t : Tops). t .national) et
 
-  odd-side : (s : Side) → beyondOf s (ofSide s (t .national)) (ofSide s (t .odd)) ≡ orNone (oddBest (levelsFor p) (nb p b) s)
-  unfolding oddBest letters
-  odd-side s =
-      ap₂ (beyondOf s) (ap (ofSide s) national-all ∙ of-both s (λ s. orNone (nb p b s))) (ap (ofSide s) odd-all ∙ of-both s (λ s. orNone (best (better s) (collect (firstAt p s) (range 26 65)))))
-      ∙ odd-is p b s (nb p b s) 26 (national-best-counts p b s)
+  firsts-from : t .odd ≡ sidesFrom (reachingAt (g .national) (firstAt p)) 65 26 noSides
+  unfolding topsFrom
+  firsts-from = ap (λ (t : Tops). t .odd) et
 
-  pub walked : _≡_ {A = BestEntries} (record { national = t .national; finra = f; odd = record { bid = rb; offer = ro } }) (bestsOf (pageEntries p))
+  with-d : (s : Side) → ofSide s (six .national) ≡ choose s (ofSide s (t .national)) (asD (ofSide s f))
+  with-d Bid = emb ∙ ap (choose Bid (t .national .bid)) edb
+  with-d Offer = ema ∙ ap (choose Offer (t .national .offer)) eda
+
+  past : (s : Side) → ofSide s (six .odd) ≡ beyondOf s (ofSide s (six .national)) (ofSide s (t .odd))
+  past Bid = eob
+  past Offer = eoa
+
+  pub walked : allReach g six ≡ true → six ≡ bestsOf (pageEntries p)
   unfolding bestsOf pageEntries entriesOf entriesBy
-  walked =
+  walked e =
       λ i. record {
-        national = national-all i;
-        finra = (ef ∙ finra-is p b) i;
-        odd = record { bid = (eb ∙ odd-side Bid) i; offer = (eo ∙ odd-side Offer) i };
+        national = record { bid = side Bid .1 i; offer = side Offer .1 i };
+        finra = record { bid = side Bid .0 i; offer = side Offer .0 i };
+        odd = record { bid = side Bid .2 i; offer = side Offer .2 i };
       }
+    where
+      side : (s : Side) → (ofSide s f ≡ orNone (fb p b s)) × (ofSide s (six .national) ≡ orNone (nb p b s)) × (ofSide s (six .odd) ≡ orNone (oddBest (levelsFor p) (nb p b) s))
+      side s =
+          let k = all-reach g six e in
+          side-walked p b s (floorOf s (g .finra)) (floorOf s (g .national)) (ofSide s f) (ofSide s (t .national)) (ofSide s (t .odd)) (ofSide s (six .national)) (ofSide s (six .odd))
+          (from-floor (makerAt p) (maker-counts p b) (g .finra) f 0 16 ef s)
+          (from-floor (quotedAt p) (quoted-counts p b) (g .national) (t .national) 65 26 quotes-from s)
+          (from-floor (firstAt p) (first-counts p b) (g .national) (t .odd) 65 26 firsts-from s)
+          (with-d s) (past s) (both-reach (g .finra) f (k .0) s) (both-reach (g .national) (six .national) (k .1) s)
+
+-- floors that are not reached are not all 0
+pub not-reached : (g : Floors) (e : BestEntries) → allReach g e ≡ false → 0 < g .national .bid + g .national .offer + (g .finra .bid + g .finra .offer)
+unfolding allReach bothReach
+not-reached g e =
+    go (ltb (rankOf Bid (e .finra .bid .price)) (g .finra .bid)) refl (ltb (rankOf Offer (e .finra .offer .price)) (g .finra .offer)) refl
+    (ltb (rankOf Bid (e .national .bid .price)) (g .national .bid)) refl (ltb (rankOf Offer (e .national .offer .price)) (g .national .offer)) refl
+  where
+    go : (t : Bool) → ltb (rankOf Bid (e .finra .bid .price)) (g .finra .bid) ≡ t → (u : Bool) → ltb (rankOf Offer (e .finra .offer .price)) (g .finra .offer) ≡ u
+        → (v : Bool) → ltb (rankOf Bid (e .national .bid .price)) (g .national .bid) ≡ v → (w : Bool) → ltb (rankOf Offer (e .national .offer .price)) (g .national .offer) ≡ w
+        → cond (cond t false (cond u false true)) (cond v false (cond w false true)) false ≡ false → 0 < g .national .bid + g .national .offer + (g .finra .bid + g .finra .offer)
+    go true h u i v j w k z = omega (arith, ltb-true (rankOf Bid (e .finra .bid .price)) (g .finra .bid) h)
+    go false h true i v j w k z = omega (arith, ltb-true (rankOf Offer (e .finra .offer .price)) (g .finra .offer) i)
+    go false h false i true j w k z = omega (arith, ltb-true (rankOf Bid (e .national .bid .price)) (g .national .bid) j)
+    go false h false i false j true k z = omega (arith, ltb-true (rankOf Offer (e .national .offer .price)) (g .national .offer) k)
+    go false h false i false j false k z = clash z

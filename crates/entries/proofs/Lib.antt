@@ -1,6 +1,7 @@
 pub mod ReadLaws
 pub mod StepLaws
 pub mod OddLaws
+pub mod NationalLaws
 pub mod EntriesLaws
 pub mod FinraLaws
 pub mod PublicationLaws

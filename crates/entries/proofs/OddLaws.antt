@@ -16,8 +16,8 @@ use Rattle.ranking.specs.Ranking.{ahead, better, pick, best}
 use Rattle.ranking.specs.Choice.{rankOf, noCandidate, orNone, beyondOf}
 use Rattle.ranking.proofs.OrderLaws.{Top, best-top, keep, best-keep}
 use Rattle.ranking.proofs.RankingLaws.{better-weak, better-ahead, better-not-ahead, ahead-chain, ahead-up}
-use Rattle.ranking.proofs.ChoiceLaws.{rank-zero}
-use Rattle.ranking.proofs.Bridge.{OrCounting, rank-ahead, rank-some}
+use Rattle.ranking.proofs.ChoiceLaws.{rank-zero, rank-some}
+use Rattle.ranking.proofs.Bridge.{OrCounting, rank-ahead}
 use Rattle.quote.specs.declared.Level.{Level}
 use Rattle.quote.specs.Quote.{levelCandidate}
 use Rattle.levels.specs.Levels.{sideLevels, noLevels, emptyCell, behind, ranked, cellsIn, sideIn, levelsIn}

@@ -5,24 +5,32 @@ use mathlib.Core.Path.{_≡_, refl, sym, ap, _∙_}
 use mathlib.Core.Bool.{Bool, true, false, _&&_, cond}
 use mathlib.Core.List.{List, [], _∷_}
 use mathlib.Core.Option.{Option, none, some}
+use types.Run.{OneOf}
 use native.Mathlib.Omega.{arith}
 use lib.Dec.{eqb, ltb}
-use borrow.Author.Tests.{eq-eqb, ne-eqb, ltb-false}
-use Rattle.lists.specs.Lists.{member, mapOption}
+use borrow.Author.Tests.{eqb-true, eqb-false, ne-eqb, lt-ltb, le-ltb, ltb-false}
+use Rattle.lists.specs.Lists.{member, bindOption}
 use Rattle.lists.proofs.Searches.{less-one}
+use Rattle.lists.proofs.Tables.{one-of, none-of}
+use Rattle.lists.proofs.Tests.{clash}
 use Rattle.field.specs.Field.{part, field}
 use Rattle.ranking.specs.declared.Side.{Side}
 use Rattle.ranking.specs.declared.Side.the-variants.{Bid, Offer}
 use Rattle.ranking.specs.declared.Candidate.{Candidate}
 use Rattle.ranking.specs.declared.Sides.{Sides}
-use Rattle.ranking.specs.Choice.{rankOf, noCandidate, orNone, live, choose, stepSides, sidesFrom, bestFrom}
+use Rattle.ranking.specs.Choice.{rankOf, noCandidate, orNone, live, choose, reaching, stepSides, sidesFrom, bestFrom}
 use Rattle.ranking.proofs.ChoiceLaws.{choose-none, choose-live, choose-behind, choose-priceless, choose-sizeless}
+use Rattle.ranking.proofs.ReachingLaws.{reach-low, reach-high, reach-none}
+use Rattle.quote.specs.declared.Level.{Level}
 use Rattle.quote.specs.declared.Quote.{Quote}
 use Rattle.quote.specs.Quote.{sideOf, admits, counts, levelCandidate, candidateOf, levelIn, quoteIn}
+use Rattle.entries.specs.declared.Ranks.{Ranks}
+use Rattle.entries.specs.declared.Floors.{Floors}
 use Rattle.entries.specs.declared.Tops.{Tops}
-use Rattle.entries.specs.Entries.{asD, makerCandidate, letterCandidate, letterLevels}
-use Rattle.entries.specs.Page.{slotAt, cellAt}
-use Rattle.entries.specs.Walk.{inQuote, inLevels, makerAt, letterAt, firstAt, orNones, stepTops, topsFrom}
+use Rattle.entries.specs.declared.BestEntries.{BestEntries}
+use Rattle.entries.specs.Entries.{makerCandidate, letterCandidate, letterLevels}
+use Rattle.entries.specs.Page.{slotAt, cellAt, quotesIn, makerIn}
+use Rattle.entries.specs.Walk.{inQuote, inLevels, makerAt, quotedAt, firstAt, reachingAt, stepTops, topsFrom, bothReach, allReach}
 use Rattle.entries.proofs.ReadLaws.{level-at, quote-side, quote-condition, maker-at, quotes-at, first-at}
 
 -- ---- a level
@@ -59,14 +67,6 @@ module _ (s : Side) (b : Candidate) (n : ℕ) where
       go true e true f false = choose-none s b
 
   module _ (p : List ℕ) (at o : ℕ) (eo : o ≡ inQuote s) where
-    pub quote-behind : (q : ℕ) (t : Bool) → q ≡ field p (at + o) 8 → t ≡ ltb (rankOf s q) (rankOf s (b .price)) → t ≡ true
-        → b ≡ choose s b (orNone (candidateOf s n (quoteIn (part p at 41))))
-    quote-behind q t e f h = go (admits s (quoteIn (part p at 41) .condition)) ∙ choose-quote (quoteIn (part p at 41))
-      where
-        go : (a : Bool) → b ≡ cond a (choose s b (levelCandidate n (quoteIn (part p at 41) .condition) (sideOf s (quoteIn (part p at 41))))) b
-        go true = rw (← quote-side p at s, ← eo) (level-behind s b p (at + o) n (quoteIn (part p at 41) .condition) q t e f h)
-        go false = refl
-
     module _ (c : ℕ) (ec : c ≡ field p at 1) (t : Bool) (et : t ≡ admits s c) where
       quote-by : cond t (choose s b (levelCandidate n c (levelIn (part p (at + o) 20)))) b ≡ choose s b (orNone (candidateOf s n (quoteIn (part p at 41))))
       quote-by = rw (et, eo, quote-side p at s, ec, quote-condition p at) (choose-quote (quoteIn (part p at 41)))
@@ -78,86 +78,222 @@ module _ (s : Side) (b : Candidate) (n : ℕ) where
       pub quote-no : t ≡ false → b ≡ choose s b (orNone (candidateOf s n (quoteIn (part p at 41))))
       quote-no h = ap (λ (v : Bool). cond v (choose s b (levelCandidate n c (levelIn (part p (at + o) 20)))) b) (sym h) ∙ quote-by
 
+-- ---- what is passed over, its price ranking below the floor
+
+-- none, or at a price
+abbrev Priced : ℕ → Option Candidate → Type 0
+Priced q none = Unit {0}
+Priced q (some c) = c .price ≡ q
+
+module _ (s : Side) (g q : ℕ) where
+  low : (o : Option Candidate) → Priced q o → rankOf s q < g → reaching s g (orNone o) ≡ noCandidate
+  low none e h = reach-none s g
+  low (some c) e h = reach-low s g c (rw e h)
+
+  high : (o : Option Candidate) → Priced q o → g ≤ rankOf s q → reaching s g (orNone o) ≡ orNone o
+  high none e h = reach-none s g
+  high (some c) e h = reach-high s g c (rw e h)
+
+  module _ (b : Candidate) (o : Option Candidate) (e : Priced q o) (v k : ℕ) (ev : v ≡ q) (ek : k ≡ rankOf s v) where
+    passed : k < g → b ≡ choose s b (reaching s g (orNone o))
+    passed h = choose-none s b ∙ ap (choose s b) (sym (low o e (rw (← ev, ← ek) h)))
+
+    looked : (r : Candidate) → g ≤ k → r ≡ choose s b (orNone o) → r ≡ choose s b (reaching s g (orNone o))
+    looked r h er = er ∙ ap (choose s b) (sym (high o e (rw (← ev, ← ek) h)))
+
+nothing : (s : Side) (g : ℕ) (b : Candidate) (o : Option Candidate) → o ≡ none → b ≡ choose s b (reaching s g (orNone o))
+nothing s g b o e = rw (e, reach-none s g) (choose-none s b)
+
+candidate-priced : (p : List ℕ) (at : ℕ) (s : Side) (n : ℕ) → Priced (field p (at + inQuote s) 8) (candidateOf s n (quoteIn (part p at 41)))
+unfolding candidateOf
+candidate-priced p at s n = go (counts s (quoteIn (part p at 41)))
+  where
+    go : (t : Bool) → Priced (field p (at + inQuote s) 8) (cond t (some (levelCandidate n (quoteIn (part p at 41) .condition) (sideOf s (quoteIn (part p at 41))))) none)
+    go true = ap (λ (l : Level). l .price) (sym (quote-side p at s) ∙ level-at p (at + inQuote s))
+    go false = tt
+
 -- ---- a maker
 
-module _ (p : List ℕ) (k : ℕ) (t : Sides) (a c : ℕ) (u : Bool) (ea : a ≡ cellAt k) (ec : c ≡ field p (a + 4) 1) (eu : u ≡ member (76 ∷ 82 ∷ []) c) where
-  pub maker-free : u ≡ false → t ≡ stepSides (orNones (makerAt p)) k t
-  unfolding makerAt stepSides
-  maker-free h = rw (← ea, maker-at p a, ← ec, ← eu, h, ← choose-none Bid (t .bid), ← choose-none Offer (t .offer))
+-- R alone counts
+maker-r : (p : List ℕ) (a : ℕ) (s : Side) → field p (a + 4) 1 ≡ 82 → bindOption (makerIn (part p a 45)) (makerCandidate s) ≡ candidateOf s (field p a 4) (quoteIn (part p (a + 4) 41))
+unfolding makerCandidate member
+maker-r p a s e = rw (maker-at p a, e)
 
-  pub maker-read : (n : ℕ) (rb ro : Candidate) → u ≡ true → n ≡ field p a 4
-      → rb ≡ choose Bid (t .bid) (orNone (candidateOf Bid n (quoteIn (part p (a + 4) 41))))
-      → ro ≡ choose Offer (t .offer) (orNone (candidateOf Offer n (quoteIn (part p (a + 4) 41))))
-      → _≡_ {A = Sides} (record { bid = rb; offer = ro }) (stepSides (orNones (makerAt p)) k t)
-  unfolding makerAt makerCandidate stepSides
-  maker-read n rb ro h en eb eo = rw (← ea, maker-at p a, ← ec, ← eu, h, ← en, ← eb, ← eo)
-
--- ---- a letter
-
-choose-d : (s : Side) (b c : Candidate) → choose s b (asD c) ≡ choose s b (orNone (mapOption asD (live c)))
-unfolding live asD
-choose-d s b c = choose-live s b (asD c) ∙ ap (λ (o : Option Candidate). choose s b (orNone o)) (go (eqb (c .price) 0) (eqb (c .size) 0))
+closed : (s : Side) (n : ℕ) (q : Quote) → q .condition ≡ 76 → candidateOf s n q ≡ none
+unfolding candidateOf counts admits member
+closed s n q e = go (ltb 0 (sideOf s q .price)) (ltb 0 (sideOf s q .size)) (admits s (q .condition)) (ap (admits s) e)
   where
-    go : (t u : Bool) → cond t none (cond u none (some (asD c))) ≡ mapOption asD (cond t none (cond u none (some c)))
-    go true u = refl
-    go false true = refl
-    go false false = refl
+    go : (u v t : Bool) → t ≡ false → cond (u && v && t) (some (levelCandidate n (q .condition) (sideOf s q))) none ≡ none
+    go false v t f = refl
+    go true false t f = refl
+    go true true true f = clash f
+    go true true false f = refl
 
-module _ (p : List ℕ) (f : Sides) (l : ℕ) (t : Sides) (rb ro : Candidate) where
-  pub national-d : l ≡ 68 → (xb xo : Candidate) → xb ≡ asD (f .bid) → xo ≡ asD (f .offer) → rb ≡ choose Bid (t .bid) xb → ro ≡ choose Offer (t .offer) xo
-      → _≡_ {A = Sides} (record { bid = rb; offer = ro }) (stepSides (orNones (letterAt p f)) l t)
-  unfolding letterAt letterCandidate stepSides
-  national-d d xb xo eb eo rbe roe =
-      rw (eq-eqb l 68 d, ← choose-d Bid (t .bid) (f .bid), ← choose-d Offer (t .offer) (f .offer), ← eb, ← eo, ← rbe, ← roe)
+maker-other : (p : List ℕ) (a : ℕ) (s : Side) → (field p (a + 4) 1 ≡ 82 → ⊥) → bindOption (makerIn (part p a 45)) (makerCandidate s) ≡ none
+unfolding makerCandidate member
+maker-other p a s n = rw (maker-at p a, ne-eqb (field p (a + 4) 1) 82 n) (go (eqb (field p (a + 4) 1) 76) refl)
+  where
+    go : (t : Bool) → eqb (field p (a + 4) 1) 76 ≡ t
+        → bindOption (cond (cond t true false) (some (record { name = field p a 4; quote = quoteIn (part p (a + 4) 41) })) none) (makerCandidate s) ≡ none
+    go true e = closed s (field p a 4) (quoteIn (part p (a + 4) 41)) (sym (quote-condition p (a + 4)) ∙ eqb-true (field p (a + 4) 1) 76 e)
+    go false e = refl
 
-  module _ (h : 65 ≤ l) (k : l < 91) (n : l ≡ 83 → ⊥) (a : ℕ) (ea : a ≡ slotAt l) where
-    pub national-read : (l ≡ 68 → ⊥) → rb ≡ choose Bid (t .bid) (orNone (candidateOf Bid l (quoteIn (part p a 41))))
-        → ro ≡ choose Offer (t .offer) (orNone (candidateOf Offer l (quoteIn (part p a 41))))
-        → _≡_ {A = Sides} (record { bid = rb; offer = ro }) (stepSides (orNones (letterAt p f)) l t)
-    unfolding letterAt letterCandidate stepSides
-    national-read d eb eo = rw (ne-eqb l 68 d, ne-eqb l 83 n, quotes-at p l h k, ← ea, ← eb, ← eo)
+module _ (p : List ℕ) (k : ℕ) (s : Side) (g : ℕ) (b : Candidate) (a o : ℕ) (ea : a ≡ cellAt k) (eo : o ≡ inQuote s) where
+  maker-priced : Priced (field p (a + 4 + inQuote s) 8) (makerAt p s k)
+  unfolding makerAt makerCandidate
+  maker-priced = rw (← ea, maker-at p a) (go (member (76 ∷ 82 ∷ []) (field p (a + 4) 1)))
+    where
+      go : (t : Bool) → Priced (field p (a + 4 + inQuote s) 8) (bindOption (cond t (some (record { name = field p a 4; quote = quoteIn (part p (a + 4) 41) })) none) (makerCandidate s))
+      go true = candidate-priced p (a + 4) s (field p a 4)
+      go false = tt
+
+  module _ (v r : ℕ) (ev : v ≡ field p (a + 4 + o) 8) (er : r ≡ rankOf s v) where
+    pub maker-passed : r < g → b ≡ choose s b (reaching s g (orNone (makerAt p s k)))
+    maker-passed = passed s g (field p (a + 4 + inQuote s) 8) b (makerAt p s k) maker-priced v r (rw eo at ev) er
+
+    pub maker-read : (c n : ℕ) (x : Candidate) → g ≤ r → c ≡ field p (a + 4) 1 → c ≡ 82 → n ≡ field p a 4
+        → x ≡ choose s b (orNone (candidateOf s n (quoteIn (part p (a + 4) 41)))) → x ≡ choose s b (reaching s g (orNone (makerAt p s k)))
+    unfolding makerAt
+    maker-read c n x h ec e en ex =
+        looked s g (field p (a + 4 + inQuote s) 8) b (makerAt p s k) maker-priced v r (rw eo at ev) er x h
+        (rw (← ea, maker-r p a s (sym ec ∙ e), ← en) ex)
+
+  pub maker-free : (c : ℕ) → c ≡ field p (a + 4) 1 → (c ≡ 82 → ⊥) → b ≡ choose s b (reaching s g (orNone (makerAt p s k)))
+  unfolding makerAt
+  maker-free c ec n = nothing s g b (makerAt p s k) (rw (← ea) (maker-other p a s (λ e. n (ec ∙ e))))
+
+-- ---- a letter's quote
+
+module _ (p : List ℕ) (l : ℕ) (h : 65 ≤ l) (k : l < 91) (s : Side) (g : ℕ) (b : Candidate) (a o : ℕ) (ea : a ≡ slotAt l) (eo : o ≡ inQuote s) where
+  quoted-none : member (68 ∷ 83 ∷ []) l ≡ true → quotedAt p s l ≡ none
+  unfolding quotedAt letterCandidate member
+  quoted-none = go (eqb l 68) (eqb l 83)
+    where
+      go : (t u : Bool) → cond t true (cond u true false) ≡ true → cond t none (cond u none (candidateOf s l (quotesIn p l))) ≡ none
+      go true u e = refl
+      go false true e = refl
+      go false false e = clash (sym e)
+
+  quoted-some : member (68 ∷ 83 ∷ []) l ≡ false → quotedAt p s l ≡ candidateOf s l (quoteIn (part p a 41))
+  unfolding quotedAt letterCandidate member
+  quoted-some e = go (eqb l 68) (eqb l 83) e ∙ ap (candidateOf s l) (rw ea (quotes-at p l h k))
+    where
+      go : (t u : Bool) → cond t true (cond u true false) ≡ false → cond t none (cond u none (candidateOf s l (quotesIn p l))) ≡ candidateOf s l (quotesIn p l)
+      go true u e = clash e
+      go false true e = clash e
+      go false false e = refl
+
+  quoted-priced : Priced (field p (a + inQuote s) 8) (quotedAt p s l)
+  quoted-priced = go (member (68 ∷ 83 ∷ []) l) refl
+    where
+      go : (t : Bool) → member (68 ∷ 83 ∷ []) l ≡ t → Priced (field p (a + inQuote s) 8) (quotedAt p s l)
+      go true e = rw (quoted-none e) tt
+      go false e = rw (quoted-some e) (candidate-priced p a s l)
+
+  pub letter-none : OneOf (68 ∷ 83 ∷ []) l → b ≡ choose s b (reaching s g (orNone (quotedAt p s l)))
+  letter-none e = nothing s g b (quotedAt p s l) (quoted-none (one-of (68 ∷ 83 ∷ []) l e))
+
+  module _ (v r : ℕ) (ev : v ≡ field p (a + o) 8) (er : r ≡ rankOf s v) where
+    pub letter-passed : r < g → b ≡ choose s b (reaching s g (orNone (quotedAt p s l)))
+    letter-passed = passed s g (field p (a + inQuote s) 8) b (quotedAt p s l) quoted-priced v r (rw eo at ev) er
+
+    pub letter-read : (x : Candidate) → g ≤ r → (OneOf (68 ∷ 83 ∷ []) l → ⊥) → x ≡ choose s b (orNone (candidateOf s l (quoteIn (part p a 41))))
+        → x ≡ choose s b (reaching s g (orNone (quotedAt p s l)))
+    letter-read x m n ex =
+        looked s g (field p (a + inQuote s) 8) b (quotedAt p s l) quoted-priced v r (rw eo at ev) er x m
+        (rw (quoted-some (none-of (68 ∷ 83 ∷ []) l n)) ex)
 
 -- ---- a letter's first levels
 
-module _ (p : List ℕ) (l : ℕ) (h : 65 ≤ l) (k : l < 91) (n : l ≡ 83 → ⊥) where
-  choose-first : (s : Side) (b : Candidate) → choose s b (levelCandidate l 32 (levelIn (part p (slotAt l + 41 + inLevels s) 20))) ≡ choose s b (orNone (firstAt p s l))
-  choose-first s b = rw (first-at p l h k s n) (choose-live s b (levelCandidate l 32 (levelIn (part p (slotAt l + 41 + inLevels s) 20))))
+module _ (p : List ℕ) (l : ℕ) (h : 65 ≤ l) (k : l < 91) (s : Side) (g : ℕ) (b : Candidate) (a o : ℕ) (ea : a ≡ slotAt l) (eo : o ≡ inLevels s) where
+  abbrev level : Candidate
+  level = levelCandidate l 32 (levelIn (part p (a + 41 + o) 20))
 
-  pub first-read : (t : Sides) (a ob oo : ℕ) (rb ro : Candidate) → a ≡ slotAt l → ob ≡ inLevels Bid → oo ≡ inLevels Offer
-      → rb ≡ choose Bid (t .bid) (levelCandidate l 32 (levelIn (part p (a + 41 + ob) 20)))
-      → ro ≡ choose Offer (t .offer) (levelCandidate l 32 (levelIn (part p (a + 41 + oo) 20)))
-      → _≡_ {A = Sides} (record { bid = rb; offer = ro }) (stepSides (orNones (firstAt p)) l t)
-  unfolding stepSides
-  first-read t a ob oo rb ro ea eb eo rbe roe =
-      rw (← choose-first Bid (t .bid), ← choose-first Offer (t .offer), ← ea, ← eb, ← eo, ← rbe, ← roe)
+  first-some : (l ≡ 83 → ⊥) → firstAt p s l ≡ live level
+  first-some n = rw (ea, eo) (first-at p l h k s n)
 
--- ---- a letter whole, and all of them
+  first-none : l ≡ 83 → firstAt p s l ≡ none
+  unfolding firstAt letterLevels
+  first-none e = rw e
 
-module _ (p : List ℕ) (f : Sides) where
-  pub tops-none : (l : ℕ) (t : Tops) → l ≡ 83 → t ≡ stepTops p f l t
-  unfolding stepTops stepSides letterAt letterCandidate firstAt letterLevels
-  tops-none l t e =
-      rw e
-      (λ i. record {
-        national = record { bid = choose-none Bid (t .national .bid) i; offer = choose-none Offer (t .national .offer) i };
-        odd = record { bid = choose-none Bid (t .odd .bid) i; offer = choose-none Offer (t .odd .offer) i };
-      })
+  live-priced : Priced (field p (a + 41 + o) 8) (live level)
+  unfolding live
+  live-priced = go (eqb (level .price) 0) (eqb (level .size) 0)
+    where
+      go : (t u : Bool) → Priced (field p (a + 41 + o) 8) (cond t none (cond u none (some level)))
+      go true u = tt
+      go false true = tt
+      go false false = ap (λ (v : Level). v .price) (level-at p (a + 41 + o))
 
-  pub tops-read : (l : ℕ) (t : Tops) (n o : Sides) → n ≡ stepSides (orNones (letterAt p f)) l (t .national) → o ≡ stepSides (orNones (firstAt p)) l (t .odd)
-      → _≡_ {A = Tops} (record { national = n; odd = o }) (stepTops p f l t)
+  first-priced : Priced (field p (a + 41 + o) 8) (firstAt p s l)
+  first-priced = go (eqb l 83) refl
+    where
+      go : (t : Bool) → eqb l 83 ≡ t → Priced (field p (a + 41 + o) 8) (firstAt p s l)
+      go true e = rw (first-none (eqb-true l 83 e)) tt
+      go false e = rw (first-some (eqb-false l 83 e)) live-priced
+
+  pub first-processor : l ≡ 83 → b ≡ choose s b (reaching s g (orNone (firstAt p s l)))
+  first-processor e = nothing s g b (firstAt p s l) (first-none e)
+
+  module _ (v r : ℕ) (ev : v ≡ field p (a + 41 + o) 8) (er : r ≡ rankOf s v) where
+    pub first-passed : r < g → b ≡ choose s b (reaching s g (orNone (firstAt p s l)))
+    first-passed = passed s g (field p (a + 41 + o) 8) b (firstAt p s l) first-priced v r ev er
+
+    pub first-read : (x : Candidate) → g ≤ r → (l ≡ 83 → ⊥) → x ≡ choose s b level → x ≡ choose s b (reaching s g (orNone (firstAt p s l)))
+    first-read x m n ex =
+        looked s g (field p (a + 41 + o) 8) b (firstAt p s l) first-priced v r ev er x m (rw (first-some n) (ex ∙ choose-live s b level))
+
+-- ---- both sides, and all letters
+
+pub sides-read : (f : Side → ℕ → Candidate) (k : ℕ) (t : Sides) (rb ro : Candidate) → rb ≡ choose Bid (t .bid) (f Bid k) → ro ≡ choose Offer (t .offer) (f Offer k)
+    → _≡_ {A = Sides} (record { bid = rb; offer = ro }) (stepSides f k t)
+unfolding stepSides
+sides-read f k t rb ro eb eo = λ i. record { bid = eb i; offer = eo i }
+
+module _ (p : List ℕ) (g : Ranks) where
+  pub tops-read : (l : ℕ) (t : Tops) (nb na ob oa : Candidate)
+      → nb ≡ choose Bid (t .national .bid) (reachingAt g (quotedAt p) Bid l) → na ≡ choose Offer (t .national .offer) (reachingAt g (quotedAt p) Offer l)
+      → ob ≡ choose Bid (t .odd .bid) (reachingAt g (firstAt p) Bid l) → oa ≡ choose Offer (t .odd .offer) (reachingAt g (firstAt p) Offer l)
+      → _≡_ {A = Tops} (record { national = record { bid = nb; offer = na }; odd = record { bid = ob; offer = oa } }) (stepTops p g l t)
   unfolding stepTops
-  tops-read l t n o en eo = λ i. record { national = en i; odd = eo i }
+  tops-read l t nb na ob oa enb ena eob eoa =
+      λ i. record { national = sides-read (reachingAt g (quotedAt p)) l (t .national) nb na enb ena i; odd = sides-read (reachingAt g (firstAt p)) l (t .odd) ob oa eob eoa i }
 
   module _ (n : ℕ) (w : Tops) where
-    tops-step : (i : ℕ) (t : Tops) → i < n → topsFrom p f i (n - i) t ≡ topsFrom p f (i + 1) (n - (i + 1)) (stepTops p f i t)
+    tops-step : (i : ℕ) (t : Tops) → i < n → topsFrom p g i (n - i) t ≡ topsFrom p g (i + 1) (n - (i + 1)) (stepTops p g i t)
     unfolding topsFrom stepTops sidesFrom stepSides bestFrom
     tops-step i t h = rw (less-one n i h)
 
-    pub tops-again : (i : ℕ) (t u : Tops) → i < n → topsFrom p f i (n - i) t ≡ w → u ≡ stepTops p f i t → topsFrom p f (i + 1) (n - (i + 1)) u ≡ w
+    pub tops-again : (i : ℕ) (t u : Tops) → i < n → topsFrom p g i (n - i) t ≡ w → u ≡ stepTops p g i t → topsFrom p g (i + 1) (n - (i + 1)) u ≡ w
     tops-again i t u h inv e = rw e (sym (tops-step i t h) ∙ inv)
 
-    pub tops-end : (i : ℕ) (t : Tops) → n ≤ i → topsFrom p f i (n - i) t ≡ w → t ≡ w
+    pub tops-end : (i : ℕ) (t : Tops) → n ≤ i → topsFrom p g i (n - i) t ≡ w → t ≡ w
     unfolding topsFrom sidesFrom bestFrom
     tops-end i t h inv =
         let e : n - i ≡ 0 = omega arith in
         rw e at inv
+
+-- ---- floors reached
+
+module _ (g : Ranks) (t : Sides) (x : ℕ) (ex : x ≡ rankOf Bid (t .bid .price)) where
+  pub bid-under : x < g .bid → false ≡ bothReach g t
+  unfolding bothReach
+  bid-under h = rw (← ex, lt-ltb x (g .bid) h)
+
+  module _ (h : g .bid ≤ x) (y : ℕ) (ey : y ≡ rankOf Offer (t .offer .price)) where
+    pub offer-under : y < g .offer → false ≡ bothReach g t
+    unfolding bothReach
+    offer-under k = rw (← ex, le-ltb x (g .bid) h, ← ey, lt-ltb y (g .offer) k)
+
+    pub none-under : g .offer ≤ y → true ≡ bothReach g t
+    unfolding bothReach
+    none-under k = rw (← ex, le-ltb x (g .bid) h, ← ey, le-ltb y (g .offer) k)
+
+module _ (g : Floors) (e : BestEntries) (t : Bool) (et : t ≡ bothReach (g .finra) (e .finra)) where
+  pub finra-reaches : (u : Bool) → t ≡ true → u ≡ bothReach (g .national) (e .national) → u ≡ allReach g e
+  unfolding allReach
+  finra-reaches u h eu = rw (← et, h) eu
+
+  pub finra-under : t ≡ false → false ≡ allReach g e
+  unfolding allReach
+  finra-under h = rw (← et, h)

@@ -3,15 +3,19 @@
 use Prim.Native.Nat.{ℕ}
 use mathlib.Core.List.{List, [], _∷_}
 use mathlib.Core.Option.{Option, none, some}
+use mathlib.Core.Bool.{Bool, true, false, cond}
+use lib.Dec.{ltb}
 use Rattle.field.specs.Field.{part}
 use Rattle.lists.specs.Lists.{mapOption, bindOption}
 use Rattle.ranking.specs.declared.Side.{Side}
 use Rattle.ranking.specs.declared.Side.the-variants.{Bid, Offer}
 use Rattle.ranking.specs.declared.Candidate.{Candidate}
 use Rattle.ranking.specs.declared.Sides.{Sides}
-use Rattle.ranking.specs.Choice.{orNone, live, ofSide, bothSides, noSides, sidesFrom, stepSides}
+use Rattle.ranking.specs.Choice.{rankOf, orNone, reaching, bothSides, noSides, sidesFrom, stepSides}
 use Rattle.quote.specs.declared.Level.{Level}
 use Rattle.quote.specs.Quote.{levelCandidate}
+use Rattle.entries.specs.declared.Ranks.{Ranks}
+use Rattle.entries.specs.declared.Floors.{Floors}
 use Rattle.entries.specs.declared.Tops.{Tops}
 use Rattle.entries.specs.declared.BestEntries.{BestEntries}
 use Rattle.entries.specs.Entries.{Entries, makerCandidate, letterCandidate, letterLevels}
@@ -30,9 +34,9 @@ inLevels Offer = 80
 unfoldable pub makerAt : List ℕ → Side → ℕ → Option Candidate
 makerAt p s k = bindOption (makerIn (part p (cellAt k) 45)) (makerCandidate s)
 
--- a letter, D by these FINRA bests
-unfoldable pub letterAt : List ℕ → Sides → Side → ℕ → Option Candidate
-letterAt p f s l = letterCandidate s (quotesIn p) (live (ofSide s f)) l
+-- a letter's quote; D has none of its own
+unfoldable pub quotedAt : List ℕ → Side → ℕ → Option Candidate
+quotedAt p s l = letterCandidate s (quotesIn p) none l
 
 abbrev pub firstOf : List Level → Option Level
 firstOf [] = none
@@ -42,19 +46,31 @@ firstOf (x ∷ xs) = some x
 unfoldable pub firstAt : List ℕ → Side → ℕ → Option Candidate
 firstAt p s l = mapOption (levelCandidate l 32) (firstOf (letterLevels s (levelsFor p) l))
 
--- with none as price 0
-abbrev pub orNones : (Side → ℕ → Option Candidate) → Side → ℕ → Candidate
-orNones f s k = orNone (f s k)
+-- ---- what reaches a floor, with none as price 0
+
+abbrev pub floorOf : Side → Ranks → ℕ
+floorOf Bid g = g .bid
+floorOf Offer g = g .offer
+
+abbrev pub reachingAt : Ranks → (Side → ℕ → Option Candidate) → Side → ℕ → Candidate
+reachingAt g f s k = reaching s (floorOf s g) (orNone (f s k))
 
 abbrev pub noTops : Tops
 noTops = record { national = noSides; odd = noSides }
 
 -- one letter more, and the k letters from letter l on
-unfoldable pub stepTops : List ℕ → Sides → ℕ → Tops → Tops
-stepTops p f l t = record { national = stepSides (orNones (letterAt p f)) l (t .national); odd = stepSides (orNones (firstAt p)) l (t .odd) }
+unfoldable pub stepTops : List ℕ → Ranks → ℕ → Tops → Tops
+stepTops p g l t = record { national = stepSides (reachingAt g (quotedAt p)) l (t .national); odd = stepSides (reachingAt g (firstAt p)) l (t .odd) }
 
-unfoldable pub topsFrom : List ℕ → Sides → ℕ → ℕ → Tops → Tops
-topsFrom p f l k t = record { national = sidesFrom (orNones (letterAt p f)) l k (t .national); odd = sidesFrom (orNones (firstAt p)) l k (t .odd) }
+unfoldable pub topsFrom : List ℕ → Ranks → ℕ → ℕ → Tops → Tops
+topsFrom p g l k t = record { national = sidesFrom (reachingAt g (quotedAt p)) l k (t .national); odd = sidesFrom (reachingAt g (firstAt p)) l k (t .odd) }
+
+-- whether both sides reach their floors; and the national and the FINRA ones
+unfoldable pub bothReach : Ranks → Sides → Bool
+bothReach g t = cond (ltb (rankOf Bid (t .bid .price)) (g .bid)) false (cond (ltb (rankOf Offer (t .offer .price)) (g .offer)) false true)
+
+unfoldable pub allReach : Floors → BestEntries → Bool
+allReach g e = cond (bothReach (g .finra) (e .finra)) (bothReach (g .national) (e .national)) false
 
 -- the six entries, none as price 0
 unfoldable pub bestsOf : Entries → BestEntries

@@ -1,17 +1,17 @@
 // A symbol's page: where its quotes stand, the six best entries that are worked out from them, and their 96 bytes.
 ghost use mathlib.Core.Path.{_≡_};
-ghost use mathlib.Core.Bool.{cond};
+ghost use mathlib.Core.Bool.{true, cond};
 ghost use mathlib.Core.List.{[], _∷_};
 ghost use Prim.Native.Nat.{_+_, _≤_, _<_};
 ghost use lib.ListN.{length};
 ghost use Rattle.field.specs.Field.{part, splice, beBytes};
 ghost use Rattle.lists.specs.Lists.{member};
-ghost use Rattle.ranking.specs.Choice.{orNone, choose, noSides, stepSides, sidesFrom};
+ghost use Rattle.ranking.specs.Choice.{orNone, choose, reaching, noSides, stepSides, sidesFrom};
 ghost use Rattle.quote.specs.Quote.{levelIn, quoteIn, levelCandidate, candidateOf};
 ghost use Rattle.entries.specs.Entries.{asD};
 ghost use Rattle.entries.specs.Publication.{entryBytes, nationalName, finraName, oddName, publication, changeFlags, noEntries};
 ghost use Rattle.entries.specs.Page.{slotAt, cellAt, pageEntries, refreshed};
-ghost use Rattle.entries.specs.Walk.{inQuote, inLevels, makerAt, letterAt, firstAt, orNones, noTops, stepTops, topsFrom, bestsOf};
+ghost use Rattle.entries.specs.Walk.{inQuote, inLevels, makerAt, quotedAt, firstAt, reachingAt, noTops, stepTops, topsFrom, bothReach, allReach, bestsOf};
 ghost use Rattle.entries.specs.Entry.{priced, entriesIn, bytesOf, publishedBytes, holds};
 use levels::Levels;
 use quote::Quote;
@@ -71,6 +71,29 @@ impl Letter {
     pub const S: usize = 83;
 
     pub const Z: usize = 90;
+}
+
+/// A rank for each side.
+pub struct Ranks {
+    pub bid: u64,
+    pub offer: u64,
+}
+
+impl Ranks {
+    pub const NONE: Ranks = Ranks { bid: 0, offer: 0 };
+}
+
+/// The floors of a walk: a price that ranks lower is passed over. Odd lots go by the national ones.
+pub struct Floors {
+    pub national: Ranks,
+    pub finra: Ranks,
+}
+
+impl Floors {
+    pub const NONE: Floors = Floors {
+        national: Ranks::NONE,
+        finra: Ranks::NONE,
+    };
 }
 
 /// The best of the letters so far: their quotes and their odd-lot levels.
@@ -214,50 +237,130 @@ fn with_level(
     )
 }
 
-// The better of the best so far and a side of the quote at `at`, if that side counts. The price is looked at before the condition.
+// The better of the best so far and a side of the quote at `at`, if that side counts.
 fn with_quote(page: &[u8], at: usize, side: Side, name: u32, best: Candidate) -> Candidate
     requires { ⌜ at + 41 ≤ length (now page) ⌝ }
     ensures { λ r. ⌜ r ≡ choose side best (orNone (candidateOf side name (quoteIn (part (now (page .entry)) at 41)))) ⌝ }
 {
-    let level = at + in_quote(side);
-    let price = field::get64(page, level);
-    if ranking::is_behind(side, price, best) {
-        return best;
-    }
     let condition = field::get8(page, at);
     if quote::admits(side, condition) {
-        return with_level(page, level, side, name, condition, best);
+        return with_level(page, at + in_quote(side), side, name, condition, best);
+    }
+    best
+}
+
+// A side of one maker cell more, if it reaches the floor. Of the conditions of makers only R counts.
+fn with_maker_side(page: &[u8], k: usize, side: Side, floor: u64, best: Candidate) -> Candidate
+    requires { ⌜ length (now page) ≡ 6054 ⌝ }
+    requires { ⌜ k < 16 ⌝ }
+    ensures { λ r. ⌜ r ≡ choose side best (reaching side floor (orNone (makerAt (now (page .entry)) side k))) ⌝ }
+{
+    let at = cell_at(k);
+    let quote = at + Cell::QUOTE;
+    if ranking::rank(side, field::get64(page, quote + in_quote(side))) < floor {
+        return best;
+    }
+    if field::get8(page, quote) == b'R' {
+        return with_quote(page, quote, side, field::get32(page, at), best);
     }
     best
 }
 
 // One maker cell more, both sides.
-fn with_maker(page: &[u8], k: usize, best: Sides) -> Sides
+fn with_maker(page: &[u8], k: usize, floors: Ranks, best: Sides) -> Sides
     requires { ⌜ length (now page) ≡ 6054 ⌝ }
     requires { ⌜ k < 16 ⌝ }
-    ensures { λ r. ⌜ r ≡ stepSides (orNones (makerAt (now (page .entry)))) k best ⌝ }
+    ensures { λ r. ⌜ r ≡ stepSides (reachingAt floors (makerAt (now (page .entry)))) k best ⌝ }
 {
-    let at = cell_at(k);
-    let quote = at + Cell::QUOTE;
-    if stands(field::get8(page, quote)) {
-        let name = field::get32(page, at);
-        let bid = with_quote(page, quote, Side::Bid, name, best.bid);
-        let offer = with_quote(page, quote, Side::Offer, name, best.offer);
-        return Sides { bid, offer };
+    let bid = with_maker_side(page, k, Side::Bid, floors.bid, best.bid);
+    let offer = with_maker_side(page, k, Side::Offer, floors.offer, best.offer);
+    Sides { bid, offer }
+}
+
+// The best of the makers that reach the floors, both sides.
+fn walk_makers(page: &[u8], floors: Ranks) -> Sides
+    requires { ⌜ length (now page) ≡ 6054 ⌝ }
+    ensures { λ r. ⌜ r ≡ sidesFrom (reachingAt floors (makerAt (now (page .entry)))) 0 16 noSides ⌝ }
+{
+    let mut best = Sides::NONE;
+    for k in 0..Page::MAKERS {
+        best = with_maker(page, k, floors, best);
     }
     best
 }
 
-// The FINRA best, both sides.
-fn walk_makers(page: &[u8]) -> Sides
+// A side of one letter's quote more, if it reaches the floor. What stands in the slots of D and S is no quote; the price is looked at before the letter.
+fn with_letter_side(
+    page: &[u8],
+    letter: usize,
+    side: Side,
+    floor: u64,
+    best: Candidate,
+) -> Candidate
     requires { ⌜ length (now page) ≡ 6054 ⌝ }
-    ensures { λ r. ⌜ r ≡ sidesFrom (orNones (makerAt (now (page .entry)))) 0 16 noSides ⌝ }
+    requires { ⌜ (65 ≤ letter) × (letter < 91) ⌝ }
+    ensures { λ r. ⌜ r ≡ choose side best (reaching side floor (orNone (quotedAt (now (page .entry)) side letter))) ⌝ }
 {
-    let mut best = Sides::NONE;
-    for k in 0..Page::MAKERS {
-        best = with_maker(page, k, best);
+    let at = slot_at(letter);
+    if ranking::rank(side, field::get64(page, at + in_quote(side))) < floor {
+        return best;
     }
-    best
+    match letter {
+        Letter::D | Letter::S => best,
+        _ => with_quote(page, at, side, letter as u32, best),
+    }
+}
+
+// A side of one letter's odd-lot levels more, if it reaches the floor. They are read best first, so the first one is enough.
+fn with_first(page: &[u8], letter: usize, side: Side, floor: u64, best: Candidate) -> Candidate
+    requires { ⌜ length (now page) ≡ 6054 ⌝ }
+    requires { ⌜ (65 ≤ letter) × (letter < 91) ⌝ }
+    ensures { λ r. ⌜ r ≡ choose side best (reaching side floor (orNone (firstAt (now (page .entry)) side letter))) ⌝ }
+{
+    let at = slot_at(letter) + Slot::LEVELS + in_levels(side);
+    if ranking::rank(side, field::get64(page, at)) < floor {
+        return best;
+    }
+    let better = with_level(page, at, side, letter as u32, b' ', best);
+    // S has no levels. Asked any earlier, this would be asked of every letter.
+    if letter == Letter::S {
+        return best;
+    }
+    better
+}
+
+// One letter more.
+fn with_letter(page: &[u8], letter: usize, floors: Ranks, tops: Tops) -> Tops
+    requires { ⌜ length (now page) ≡ 6054 ⌝ }
+    requires { ⌜ (65 ≤ letter) × (letter < 91) ⌝ }
+    ensures { λ r. ⌜ r ≡ stepTops (now (page .entry)) floors letter tops ⌝ }
+{
+    let bid = with_letter_side(page, letter, Side::Bid, floors.bid, tops.national.bid);
+    let offer = with_letter_side(page, letter, Side::Offer, floors.offer, tops.national.offer);
+    let odd_bid = with_first(page, letter, Side::Bid, floors.bid, tops.odd.bid);
+    let odd_offer = with_first(page, letter, Side::Offer, floors.offer, tops.odd.offer);
+    Tops {
+        national: Sides { bid, offer },
+        odd: Sides {
+            bid: odd_bid,
+            offer: odd_offer,
+        },
+    }
+}
+
+// The best of the letters but D that reach the floors.
+fn walk_letters(page: &[u8], floors: Ranks) -> Tops
+    requires { ⌜ length (now page) ≡ 6054 ⌝ }
+    ensures { λ r. ⌜ r ≡ topsFrom (now (page .entry)) floors 65 26 noTops ⌝ }
+{
+    let mut tops = Tops {
+        national: Sides::NONE,
+        odd: Sides::NONE,
+    };
+    for letter in Letter::A..Letter::Z + 1 {
+        tops = with_letter(page, letter, floors, tops);
+    }
+    tops
 }
 
 // D's candidate: its FINRA best, under the letter D.
@@ -273,100 +376,80 @@ fn as_d(c: Candidate) -> Candidate
     }
 }
 
-// The round quote of one letter more, whose slot starts at `at`, both sides; D stands with its FINRA best.
-fn with_national(page: &[u8], at: usize, letter: usize, finra: Sides, best: Sides) -> Sides
+// The six best of what reaches the floors. They are those of the page if the national and the FINRA ones reach them.
+fn walk_from(page: &[u8], floors: Floors) -> BestEntries
     requires { ⌜ length (now page) ≡ 6054 ⌝ }
-    requires { ⌜ (65 ≤ letter) × (letter < 91) ⌝ }
-    requires { ⌜ (letter ≡ 83 → ⊥) ⌝ }
-    requires { ⌜ at ≡ slotAt letter ⌝ }
-    ensures { λ r. ⌜ r ≡ stepSides (orNones (letterAt (now (page .entry)) finra)) letter best ⌝ }
+    ensures { λ r. ⌜ (allReach floors r ≡ true → r ≡ bestsOf (pageEntries (now (page .entry)))) ⌝ }
 {
-    if letter == Letter::D {
-        let bid = ranking::choose(Side::Bid, best.bid, as_d(finra.bid));
-        let offer = ranking::choose(Side::Offer, best.offer, as_d(finra.offer));
-        return Sides { bid, offer };
+    let finra = walk_makers(page, floors.finra);
+    let tops = walk_letters(page, floors.national);
+    let national_bid = ranking::choose(Side::Bid, tops.national.bid, as_d(finra.bid));
+    let national_offer = ranking::choose(Side::Offer, tops.national.offer, as_d(finra.offer));
+    // The best level is beyond the national best if any level is, so one test at the end is enough.
+    let odd_bid = ranking::beyond(Side::Bid, national_bid, tops.odd.bid);
+    let odd_offer = ranking::beyond(Side::Offer, national_offer, tops.odd.offer);
+    BestEntries {
+        national: Sides {
+            bid: national_bid,
+            offer: national_offer,
+        },
+        finra,
+        odd: Sides {
+            bid: odd_bid,
+            offer: odd_offer,
+        },
     }
-    let name = letter as u32;
-    let bid = with_quote(page, at, Side::Bid, name, best.bid);
-    let offer = with_quote(page, at, Side::Offer, name, best.offer);
-    Sides { bid, offer }
 }
 
-// The odd-lot levels of one letter more, both sides. They are read best first, so the first one is enough.
-fn with_first(page: &[u8], at: usize, letter: usize, best: Sides) -> Sides
-    requires { ⌜ length (now page) ≡ 6054 ⌝ }
-    requires { ⌜ (65 ≤ letter) × (letter < 91) ⌝ }
-    requires { ⌜ (letter ≡ 83 → ⊥) ⌝ }
-    requires { ⌜ at ≡ slotAt letter ⌝ }
-    ensures { λ r. ⌜ r ≡ stepSides (orNones (firstAt (now (page .entry)))) letter best ⌝ }
+// Whether both sides reach their floors.
+fn reach(floors: Ranks, best: Sides) -> bool
+    ensures { λ r. ⌜ r ≡ bothReach floors best ⌝ }
 {
-    let levels = at + Slot::LEVELS;
-    let name = letter as u32;
-    let bid = with_level(
-        page,
-        levels + in_levels(Side::Bid),
-        Side::Bid,
-        name,
-        b' ',
-        best.bid,
-    );
-    let offer = with_level(
-        page,
-        levels + in_levels(Side::Offer),
+    if ranking::rank(Side::Bid, best.bid.price) < floors.bid {
+        return false;
+    }
+    if ranking::rank(Side::Offer, best.offer.price) < floors.offer {
+        return false;
+    }
+    true
+}
+
+fn all_reach(floors: Floors, best: BestEntries) -> bool
+    ensures { λ r. ⌜ r ≡ allReach floors best ⌝ }
+{
+    if reach(floors.finra, best.finra) {
+        return reach(floors.national, best.national);
+    }
+    false
+}
+
+// The ranks of the two entries that stand in the page at `at`.
+fn standing_ranks(page: &[u8], at: usize) -> Ranks
+    requires { ⌜ at + 32 ≤ length (now page) ⌝ }
+{
+    let bid = ranking::rank(Side::Bid, field::get64(page, at + Entry::PRICE));
+    let offer = ranking::rank(
         Side::Offer,
-        name,
-        b' ',
-        best.offer,
+        field::get64(page, at + Entry::LEN + Entry::PRICE),
     );
-    Sides { bid, offer }
+    Ranks { bid, offer }
 }
 
-// One letter more.
-fn with_letter(page: &[u8], letter: usize, finra: Sides, tops: Tops) -> Tops
-    requires { ⌜ length (now page) ≡ 6054 ⌝ }
-    requires { ⌜ (65 ≤ letter) × (letter < 91) ⌝ }
-    ensures { λ r. ⌜ r ≡ stepTops (now (page .entry)) finra letter tops ⌝ }
-{
-    if letter == Letter::S {
-        return tops;
-    }
-    let at = slot_at(letter);
-    let national = with_national(page, at, letter, finra, tops.national);
-    let odd = with_first(page, at, letter, tops.odd);
-    Tops { national, odd }
-}
-
-// The letters in order. After each letter, the best of the letters so far.
-fn walk_letters(page: &[u8], finra: Sides) -> Tops
-    requires { ⌜ length (now page) ≡ 6054 ⌝ }
-    ensures { λ r. ⌜ r ≡ topsFrom (now (page .entry)) finra 65 26 noTops ⌝ }
-{
-    let mut tops = Tops {
-        national: Sides::NONE,
-        odd: Sides::NONE,
-    };
-    for letter in Letter::A..Letter::Z + 1 {
-        tops = with_letter(page, letter, finra, tops);
-    }
-    tops
-}
-
-/// The six best entries of a page: the makers, then both sides of each letter on one way down the page.
+/// The six best entries of a page. A message rarely makes a best price worse, so the prices of the entries that stand are tried as floors first:
+/// almost every price is then passed over by one comparison. Where they are not reached, all is looked at.
 pub fn walk_page(page: &[u8]) -> BestEntries
     requires { ⌜ length (now page) ≡ 6054 ⌝ }
     ensures { λ r. ⌜ r ≡ bestsOf (pageEntries (now (page .entry))) ⌝ }
 {
-    let finra = walk_makers(page);
-    let tops = walk_letters(page, finra);
-    let national = tops.national;
-    // The best level is beyond the national best if any level is, so one test at the end is enough.
-    let bid = ranking::beyond(Side::Bid, tops.national.bid, tops.odd.bid);
-    let offer = ranking::beyond(Side::Offer, tops.national.offer, tops.odd.offer);
-    let odd = Sides { bid, offer };
-    BestEntries {
-        national,
-        finra,
-        odd,
+    let national = standing_ranks(page, Page::ENTRIES);
+    let finra = standing_ranks(page, Page::ENTRIES + 2 * Entry::LEN);
+    let mut floors = Floors { national, finra };
+    loop {
+        let best = walk_from(page, floors);
+        if all_reach(floors, best) {
+            return best;
+        }
+        floors = Floors::NONE;
     }
 }
 

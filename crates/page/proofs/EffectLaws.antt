@@ -3,21 +3,20 @@
 use Prim.Native.Nat.{ℕ, zero, suc, _+_, _*_, _≤_, _<_}
 use mathlib.Core.Path.{_≡_, refl, sym, ap, ap₂, _∙_}
 use mathlib.Core.Bool.{Bool, true, false, cond}
-use mathlib.Core.List.{List, []}
+use mathlib.Core.List.{List}
 use native.Mathlib.Omega.{arith}
 use lib.Dec.{eqb}
 use lib.ListN.{length}
-use borrow.Author.Tests.{eq-eqb, ne-eqb, le-leb}
+use borrow.Author.Tests.{eq-eqb, ne-eqb}
 use Rattle.field.specs.Field.{part, field, splice}
 use Rattle.field.proofs.Laws.{part-put, part-before, length-part, length-splice}
-use Rattle.lists.specs.Lists.{upper, orElse, isSome}
-use Rattle.lists.specs.declared.Found.{Found}
+use Rattle.lists.specs.Lists.{upper, orElse}
 use Rattle.lists.specs.declared.Found.the-variants.{At, Nothing}
 use Rattle.lists.proofs.Tests.{Cut, equal, apart, cut}
 use Rattle.quote.specs.declared.Quote.{Quote}
 use Rattle.quote.specs.Quote.{emptyQuote, quoteBytes}
 use Rattle.levels.specs.Levels.{Standing, Odd, oddOn, idleOdd, oddIn, levelsBytes, levelsIn}
-use Rattle.levels.specs.Cells.{cellsOf, bytesOf}
+use Rattle.levels.specs.Cells.{bytesOf}
 use Rattle.levels.specs.Part.{oddAnswer, judgedNumber, sidesOf, answerOf}
 use Rattle.levels.specs.declared.OddAnswer.{OddAnswer}
 use Rattle.levels.specs.declared.Judged.{Judged}
@@ -27,7 +26,7 @@ use Rattle.entries.specs.Publication.{publication, changeFlags}
 use Rattle.entries.proofs.PublicationLaws.{length-publication}
 use Rattle.entries.specs.Page.{slotAt, cellAt, levelsFor, pageEntries, refreshed}
 use Rattle.message.specs.Message.{makerCode}
-use Rattle.page.specs.Page.{readingOf, knownBy, putRound, putLevels, putOdd, oddOnPage, putMaker, putMakerBy, makerOn, makerPlace, freePlace, cellFor, finraOn, markCell, markCells}
+use Rattle.page.specs.Page.{readingOf, knownBy, putRound, putLevels, putOdd, oddOnPage, putMaker, makerOn, makerPlace, freePlace, cellFor, finraOn, markCell, markCells}
 use Rattle.page.specs.Update.{Updated, rejected, flagged, oddCodeOn, oddTaken, roundLotOn, oddLotOn, makerQuoteOn}
 use Rattle.page.proofs.EntryLaws.{upper-low, kept-lot}
 use Rattle.page.proofs.CellLaws.{mark-length}
@@ -79,80 +78,90 @@ module _ (mark bids offers t : ℕ) (b : List ℕ) (h : length b ≡ 12 * (bids 
   pub idle-marked : (mark ≡ 32 → ⊥) → false ≡ idleOdd (oddIn mark bids offers t b)
   idle-marked n = sym (idle-in mark bids offers t b ∙ rw (ne-eqb mark 32 n))
 
--- an odd part as it is done: idle, refused, or taken
-module _ (p : List ℕ) (l : ℕ) (o : Odd) where
-  pub odd-none : idleOdd o ≡ true → (_≡_ {A = ℕ} 0 (oddCodeOn l o p)) × (p ≡ oddTaken l o p)
-  unfolding putOdd
-  odd-none e = let z : oddCodeOn l o p ≡ 0 = odd-idle (field p 11 1) (levelsFor p l) o e .0 in (sym z, rw (z, e))
+-- an odd part on its letter's levels, refused or taken
+module _ (p : List ℕ) (l : ℕ) (o : Odd) (a : OddAnswer) (e : a ≡ oddAnswer (field p 11 1) (levelsFor p l) o) where
+  told : (j : Judged) → a .judged ≡ j → oddAnswer (field p 11 1) (levelsFor p l) o .judged ≡ j
+  told j f = sym (ap (λ (x : OddAnswer). x .judged) e) ∙ f
 
-  module _ (a : OddAnswer) (e : a ≡ oddAnswer (field p 11 1) (levelsFor p l) o) where
-    told : (j : Judged) → a .judged ≡ j → oddAnswer (field p 11 1) (levelsFor p l) o .judged ≡ j
-    told j f = sym (ap (λ (x : OddAnswer). x .judged) e) ∙ f
+  pub levels-left : (x code : ℕ) → a .judged ≡ Refused x → code ≡ judgedNumber (a .judged) → (code ≡ oddCodeOn l o p) × (p ≡ oddTaken l o p)
+  levels-left x code j n = (
+    n ∙ ap judgedNumber j ∙ sym (refused-nothing (field p 11 1) (levelsFor p l) o x (told (Refused x) j) .0),
+    rw (refused-code (field p 11 1) (levelsFor p l) o x (told (Refused x) j)),
+  )
 
-    pub odd-left : (x code : ℕ) → a .judged ≡ Refused x → code ≡ judgedNumber (a .judged) → (code ≡ oddCodeOn l o p) × (p ≡ oddTaken l o p)
-    odd-left x code j n = (
-      n ∙ ap judgedNumber j ∙ sym (refused-nothing (field p 11 1) (levelsFor p l) o x (told (Refused x) j) .0),
-      rw (refused-code (field p 11 1) (levelsFor p l) o x (told (Refused x) j)),
-    )
+  -- both sides written
+  pub levels-written : (at : ℕ) (p′ : List ℕ) → a .judged ≡ Pass → at ≡ slotAt l
+      → p′ ≡ splice (splice p (at + 41) (bytesOf (a .bids .cells))) (at + 41 + 80) (bytesOf (a .offers .cells)) → (_≡_ {A = ℕ} 0 (oddCodeOn l o p)) × (p′ ≡ oddTaken l o p)
+  unfolding putLevels sidesOf
+  levels-written at p′ j h f =
+      let v : Standing = orElse (oddOn o (levelsFor p l)) (levelsFor p l) in
+      let (z, k) = answer-pass (field p 11 1) (levelsFor p l) o (told Pass j) in
+      let y : a ≡ answerOf Pass (sidesOf v) = e ∙ k in
+      (sym z, f ∙ rw (z, y, h) (write-both p (slotAt l + 41) v))
 
-    -- both sides written
-    pub odd-done : (at : ℕ) (p′ : List ℕ) → a .judged ≡ Pass → idleOdd o ≡ false → at ≡ slotAt l
-        → p′ ≡ splice (splice p (at + 41) (bytesOf (a .bids .cells))) (at + 41 + 80) (bytesOf (a .offers .cells)) → (_≡_ {A = ℕ} 0 (oddCodeOn l o p)) × (p′ ≡ oddTaken l o p)
-    unfolding putOdd putLevels sidesOf
-    odd-done at p′ j i h f =
-        let v : Standing = orElse (oddOn o (levelsFor p l)) (levelsFor p l) in
-        let (z, k) = answer-pass (field p 11 1) (levelsFor p l) o (told Pass j) in
-        let y : a ≡ answerOf Pass (sidesOf v) = e ∙ k in
-        (sym z, f ∙ rw (z, i, y, h) (write-both p (slotAt l + 41) v))
-
-module _ (p : List ℕ) (w : length p ≡ 6054) (l : ℕ) (u : upper l ≡ true) (o : Odd) where
-  taken-stands : part (oddTaken l o p) 12 96 ≡ part p 12 96
-  unfolding putOdd putLevels
-  taken-stands = go (eqb (oddCodeOn l o p) 0) (idleOdd o)
+module _ (p : List ℕ) (w : length p ≡ 6054) (l : ℕ) (u : upper l ≡ true) where
+  taken-stands : (o : Odd) → part (oddTaken l o p) 12 96 ≡ part p 12 96
+  unfolding putLevels
+  taken-stands o = go (eqb (oddCodeOn l o p) 0)
     where
-      go : (s t : Bool) → part (cond s (cond t p (putLevels l o p)) p) 12 96 ≡ part p 12 96
-      go true true = refl
-      go true false = entries-stand p (slotAt l + 41) (levelsBytes (orElse (oddOn o (levelsFor p l)) (levelsFor p l))) w (omega arith) (omega (arith, upper-low l u .1))
-      go false t = refl
+      go : (t : Bool) → part (cond t (putLevels l o p) p) 12 96 ≡ part p 12 96
+      go true = entries-stand p (slotAt l + 41) (levelsBytes (orElse (oddOn o (levelsFor p l)) (levelsFor p l))) w (omega arith) (omega (arith, upper-low l u .1))
+      go false = refl
 
+module _ (p : List ℕ) (w : length p ≡ 6054) (l : ℕ) (u : upper l ≡ true) where
   -- the round part leaves what the odd part's code is worked out from
-  code-same : (q : Quote) → oddCodeOn l o (putRound l q p) ≡ oddCodeOn l o p
-  code-same q = rw (kept-lot p (putRound l q p) (put-round-kept p w l u q), ap (λ (v : ℕ → Standing). v l) (put-round-levels p w l u q))
+  code-same : (q : Quote) (o : Odd) → oddCodeOn l o (putRound l q p) ≡ oddCodeOn l o p
+  code-same q o = rw (kept-lot p (putRound l q p) (put-round-kept p w l u q), ap (λ (v : ℕ → Standing). v l) (put-round-levels p w l u q))
 
   round-stands : (q : Quote) → part (putRound l q p) 12 96 ≡ part p 12 96
   unfolding putRound
   round-stands q = entries-stand p (slotAt l) (quoteBytes q) w (omega arith) (omega (arith, upper-low l u .1))
 
--- Q K: the round part, the odd part, then the entries
-pub round-done : (p : List ℕ) (l : ℕ) (q : Quote) (o : Odd) (at code : ℕ) (p′ p″ : List ℕ) (r : Updated) → length p ≡ 6054 → upper l ≡ true → at ≡ slotAt l
-    → p′ ≡ splice p at (quoteBytes q) → code ≡ oddCodeOn l o p′ → p″ ≡ oddTaken l o p′ → r ≡ flagged code p″ (refreshed p″) → r ≡ roundLotOn l 0 q o p
-unfolding roundLotOn putRound
-round-done p l q o at code p′ p″ r w u h d c g f =
-    let x : List ℕ = putRound l q p in
-    let y : p′ ≡ x = d ∙ ap (λ (k : ℕ). splice p k (quoteBytes q)) h in
-    let z : p″ ≡ oddTaken l o x = g ∙ ap (oddTaken l o) y in
-    let n : length x ≡ 6054 = put-round-kept p w l u q .size in
-    f ∙ ap₂ (λ (k : ℕ) (s : List ℕ). flagged k s (refreshed s)) (c ∙ ap (oddCodeOn l o) y) z
-    ∙ flagged-from (oddCodeOn l o x) p (oddTaken l o x) (refreshed (oddTaken l o x)) (taken-stands x n l u o ∙ round-stands p w l u o q)
-    ∙ rw (code-same p w l u o q)
+  -- Q K: the round part, then the odd part, idle or not, then the entries
+  module _ (q : Quote) (o : Odd) (at : ℕ) (p′ : List ℕ) (r : Updated) (h : at ≡ slotAt l) (d : p′ ≡ splice p at (quoteBytes q)) where
+    round-put : p′ ≡ putRound l q p
+    unfolding putRound
+    round-put = d ∙ ap (λ (k : ℕ). splice p k (quoteBytes q)) h
 
--- Q M refused, and accepted
-module _ (p : List ℕ) (w : length p ≡ 6054) (l : ℕ) (u : upper l ≡ true) (o : Odd) (code : ℕ) (p′ : List ℕ) (c : code ≡ oddCodeOn l o p) (g : p′ ≡ oddTaken l o p) where
-  pub odd-refused : (code ≡ 0 → ⊥) → _≡_ {A = Updated} (record { code = code; flags = 0; page = p′ }) (oddLotOn l o p)
-  unfolding oddLotOn
-  odd-refused n =
-      let z : eqb (oddCodeOn l o p) 0 ≡ false = ne-eqb (oddCodeOn l o p) 0 (λ q. n (c ∙ q)) in
-      let y : p′ ≡ p = rw z at g in
-      rw (z, y, c)
+    pub round-idle : idleOdd o ≡ true → r ≡ flagged 0 p′ (refreshed p′) → r ≡ roundLotOn l 0 q o p
+    unfolding roundLotOn putOdd
+    round-idle i f =
+        let z : oddCodeOn l o p ≡ 0 = odd-idle (field p 11 1) (levelsFor p l) o i .0 in
+        f ∙ ap (λ (s : List ℕ). flagged 0 s (refreshed s)) round-put
+        ∙ flagged-from 0 p (putRound l q p) (refreshed (putRound l q p)) (round-stands q)
+        ∙ rw (z, i)
 
-  pub odd-taken : (r : Updated) → code ≡ 0 → r ≡ flagged 0 p′ (refreshed p′) → r ≡ oddLotOn l o p
-  unfolding oddLotOn oddOnPage
-  odd-taken r n f =
-      let z : oddCodeOn l o p ≡ 0 = sym c ∙ n in
-      let y : p′ ≡ putOdd l o p = rw z at g in
-      f ∙ ap (λ (s : List ℕ). flagged 0 s (refreshed s)) y
-      ∙ flagged-from 0 p (putOdd l o p) (refreshed (putOdd l o p)) (ap (λ (s : List ℕ). part s 12 96) (sym y ∙ g) ∙ taken-stands p w l u o)
-      ∙ rw z
+    pub round-done : (code : ℕ) (p″ : List ℕ) → idleOdd o ≡ false → code ≡ oddCodeOn l o p′ → p″ ≡ oddTaken l o p′ → r ≡ flagged code p″ (refreshed p″) → r ≡ roundLotOn l 0 q o p
+    unfolding roundLotOn putOdd
+    round-done code p″ i c g f =
+        let x : List ℕ = putRound l q p in
+        let n : length x ≡ 6054 = put-round-kept p w l u q .size in
+        f ∙ ap₂ (λ (k : ℕ) (s : List ℕ). flagged k s (refreshed s)) (c ∙ ap (oddCodeOn l o) round-put) (g ∙ ap (oddTaken l o) round-put)
+        ∙ flagged-from (oddCodeOn l o x) p (oddTaken l o x) (refreshed (oddTaken l o x)) (taken-stands x n l u o ∙ round-stands q)
+        ∙ rw (code-same q o, i)
+
+-- Q M: idle, refused, or taken
+module _ (p : List ℕ) (w : length p ≡ 6054) (l : ℕ) (u : upper l ≡ true) (o : Odd) where
+  pub odd-nothing : (r : Updated) → idleOdd o ≡ true → r ≡ flagged 0 p (refreshed p) → r ≡ oddLotOn l o p
+  unfolding oddLotOn oddOnPage putOdd
+  odd-nothing r i f = let z : oddCodeOn l o p ≡ 0 = odd-idle (field p 11 1) (levelsFor p l) o i .0 in f ∙ rw (z, i)
+
+  module _ (code : ℕ) (p′ : List ℕ) (c : code ≡ oddCodeOn l o p) (g : p′ ≡ oddTaken l o p) where
+    pub odd-refused : (code ≡ 0 → ⊥) → _≡_ {A = Updated} (record { code = code; flags = 0; page = p′ }) (oddLotOn l o p)
+    unfolding oddLotOn
+    odd-refused n =
+        let z : eqb (oddCodeOn l o p) 0 ≡ false = ne-eqb (oddCodeOn l o p) 0 (λ q. n (c ∙ q)) in
+        let y : p′ ≡ p = rw z at g in
+        rw (z, y, c)
+
+    pub odd-taken : (r : Updated) → idleOdd o ≡ false → code ≡ 0 → r ≡ flagged 0 p′ (refreshed p′) → r ≡ oddLotOn l o p
+    unfolding oddLotOn oddOnPage putOdd
+    odd-taken r i n f =
+        let z : oddCodeOn l o p ≡ 0 = sym c ∙ n in
+        let y : p′ ≡ putLevels l o p = rw z at g in
+        f ∙ ap (λ (s : List ℕ). flagged 0 s (refreshed s)) y
+        ∙ flagged-from 0 p (putLevels l o p) (refreshed (putLevels l o p)) (ap (λ (s : List ℕ). part s 12 96) (sym y ∙ g) ∙ taken-stands p w l u o)
+        ∙ rw (z, i)
 
 -- ---- Q U
 

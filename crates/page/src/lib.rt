@@ -185,7 +185,7 @@ fn put_levels(page: &mut [u8], at: usize, bids: Levels, offers: Levels)
     offers.put(page, at + Slot::LEVELS + Levels::LEN);
 }
 
-// Whether an odd part asks for nothing: most messages have such a one.
+// Whether an odd part asks for nothing. Most do, so this is asked before levels are read.
 fn is_idle(odd: OddPart, items: &[u8]) -> bool
     requires { ⌜ length (now items) ≡ 12 * (odd .bids + odd .offers) ⌝ }
     ensures { λ r. ⌜ r ≡ idleOdd (oddIn (odd .mark) (odd .bids) (odd .offers) (odd .time) (now (items .entry))) ⌝ }
@@ -196,15 +196,12 @@ fn is_idle(odd: OddPart, items: &[u8]) -> bool
     false
 }
 
-// An odd part on its letter's levels, and its code. An idle or a refused part leaves the page alone.
+// An odd part on its letter's levels, and its code. A refused part leaves the page alone.
 fn put_odd(page: &mut [u8], letter: u8, odd: OddPart, items: &[u8]) -> u8
     requires { ⌜ (length (now page) ≡ 6054) × (upper letter ≡ true) ⌝ }
     requires { ⌜ length (now items) ≡ 12 * (odd .bids + odd .offers) ⌝ }
     ensures { λ r. ⌜ (r ≡ oddCodeOn letter (oddIn (odd .mark) (odd .bids) (odd .offers) (odd .time) (now (items .entry))) (now (page .entry))) × (now (page .exit) ≡ oddTaken letter (oddIn (odd .mark) (odd .bids) (odd .offers) (odd .time) (now (items .entry))) (now (page .entry))) ⌝ }
 {
-    if is_idle(odd, items) {
-        return 0;
-    }
     let at = entries::slot_at(letter as usize);
     let answer = judge_odd(page, at, odd, items);
     let judged = answer.judged;
@@ -235,6 +232,9 @@ pub fn round_lot(
         };
     }
     quote.put(page, entries::slot_at(letter as usize));
+    if is_idle(odd, items) {
+        return renewed(page, 0);
+    }
     let code = put_odd(page, letter, odd, items);
     renewed(page, code)
 }
@@ -245,6 +245,9 @@ pub fn odd_lot(page: &mut [u8], letter: u8, odd: OddPart, items: &[u8]) -> Effec
     requires { ⌜ length (now items) ≡ 12 * (odd .bids + odd .offers) ⌝ }
     ensures { λ r. ⌜ record { code = r .code; flags = r .flags; page = now (page .exit) } ≡ oddLotOn letter (oddIn (odd .mark) (odd .bids) (odd .offers) (odd .time) (now (items .entry))) (now (page .entry)) ⌝ }
 {
+    if is_idle(odd, items) {
+        return renewed(page, 0);
+    }
     let code = put_odd(page, letter, odd, items);
     if code != 0 {
         return Effect { code, flags: 0 };

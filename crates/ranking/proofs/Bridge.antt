@@ -14,10 +14,10 @@ use Rattle.ranking.specs.declared.Side.{Side}
 use Rattle.ranking.specs.declared.Side.the-variants.{Bid, Offer}
 use Rattle.ranking.specs.declared.Candidate.{Candidate}
 use Rattle.ranking.specs.Ranking.{ahead, first, lex, low, high, byPrice, bySize, byTime, byName, better, best}
-use Rattle.ranking.specs.Choice.{rankOf, noCandidate, orNone, live, larger, byRest, beats, choose, bestFrom, bothSides, noSides, sidesFrom}
+use Rattle.ranking.specs.Choice.{rankOf, noCandidate, orNone, live, larger, byRest, beats, choose, bestFrom}
 use Rattle.ranking.proofs.OrderLaws.{either, best-cons, either-either}
 use Rattle.ranking.proofs.RankingLaws.{better-weak}
-use Rattle.ranking.proofs.ChoiceLaws.{rank-zero, choose-ahead, choose-none, choose-live}
+use Rattle.ranking.proofs.ChoiceLaws.{rank-zero, rank-some, choose-ahead, choose-none, choose-live}
 
 -- ---- ranks and prices
 
@@ -33,11 +33,6 @@ pub rank-ahead : (s : Side) (p q : ℕ) → (p ≡ 0 → ⊥) → (q ≡ 0 → �
 unfolding rankOf
 rank-ahead Bid p q n m h k = refl
 rank-ahead Offer p q n m h k = rw (ne-eqb p 0 n, ne-eqb q 0 m) (ltb-flip 18446744073709551616 p q h k)
-
-pub rank-some : (s : Side) (p : ℕ) → (p ≡ 0 → ⊥) → p < 2 ^ 64 → 0 < rankOf s p
-unfolding rankOf
-rank-some Bid p n h = omega (arith, n)
-rank-some Offer p n h = rw (ne-eqb p 0 n) (omega arith)
 
 -- ---- the comparison
 
@@ -108,7 +103,7 @@ either-counts s (some x) (some y) h k = go (better s y x)
 
 choose-counting : (s : Side) (o : Option Candidate) (x : Candidate) → OrCounting o → Counting x → choose s (orNone o) x ≡ orNone (either (better s) o (some x))
 choose-counting s none x h k =
-    sym (choose-ahead s noCandidate x (k .price) (k .size) (ltb (rankOf s 0) (rankOf s (x .price))) refl (rw (rank-zero s) (lt-ltb 0 (rankOf s (x .price)) (rank-some s (x .price) (k .price) (k .fits)))))
+    sym (choose-ahead s noCandidate x (ltb (rankOf s 0) (rankOf s (x .price))) refl (k .size) (rw (rank-zero s) (lt-ltb 0 (rankOf s (x .price)) (rank-some s (x .price) (k .price) (k .fits)))))
 choose-counting s (some c) x h k = choose-better s x c (k .price) (k .size) (h .price) (k .fits) (h .fits)
 
 pub choose-either : (s : Side) (o : Option Candidate) (x : Candidate) → OrCounting o → x .price < 2 ^ 64 → choose s (orNone o) x ≡ orNone (either (better s) o (live x))
@@ -142,20 +137,16 @@ module _ (s : Side) (c : ℕ → Candidate) (fits : (j : ℕ) → c j .price < 2
   pub best-from : (i k : ℕ) → bestFrom s c i k noCandidate ≡ orNone (best (better s) (collect (λ j. live (c j)) (range k i)))
   best-from i k = best-with k i none tt
 
--- the same of what is none or counts, on both sides
-module _ (f : Side → ℕ → Option Candidate) (counts : (s : Side) (j : ℕ) → OrCounting (f s j)) where
-  fits-or : (o : Option Candidate) → OrCounting o → orNone o .price < 2 ^ 64
-  fits-or none k = omega arith
-  fits-or (some c) k = k .fits
+pub fits-or : (o : Option Candidate) → OrCounting o → orNone o .price < 2 ^ 64
+fits-or none k = omega arith
+fits-or (some c) k = k .fits
 
-  side-best : (s : Side) (i k : ℕ) → bestFrom s (λ j. orNone (f s j)) i k noCandidate ≡ orNone (best (better s) (collect (f s) (range k i)))
-  side-best s i k =
-      best-from s (λ j. orNone (f s j)) (λ j. fits-or (f s j) (counts s j)) i k
-      ∙ ap (λ (g : ℕ → Option Candidate). orNone (best (better s) (collect g (range k i)))) (fun-ext (λ j. live-back (f s j) (counts s j)))
-
-  pub sides-best : (i k : ℕ) → sidesFrom (λ s j. orNone (f s j)) i k noSides ≡ bothSides (λ s. orNone (best (better s) (collect (f s) (range k i))))
-  unfolding sidesFrom
-  sides-best i k = λ t. record { bid = side-best Bid i k t; offer = side-best Offer i k t }
+-- the same of what is none or counts
+pub side-best : (s : Side) (f : ℕ → Option Candidate) → ((j : ℕ) → OrCounting (f j)) → (i k : ℕ)
+    → bestFrom s (λ j. orNone (f j)) i k noCandidate ≡ orNone (best (better s) (collect f (range k i)))
+side-best s f counts i k =
+    best-from s (λ j. orNone (f j)) (λ j. fits-or (f j) (counts j)) i k
+    ∙ ap (λ (g : ℕ → Option Candidate). orNone (best (better s) (collect g (range k i)))) (fun-ext (λ j. live-back (f j) (counts j)))
 
 -- the best of candidates that count counts
 pub best-counts : {A : Type 0} (s : Side) (f : A → Option Candidate) → ((a : A) → OrCounting (f a)) → (xs : List A) → OrCounting (best (better s) (collect f xs))

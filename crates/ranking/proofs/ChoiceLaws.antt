@@ -7,7 +7,7 @@ use mathlib.Core.Option.{none, some}
 use native.Mathlib.Omega.{arith}
 use native.Mathlib.Nat.{le-of-lt}
 use lib.Dec.{eqb, ltb}
-use borrow.Author.Tests.{eq-eqb, ne-eqb, eqb-true, lt-ltb, le-ltb, ltb-true}
+use borrow.Author.Tests.{eq-eqb, ne-eqb, eqb-true, eqb-false, lt-ltb, le-ltb, ltb-true, ltb-false}
 use Rattle.lists.proofs.Searches.{less-one}
 use Rattle.ranking.specs.declared.Side.{Side}
 use Rattle.ranking.specs.declared.Side.the-variants.{Bid, Offer}
@@ -50,6 +50,11 @@ unfolding rankOf
 rank-zero Bid = refl
 rank-zero Offer = refl
 
+pub rank-some : (s : Side) (p : ℕ) → (p ≡ 0 → ⊥) → p < 2 ^ 64 → 0 < rankOf s p
+unfolding rankOf
+rank-some Bid p n h = omega (arith, n)
+rank-some Offer p n h = rw (ne-eqb p 0 n) (omega arith)
+
 -- ---- the choice
 
 module _ (s : Side) (b x : Candidate) where
@@ -76,15 +81,39 @@ module _ (s : Side) (b x : Candidate) where
       go true = refl
       go false = refl
 
-  module _ (p : x .price ≡ 0 → ⊥) (z : x .size ≡ 0 → ⊥) (u : Bool) (f : u ≡ ltb (rankOf s (b .price)) (rankOf s (x .price))) where
-    pub choose-ahead : u ≡ true → x ≡ choose s b x
+  module _ (u : Bool) (f : u ≡ ltb (rankOf s (b .price)) (rankOf s (x .price))) where
+    pub choose-ahead : (x .size ≡ 0 → ⊥) → u ≡ true → x ≡ choose s b x
     unfolding choose beats
-    choose-ahead h = rw (ne-eqb _ _ p, ne-eqb _ _ z, ← f, h)
+    choose-ahead z h = rw (ne-eqb _ _ priced, ne-eqb _ _ z, ← f, h)
+      where
+        priced : x .price ≡ 0 → ⊥
+        priced e =
+            let l : rankOf s (b .price) < rankOf s (x .price) = ltb-true _ _ (sym f ∙ h) in
+            let n : rankOf s (x .price) ≡ 0 = ap (rankOf s) e ∙ rank-zero s in
+            omega arith
 
-    pub choose-tie : (t w : Bool) → t ≡ ltb (rankOf s (x .price)) (rankOf s (b .price)) → t ≡ false → u ≡ false → w ≡ byRest x b → (v : Bool) → w ≡ v
-        → cond v x b ≡ choose s b x
+    -- the same price: none, or decided by the rest
+    pub choose-still : u ≡ false → x .price < 2 ^ 64 → b .price ≡ 0 → b ≡ choose s b x
+    choose-still k h e = go (eqb (x .price) 0) refl
+      where
+        go : (t : Bool) → eqb (x .price) 0 ≡ t → b ≡ choose s b x
+        go true q = choose-priceless (eqb-true (x .price) 0 q)
+        go false q =
+            let l : rankOf s (x .price) ≤ rankOf s (b .price) = ltb-false _ _ (sym f ∙ k) in
+            let n : rankOf s (b .price) ≡ 0 = ap (rankOf s) e ∙ rank-zero s in
+            let o : 0 < rankOf s (x .price) = rank-some s (x .price) (eqb-false (x .price) 0 q) h in
+            absurd (omega arith)
+
+    pub choose-tie : (t w : Bool) → t ≡ ltb (rankOf s (x .price)) (rankOf s (b .price)) → t ≡ false → (x .size ≡ 0 → ⊥) → u ≡ false
+        → (b .price ≡ 0 → ⊥) → b .price < 2 ^ 64 → w ≡ byRest x b → (v : Bool) → w ≡ v → cond v x b ≡ choose s b x
     unfolding choose beats
-    choose-tie t w e h k r v q = rw (ne-eqb _ _ p, ne-eqb _ _ z, ← f, k, ← e, h, ← r, q)
+    choose-tie t w e h z k p l r v q = rw (ne-eqb _ _ priced, ne-eqb _ _ z, ← f, k, ← e, h, ← r, q)
+      where
+        priced : x .price ≡ 0 → ⊥
+        priced o =
+            let m : rankOf s (b .price) ≤ rankOf s (x .price) = ltb-false _ _ (sym e ∙ h) in
+            let n : rankOf s (x .price) ≡ 0 = ap (rankOf s) o ∙ rank-zero s in
+            omega (arith, rank-some s (b .price) p l)
 
 pub choose-none : (s : Side) (b : Candidate) → b ≡ choose s b noCandidate
 unfolding choose beats

@@ -175,6 +175,10 @@ module _ {A : Type 0} (R : A → A → Bool) (w : Weak R) where
   either-either (some x) (some y) none = refl
   either-either (some x) (some y) (some z) = ap some (sym (pick-pick x y z))
 
+  pub best-append : (xs ys : List A) → best R (xs ++ ys) ≡ either R (best R xs) (best R ys)
+  best-append [] ys = refl
+  best-append (x ∷ xs) ys = ap (either R (some x)) (best-append xs ys) ∙ sym (either-either (some x) (best R xs) (best R ys))
+
   -- one that is better than each of some others stands for them
   abbrev pub Top : A → List A → Type 0
   Top x [] = Unit {0}

@@ -89,14 +89,15 @@ pub fn choose(side: Side, best: Candidate, x: Candidate) -> Candidate
     if is_behind(side, x.price, best) {
         return best;
     }
-    if x.price == 0 {
-        return best;
-    }
     if x.size == 0 {
         return best;
     }
     if is_behind(side, best.price, x) {
         return x;
+    }
+    // The prices are the same.
+    if best.price == 0 {
+        return best;
     }
     if by_rest(x, best) {
         return x;

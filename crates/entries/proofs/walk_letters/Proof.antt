@@ -8,11 +8,11 @@ use Rattle.entries.proofs.walk_letters.Statement.{statement}
 use Rattle.entries.proofs.walk_letters.Tie as tie
 
 abbrev Inv-loop : tie.InvT-loop
-Inv-loop page finra tops₀ letter₀ tops letter =
-    (65 ≤ letter) × (letter ≤ 91) × (topsFrom page finra letter (91 - letter) tops ≡ topsFrom page finra 65 26 noTops)
+Inv-loop page floors tops₀ letter₀ tops letter =
+    (65 ≤ letter) × (letter ≤ 91) × (topsFrom page floors letter (91 - letter) tops ≡ topsFrom page floors 65 26 noTops)
 
 abbrev μ-loop : tie.MeasureT-loop
-μ-loop page finra tops₀ letter₀ tops letter = 91 - letter
+μ-loop page floors tops₀ letter₀ tops letter = 91 - letter
 
 loop-holds : tie.Need-loop-holds Inv-loop μ-loop
 loop-holds c = (search needs, search needs, refl)

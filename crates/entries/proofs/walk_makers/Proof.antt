@@ -2,18 +2,18 @@
 use Prim.Native.Nat.{_≤_, _-_}
 use mathlib.Core.Path.{_≡_, refl}
 use borrow.Author.Needs.{needs}
-use Rattle.entries.specs.Walk.{makerAt, orNones}
+use Rattle.entries.specs.Walk.{makerAt, reachingAt}
 use Rattle.ranking.proofs.ChoiceLaws.{sides-again, sides-end}
 use Rattle.ranking.specs.Choice.{noSides, sidesFrom}
 use Rattle.entries.proofs.walk_makers.Statement.{statement}
 use Rattle.entries.proofs.walk_makers.Tie as tie
 
 abbrev Inv-loop : tie.InvT-loop
-Inv-loop page best₀ k₀ best k =
-    (k ≤ 16) × (sidesFrom (orNones (makerAt page)) k (16 - k) best ≡ sidesFrom (orNones (makerAt page)) 0 16 noSides)
+Inv-loop page floors best₀ k₀ best k =
+    (k ≤ 16) × (sidesFrom (reachingAt floors (makerAt page)) k (16 - k) best ≡ sidesFrom (reachingAt floors (makerAt page)) 0 16 noSides)
 
 abbrev μ-loop : tie.MeasureT-loop
-μ-loop page best₀ k₀ best k = 16 - k
+μ-loop page floors best₀ k₀ best k = 16 - k
 
 loop-holds : tie.Need-loop-holds Inv-loop μ-loop
 loop-holds c = (search needs, refl)

@@ -1,9 +1,9 @@
-use Prim.Native.Nat.{ℕ, _+_, _≤_}
-use mathlib.Core.Path.{_∙_}
+use Prim.Native.Nat.{_+_, _≤_}
+use mathlib.Core.Path.{sym, _∙_}
 use native.Mathlib.Omega.{arith}
 use borrow.Author.Tests.{ne-eqb}
 use Rattle.page.specs.Update.{roundLotOn}
-use Rattle.page.proofs.EffectLaws.{slot-inside, letter-inside, round-done}
+use Rattle.page.proofs.EffectLaws.{slot-inside, letter-inside, round-idle, round-done}
 use borrow.Author.Needs.{needs}
 use Rattle.page.proofs.round_lot.Statement.{statement}
 use Rattle.page.proofs.round_lot.Tie as tie
@@ -21,22 +21,45 @@ at-inside c = rw (c .slot-at .ensures) (slot-inside _ (c .before .before .before
 put-requires : tie.Need-put-requires
 put-requires c κs = omega (arith, at-inside c)
 
-put-odd-requires : tie.Need-put-odd-requires
-put-odd-requires c κs =
-    let w = c .before .before .before in
-    let s = w .before .before .before .before .before .before in
-    ((w .put .kept .1 .0 ∙ s .pre .0 .0, s .pre .0 .1), s .pre .1)
-
 returns-2 : tie.Need-returns-2
 returns-2 c =
     let r = c .before .before in
-    let o = r .before .before .before .before in
-    let w = o .before .before .before .before in
+    let i = r .before .before in
+    let w = i .before .before .before .before in
     let z = w .before .before .before in
     let s = z .before .before .before in
     rw (z .if1 .left)
-    (round-done _ _ _ _ _ _ _ _ _ (s .pre .0 .0) (s .pre .0 .1) (w .before .slot-at .ensures) (w .put .ensures) (o .put-odd .ensures .0) (o .put-odd .ensures .1) (r .renewed .ensures))
+    (round-idle _ (s .pre .0 .0) _ (s .pre .0 .1) _ _ _ _ _ (w .before .slot-at .ensures) (w .put .ensures) (sym (i .before .is-idle .ensures) ∙ i .if2 .taken) (r .renewed .ensures))
+
+put-odd-requires : tie.Need-put-odd-requires
+put-odd-requires c κs =
+    let w = c .before .before .before .before .before in
+    let s = w .before .before .before .before .before .before in
+    ((w .put .kept .1 .0 ∙ s .pre .0 .0, s .pre .0 .1), s .pre .1)
+
+returns-3 : tie.Need-returns-3
+returns-3 c =
+    let r = c .before .before in
+    let o = r .before .before .before .before in
+    let i = o .before .before in
+    let w = i .before .before .before .before in
+    let z = w .before .before .before in
+    let s = z .before .before .before in
+    rw (z .if1 .left)
+    (round-done _ (s .pre .0 .0) _ (s .pre .0 .1) _ _ _ _ _ (w .before .slot-at .ensures) (w .put .ensures) _ _ (sym (i .before .is-idle .ensures) ∙ i .if2 .left) (o .put-odd .ensures .0) (o .put-odd .ensures .1) (r .renewed2 .ensures))
 
 pub round-lot-spec : {M : Type 1} → statement M
 round-lot-spec =
-    tie.close (tie.spec returns slot-at-requires put-requires put-odd-requires (λ c κs. search needs) (λ c. search needs) returns-2)
+    tie.close
+    (tie.spec
+    returns
+    slot-at-requires
+    put-requires
+    (λ c κs. search needs)
+    (λ c κs. search needs)
+    (λ c. search needs)
+    returns-2
+    put-odd-requires
+    (λ c κs. search needs)
+    (λ c. search needs)
+    returns-3)
