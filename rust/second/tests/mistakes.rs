@@ -1,86 +1,17 @@
 //! Each planted mistake of the engine is found by the comparison with the reviewer.
 
 mod common;
+mod mistaken;
 
 use common::reviewer;
-use second::compare::{compare, first_difference, observe, Fresh};
-use second::engine::{mistake, Book, FollowLeader, Recompute};
-use second::shrink::shrink;
-use second::{generate, QuoteBook};
-
-fn engine<const M: u8>(n: u32) -> Box<dyn QuoteBook> {
-    Box::new(Book::<Recompute, M>::fresh(n).expect("n is 1 to 64"))
-}
-
-fn incremental<const M: u8>(n: u32) -> Box<dyn QuoteBook> {
-    Box::new(Book::<FollowLeader, M>::fresh(n).expect("n is 1 to 64"))
-}
-
-macro_rules! mistaken {
-    ($($book:ident: $($number:literal)*;)*) => {
-        &[$($(($number, $book::<$number> as Fresh)),*),*]
-    };
-}
-
-/// A book for each row of the table of mistakes.
-const BOOKS: &[(u8, Fresh)] = mistaken! {
-    engine:
-        1 2 3 4 5 6 7 8 9 10 11 12 13 14 15 16 17 18 19 20
-        21 22 23 24 25 26 27 28 29 30 31 32 33 34 35 36 37 38 39 40
-        41 42 43 44 45 46 47 48;
-    incremental: 49;
-};
-
-const LISTS: u64 = 400;
-const CALLS: usize = 200;
-
-/// How a mistake was found: after how many calls, and how many of them reproduce it.
-struct Found {
-    number: u8,
-    calls: usize,
-    reproduced_by: usize,
-}
+use mistaken::{engine, find_every_mistake, incremental, CALLS};
+use second::compare::compare;
+use second::engine::mistake;
+use second::generate;
 
 #[test]
 fn every_mistake_is_found() {
-    assert!(BOOKS
-        .iter()
-        .map(|&(number, _)| number)
-        .eq(mistake::TABLE.iter().map(|&(number, _)| number)));
-
-    let mut found = Vec::new();
-    let mut hidden = BOOKS.to_vec();
-    for seed in 0..LISTS {
-        if hidden.is_empty() {
-            break;
-        }
-        let list = generate::list(seed, CALLS);
-        let expected = observe(reviewer, &list);
-        hidden.retain(|&(number, fresh)| {
-            let Some(difference) = first_difference(&expected, fresh, &list) else {
-                return true;
-            };
-            let short = shrink(&list, |list| compare(reviewer, fresh, list).is_some());
-            found.push(Found {
-                number,
-                calls: seed as usize * CALLS + difference.at + 1,
-                reproduced_by: short.calls.len(),
-            });
-            false
-        });
-    }
-    found.sort_by_key(|found| found.number);
-    for Found {
-        number,
-        calls,
-        reproduced_by,
-    } in found
-    {
-        let (_, sentence) = mistake::TABLE[usize::from(number) - 1];
-        println!("{number:2} found after {calls:4} calls, shown by {reproduced_by:2}: {sentence}");
-    }
-    let hidden: Vec<u8> = hidden.into_iter().map(|(number, _)| number).collect();
-    assert_eq!(hidden, [0; 0], "mistakes that were not found");
+    find_every_mistake(reviewer);
 }
 
 #[test]

@@ -76,6 +76,11 @@ impl<U: Update, const M: u8> Book<U, M> {
             update: PhantomData,
         })
     }
+
+    /// The bytes of a book for n symbols: the book itself and its pages.
+    pub fn memory(n: u32) -> usize {
+        size_of::<Self>() + n as usize * size_of::<Page>()
+    }
 }
 
 impl<U: Update, const M: u8> QuoteBook for Book<U, M> {

@@ -15,18 +15,41 @@ use std::collections::VecDeque;
 use crate::call::{Call, List};
 use crate::engine::Engine;
 use crate::quote_book::QuoteBook;
-use crate::terms::{number, PUBLICATION_LEN, ROUND_LOTS};
+use crate::terms::{number, ANSWER_LEN, PUBLICATION_LEN, ROUND_LOTS};
 use pools::{Pools, Symbol, Theme};
-use random::Random;
+pub use random::Random;
 
 /// The list of so many calls that a seed gives.
 pub fn list(seed: u64, calls: usize) -> List {
-    let mut generator = Generator::new(seed);
+    let mut random = Random::new(seed);
+    let theme = Theme::draw(&mut random);
+    let n = theme.draw_n(&mut random);
+    let mut generator = Generator::new(random, theme, n);
     let calls = (0..calls).map(|_| generator.next_call()).collect();
-    List {
-        n: generator.n,
-        calls,
+    List { n, calls }
+}
+
+/// The day on a book of n symbols, n 1 to 64, that a seed gives: the calls that set it up, then so
+/// many blocks, each with room for its answers.
+pub fn day(seed: u64, n: u32, blocks: usize) -> List {
+    let mut random = Random::new(seed);
+    let theme = Theme::draw(&mut random);
+    let mut generator = Generator::new(random, theme, n);
+    let mut calls = Vec::new();
+    while let Some(call) = generator.setup.pop_front() {
+        generator.follow(&call);
+        calls.push(call);
     }
+    generator.follow(&Call::StartDay);
+    for _ in 0..blocks {
+        let mut call = generator.take_call();
+        if let Call::TakeBlock { answer_len, .. } = &mut call {
+            *answer_len = ANSWER_LEN;
+        }
+        generator.follow(&call);
+        calls.push(call);
+    }
+    List { n, calls }
 }
 
 /// A line that is open, as far as the drawn calls have led.
@@ -51,10 +74,7 @@ struct Generator {
 }
 
 impl Generator {
-    fn new(seed: u64) -> Generator {
-        let mut random = Random::new(seed);
-        let theme = Theme::draw(&mut random);
-        let n = theme.draw_n(&mut random);
+    fn new(mut random: Random, theme: Theme, n: u32) -> Generator {
         let pools = Pools::draw(&mut random, theme, n);
         let mut generator = Generator {
             random,

@@ -1,14 +1,17 @@
 //! A small deterministic generator of random numbers (SplitMix64).
 
+/// Numbers that a seed gives.
 pub struct Random {
     state: u64,
 }
 
 impl Random {
+    /// The numbers of a seed.
     pub fn new(seed: u64) -> Random {
         Random { state: seed }
     }
 
+    /// Any number.
     pub fn number(&mut self) -> u64 {
         self.state = self.state.wrapping_add(0x9E37_79B9_7F4A_7C15);
         let mut z = self.state;
@@ -22,10 +25,12 @@ impl Random {
         (self.number() % bound as u64) as usize
     }
 
+    /// Any byte.
     pub fn byte(&mut self) -> u8 {
         self.number() as u8
     }
 
+    /// So many bytes.
     pub fn bytes(&mut self, len: usize) -> Vec<u8> {
         (0..len).map(|_| self.byte()).collect()
     }
@@ -35,6 +40,7 @@ impl Random {
         self.below(100) < chance
     }
 
+    /// One of some values, of which there is at least one.
     pub fn pick<T: Copy>(&mut self, from: &[T]) -> T {
         from[self.below(from.len())]
     }

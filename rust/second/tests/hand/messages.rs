@@ -1,8 +1,7 @@
-//! Hand-written codes of messages, on all three books.
+//! Hand-written codes of messages.
 
-mod common;
-
-use common::*;
+use crate::desk::*;
+use crate::BOOKS;
 use second::build::{self, Odd};
 
 /// A message with some bytes replaced.

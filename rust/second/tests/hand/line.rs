@@ -1,8 +1,6 @@
-//! Hand-written answers of the line checks and of sequence numbers, on all three books.
+//! Hand-written answers of the line checks and of sequence numbers.
 
-mod common;
-
-use common::*;
+use crate::desk::*;
 use second::build::{self, seal, seal_checksum};
 
 fn idle() -> Vec<u8> {

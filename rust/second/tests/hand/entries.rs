@@ -1,8 +1,6 @@
-//! Hand-written entries and change flags, on all three books.
+//! Hand-written entries and change flags.
 
-mod common;
-
-use common::*;
+use crate::desk::*;
 use second::build;
 
 /// Q U with another time and condition.

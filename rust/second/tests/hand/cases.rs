@@ -1,9 +1,6 @@
-//! Document 01's cases P1 to P13 and its worked example, on the engine, the incremental engine and
-//! the reviewer.
+//! Document 01's cases P1 to P13 and its worked example.
 
-mod common;
-
-use common::*;
+use crate::desk::*;
 use second::build;
 
 #[test]

@@ -1,8 +1,7 @@
-//! Hand-written answers of the operator's calls and of the line checks, on all three books.
+//! Hand-written answers of the operator's calls and of the line checks.
 
-mod common;
-
-use common::*;
+use crate::desk::*;
+use crate::BOOKS;
 use second::{build, Engine, Incremental, QuoteBook, Reviewer};
 
 /// Runs a case on a fresh book of each kind.

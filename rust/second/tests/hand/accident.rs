@@ -1,9 +1,7 @@
 //! The accident that the mission names: an odd part is refused, and its clear must not stay. A Q K
 //! keeps its round part, a Q M is rejected.
 
-mod common;
-
-use common::*;
+use crate::desk::*;
 use second::build::{self, Odd};
 
 /// Odd parts that each code refuses, for a letter with four bids and one offer standing.

@@ -1,0 +1,58 @@
+/* One quote of the New York Stock Exchange goes into a book, and the best prices come out. `tests/c-example` builds and runs it. */
+#include <stdio.h>
+#include <stdlib.h>
+#include <string.h>
+#include "quotebook.h"
+
+/* Writes a big-endian number of len bytes. */
+static void put(uint8_t *at, int len, uint64_t number) {
+    while (len-- > 0) { at[len] = (uint8_t)number; number >>= 8; }
+}
+
+static uint64_t get(const uint8_t *at, int len) {
+    uint64_t number = 0;
+    while (len-- > 0) number = number << 8 | *at++;
+    return number;
+}
+
+/* A block of one round-lot quote (Q K) for ZT: bid 10.00 for 3 lots, offer 10.02 for 2. */
+static void quote_block(uint8_t block[72]) {
+    uint16_t sum = 0;
+    uint8_t *quote = block + 12;
+    memset(block, 0, 72);
+    block[0] = 1;                                                           /* version */
+    block[1] = 1;                                                           /* messages */
+    put(block + 2, 2, 72);                                                  /* length */
+    put(block + 4, 4, 1);                                                   /* sequence number */
+    put(block + 10, 2, 12);                                                 /* where the message starts */
+    memcpy(quote, "QKN", 3);
+    memcpy(quote + 20, "ZT         R", 12);                                 /* symbol and condition */
+    put(quote + 32, 8, 10000000); put(quote + 40, 4, 3);                    /* bid */
+    put(quote + 44, 8, 10020000); put(quote + 52, 4, 2);                    /* offer */
+    quote[56] = ' ';                                                        /* clears no odd lots */
+    for (int i = 0; i < 72; i++) sum = (uint16_t)(sum + block[i]);
+    put(block + 8, 2, sum);                                                 /* checksum */
+}
+
+int main(void) {
+    static const uint8_t zt[] = "ZT         ";
+    uint8_t block[72], answer[QB_ANSWER_LEN], publication[QB_PUBLICATION_LEN];
+    uint64_t report[QB_REPORT_LEN];
+    size_t len = (size_t)qb_book_len(1);
+    uint8_t *book = (uint8_t *)malloc(len);
+    if (!book || qb_make(book, len, 1) || qb_add_symbol(book, len, zt, QB_SYMBOL_LEN, 100)
+        || qb_open_line(book, len, 5, 'N') || qb_start_day(book, len)) return 1;
+
+    quote_block(block);
+    uint8_t number = qb_take_block(book, len, 5, block, sizeof block, answer, sizeof answer, report);
+    printf("block %d, next expected %d, message 0: code %d, flags %d\n", number, (int)report[QB_REPORT_EXPECTED], answer[1], answer[2]);
+
+    if (qb_read(book, len, zt, QB_SYMBOL_LEN, publication, sizeof publication)) return 1;
+    for (int side = 0; side < 2; side++) {
+        const uint8_t *entry = publication + side * QB_ENTRY_LEN;
+        double price = (double)get(entry + 4, 8) / 1e6;                     /* six implied decimals */
+        printf("best %s: %c %.2f for %d\n", side ? "offer" : "bid", entry[0], price, (int)get(entry + 12, 4));
+    }
+    free(book);
+    return 0;
+}

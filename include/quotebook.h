@@ -1,0 +1,137 @@
+/* quotebook.h: the quote book, a proved engine that turns exchange quotes into one book.
+ *
+ * Link with target/staticlib/libquotebook.a (`make lib` writes it). The library allocates nothing, keeps no state of its own and needs
+ * nothing of the system but memset. A book is bytes that the caller lends to every call.
+ *
+ * Duties of the caller, which no call can check:
+ *   - every pointer is valid for the length passed with it, also for length 0: never a null pointer;
+ *   - the buffers of one call do not overlap: book, symbol, block, answer, report and publication lie apart;
+ *   - nobody else reads or writes the book during a call that changes it. Several readers at once are fine.
+ * Everything else is checked: any bytes of any length may be lent as book, symbol or block. A refused call changes no byte of the
+ * book and fills no buffer, but for the report of a block, which says why.
+ *
+ * The result of a call is a number, QB_DONE (0) or the first check that refused. docs/CHECKS.md says what to do about each.
+ */
+#ifndef QUOTEBOOK_H
+#define QUOTEBOOK_H
+
+#include <stddef.h>
+#include <stdint.h>
+
+#ifdef __cplusplus
+extern "C" {
+#endif
+
+/* Sizes in bytes. A book for n symbols has QB_OPENING_LEN + n * QB_PAGE_LEN. */
+enum {
+    QB_OPENING_LEN = 847,
+    QB_PAGE_LEN = 6054,
+    QB_SYMBOL_LEN = 11,
+    QB_ANSWER_LEN = 180,     /* at least: 4 bytes for each of up to 45 messages */
+    QB_PUBLICATION_LEN = 96, /* at least: six entries */
+    QB_ENTRY_LEN = 16
+};
+
+/* Numbers that calls answer. */
+enum {
+    QB_DONE = 0,
+    QB_NO_BOOK = 1,             /* every call but make: the bytes or their length are not a book's */
+    QB_MAKE = 2,                /* make: n is not 1 to 64, or the length is not that of a book for n */
+    QB_SYMBOL_MALFORMED = 3,    /* add: the symbol is malformed */
+    QB_SYMBOL_LISTED = 4,       /* add: the symbol is already listed */
+    QB_BOOK_FULL = 5,           /* add: n symbols stand */
+    QB_ROUND_LOT = 6,           /* add: the round lot is not 1, 10, 25, 50 or 100 */
+    QB_LINE_OR_LETTER = 7,      /* open: the line is above 63, or the letter is not A to Z without S */
+    QB_LINE_OPEN = 8,           /* open: the line is already open */
+    QB_BUFFER_SHORT = 9,        /* block: the answer buffer is under 180 bytes; read: the publication buffer under 96 */
+    QB_SYMBOL_UNKNOWN = 10,     /* read: the symbol is malformed or not listed */
+    QB_DAY_OPEN = 11,           /* start: the day is already open */
+    QB_DAY_NOT_OPEN = 12,       /* end: the day is not open */
+    QB_BLOCK_WHILE_CLOSED = 20, /* block: the day is not open */
+    QB_LINE_NOT_OPEN = 21,      /* block: the line is above 63 or not open */
+    QB_BLOCK_LENGTH = 30,       /* block: the length is under 32, over 1,000 or not what the block's field says */
+    QB_VERSION = 31,            /* block: the version is not 1 */
+    QB_CHECKSUM = 32,           /* block: the checksum is wrong */
+    QB_OFFSETS = 33,            /* block: the message count is not 1 to 45, or an offset rule is broken */
+    QB_CONTROL_NOT_ALONE = 34,  /* block: a control message is not alone */
+    QB_DUPLICATE = 35,          /* block: its sequence number lies behind the expected one */
+    QB_GAP = 70                 /* block: a warning; it was taken, and sequence numbers before it are missing */
+};
+
+/* Codes of messages, in the answer buffer. A Q K with 60 to 64 is partly accepted: its quote is in force, its odd lots did nothing. */
+enum {
+    QB_CODE_ACCEPTED = 0,
+    QB_CODE_UNKNOWN_TYPE = 40,       /* unknown category and type */
+    QB_CODE_LETTER = 41,             /* the letter is not the line's */
+    QB_CODE_LENGTH = 42,             /* the length is not its type's */
+    QB_CODE_FIXED_BYTE = 43,         /* a zero or test byte is wrong */
+    QB_CODE_WRONG_LINE = 44,         /* C C, C O, Q U off D's line; Q K, Q M on it */
+    QB_CODE_SYMBOL = 45,             /* the symbol is malformed or not listed */
+    QB_CODE_CONDITION = 46,          /* the condition is not one that the type takes */
+    QB_CODE_SIZE_WITHOUT_PRICE = 47, /* price 0 with a size, on either side */
+    QB_CODE_MAKER = 48,              /* the maker is malformed */
+    QB_CODE_MAKERS_FULL = 49,        /* a new maker while sixteen stand */
+    QB_CODE_CLEAR_MARK = 60,         /* the clear mark is not space, B, S or X */
+    QB_CODE_ITEM_COUNT = 61,         /* more than four odd bids or odd offers */
+    QB_CODE_ITEM_PRICE = 62,         /* an odd lot with price 0 */
+    QB_CODE_ITEM_SHARES = 63,        /* an odd lot of a round lot or more */
+    QB_CODE_FIFTH_LEVEL = 64         /* an odd lot would make a fifth level */
+};
+
+/* Change flags of a message, in the answer buffer: the entries that it changed. */
+enum {
+    QB_NATIONAL_BID = 1,
+    QB_NATIONAL_OFFER = 2,
+    QB_FINRA_BID = 4,
+    QB_FINRA_OFFER = 8,
+    QB_ODD_BID = 16,
+    QB_ODD_OFFER = 32
+};
+
+/* Places in the report of a block. */
+enum {
+    QB_REPORT_NUMBER = 0,
+    QB_REPORT_GAP = 1,      /* how many sequence numbers are missing before the block */
+    QB_REPORT_EXPECTED = 2, /* the line's next expected sequence number */
+    QB_REPORT_COUNT = 3,    /* the line's messages since Start of Day */
+    QB_REPORT_ACCEPTED = 4,
+    QB_REPORT_PARTLY = 5,
+    QB_REPORT_REJECTED = 6,
+    QB_REPORT_LEN = 7
+};
+
+/* Bytes of a book for n symbols; 0 if n is not 1 to 64. */
+uint64_t qb_book_len(uint32_t n);
+
+/* Makes a book for n symbols in len bytes of any contents: no symbols, no lines, a closed day. Answers 0, 2. */
+uint8_t qb_make(uint8_t *book, size_t len, uint32_t n);
+
+/* Lists a symbol of 11 bytes (A to Z, then printable bytes, then spaces) with its round lot in shares. Answers 0, 1, 3, 6, 4, 5. */
+uint8_t qb_add_symbol(uint8_t *book, size_t len, const uint8_t *symbol, size_t symbol_len, uint32_t round_lot);
+
+/* Opens line 0 to 63 for an exchange's letter; D is FINRA. It expects sequence number 1. Answers 0, 1, 7, 8. */
+uint8_t qb_open_line(uint8_t *book, size_t len, uint32_t line, uint8_t letter);
+
+/* Start of Day: forgets all quotes, sets every line to sequence number 1, opens the day. Answers 0, 1, 11. */
+uint8_t qb_start_day(uint8_t *book, size_t len);
+
+/* End of Day: closes the day and keeps the quotes. Answers 0, 1, 12. */
+uint8_t qb_end_day(uint8_t *book, size_t len);
+
+/* Takes a block on a line. Answers 0 or 70 (taken), 1, 9, 21, 30, 31, 32, 33, 34, 20, 35.
+ * report: number, gap, next expected, count, accepted, partly accepted, rejected; always filled.
+ * answer: of a taken block, for message i the bytes 4i to 4i + 3 are i, its code, its change flags and 0; the bytes behind stay. */
+uint8_t qb_take_block(uint8_t *book, size_t len, uint32_t line, const uint8_t *block, size_t block_len,
+                      uint8_t *answer, size_t answer_len, uint64_t report[7]);
+
+/* Copies a symbol's six best entries: national bid, offer, FINRA bid, offer, odd-lot bid, offer. Answers 0, 1, 9, 10.
+ * Each entry is a name of 4 bytes (national: letter, condition, two spaces; FINRA: maker; odd lots: letter, three spaces), a price of
+ * 8 bytes with six implied decimals, and a size of 4 (round lots; of odd lots, shares), big-endian. None is four spaces and zeros. */
+uint8_t qb_read(const uint8_t *book, size_t len, const uint8_t *symbol, size_t symbol_len,
+                uint8_t *publication, size_t publication_len);
+
+#ifdef __cplusplus
+}
+#endif
+
+#endif

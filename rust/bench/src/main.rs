@@ -1,0 +1,53 @@
+//! The benchmark: the proved library and the second implementation side by side, in one run.
+//!
+//! Without arguments it prints all tables. `--quick` measures the full blocks of 64 symbols only.
+//! `--library N`, `--engine N` and `--incremental N` replay these blocks N times on one book alone,
+//! for a profiler; `--single` before them takes single-message blocks.
+
+#![forbid(unsafe_code)]
+
+mod library;
+mod market;
+mod measure;
+mod replay;
+mod stream;
+mod table;
+
+use std::process::ExitCode;
+
+use stream::{Kind, Size, Stream};
+
+/// Messages of a stream.
+const MESSAGES: usize = 20_000;
+/// Rounds on each book.
+const ROUNDS: usize = 31;
+
+fn main() -> ExitCode {
+    let arguments: Vec<String> = std::env::args().skip(1).collect();
+    let words: Vec<&str> = arguments.iter().map(String::as_str).collect();
+    let done = match words[..] {
+        [] => table::print_all(MESSAGES, ROUNDS),
+        ["--quick"] => table::print_quick(MESSAGES, ROUNDS),
+        ["--single", book, times] => alone(Size::Fixed(1), book, times),
+        [book, times] => alone(Size::Full, book, times),
+        _ => Err("arguments: none, --quick, or [--single] --library N".to_string()),
+    };
+    match done {
+        Ok(()) => ExitCode::SUCCESS,
+        Err(why) => {
+            eprintln!("{why}");
+            ExitCode::FAILURE
+        }
+    }
+}
+
+/// Replays the 64 symbols' stream on one book.
+fn alone(size: Size, book: &str, times: &str) -> Result<(), String> {
+    let times = times.parse().ok().filter(|&times| times > 0);
+    let times = times.ok_or("how many times?")?;
+    let name = book.trim_start_matches("--");
+    let stream = Stream::new(64, Kind::Mixed, size, MESSAGES);
+    let nanoseconds = measure::replay_alone(name, &stream, times).ok_or("which book?")?;
+    println!("{name}: {nanoseconds:.1} ns a message, the middle of {times} replays");
+    Ok(())
+}

@@ -1,0 +1,89 @@
+//! A book that owns its memory.
+
+use std::fmt::{self, Debug, Formatter};
+
+use crate::lent::{self, ANSWER_LEN, PUBLICATION_LEN, SYMBOL_LEN};
+use crate::number::Refusal;
+use crate::publication::Publication;
+use crate::report::Taken;
+
+/// A quote book for up to 64 symbols.
+///
+/// Symbols are given as text or bytes; one under eleven bytes is filled up with spaces. Calls that
+/// are refused change nothing and say why.
+#[derive(Clone, PartialEq, Eq)]
+pub struct Book {
+    memory: Box<[u8]>,
+}
+
+impl Book {
+    /// A book with room for n symbols, n 1 to 64: no symbols, no lines, a closed day.
+    pub fn new(n: u32) -> Result<Book, Refusal> {
+        let len = lent::book_len(n).unwrap_or(0);
+        let mut memory = vec![0; len].into_boxed_slice();
+        lent::make(&mut memory, n).result()?;
+        Ok(Book { memory })
+    }
+
+    /// Makes the book anew. The memory keeps its length, so n has to be the same.
+    pub fn make(&mut self, n: u32) -> Result<(), Refusal> {
+        lent::make(&mut self.memory, n).result()
+    }
+
+    /// Adds a symbol with its round lot: 1, 10, 25, 50 or 100 shares.
+    pub fn add_symbol(&mut self, symbol: impl AsRef<[u8]>, round_lot: u32) -> Result<(), Refusal> {
+        lent::add_symbol(&mut self.memory, &filled_up(symbol.as_ref()), round_lot).result()
+    }
+
+    /// Opens a line, 0 to 63, for a letter: A to Z without S. D is FINRA.
+    pub fn open_line(&mut self, line: u32, letter: u8) -> Result<(), Refusal> {
+        lent::open_line(&mut self.memory, line, letter).result()
+    }
+
+    /// Start of Day: empties all quotes, sets every line to its beginning and opens the day.
+    pub fn start_day(&mut self) -> Result<(), Refusal> {
+        lent::start_day(&mut self.memory).result()
+    }
+
+    /// End of Day: closes the day and keeps the quotes.
+    pub fn end_day(&mut self) -> Result<(), Refusal> {
+        lent::end_day(&mut self.memory).result()
+    }
+
+    /// Takes a block of up to 45 messages on a line.
+    pub fn take_block(&mut self, line: u32, block: &[u8]) -> Result<Taken, Refusal> {
+        let mut bytes = [0; ANSWER_LEN];
+        let report = lent::take_block(&mut self.memory, line, block, &mut bytes);
+        match report.refusal() {
+            None => Ok(Taken { report, bytes }),
+            Some(refusal) => Err(refusal),
+        }
+    }
+
+    /// Reads a symbol's publication.
+    pub fn read(&self, symbol: impl AsRef<[u8]>) -> Result<Publication, Refusal> {
+        let mut publication = [0; PUBLICATION_LEN];
+        lent::read(&self.memory, &filled_up(symbol.as_ref()), &mut publication).result()?;
+        Ok(Publication::from_bytes(&publication))
+    }
+
+    /// The book's memory, to keep a copy that can be lent to the functions of [`lent`].
+    pub fn as_bytes(&self) -> &[u8] {
+        &self.memory
+    }
+}
+
+/// A symbol with spaces to its end. One that is too long gives spaces alone, which are refused alike.
+fn filled_up(symbol: &[u8]) -> [u8; SYMBOL_LEN] {
+    let mut filled = [b' '; SYMBOL_LEN];
+    if let Some(front) = filled.get_mut(..symbol.len()) {
+        front.copy_from_slice(symbol);
+    }
+    filled
+}
+
+impl Debug for Book {
+    fn fmt(&self, f: &mut Formatter) -> fmt::Result {
+        write!(f, "Book of {} bytes", self.memory.len())
+    }
+}

@@ -1,0 +1,117 @@
+//! The C interface of the proved library. This is the only file with `unsafe` in it.
+//!
+//! Each function below lends whole slices. A `&mut` slice is not shared, so no buffer that a call
+//! writes overlaps another one of the call, and nobody else uses it meanwhile, as the interface asks.
+//! The library is proved to stay within what it is lent, whatever the bytes are, and to write to no
+//! `const` pointer.
+
+mod c {
+    extern "C" {
+        pub fn qb_book_len(n: u32) -> u64;
+        pub fn qb_make(book: *mut u8, len: usize, n: u32) -> u8;
+        pub fn qb_add_symbol(
+            book: *mut u8,
+            len: usize,
+            symbol: *const u8,
+            symbol_len: usize,
+            round_lot: u32,
+        ) -> u8;
+        pub fn qb_open_line(book: *mut u8, len: usize, line: u32, letter: u8) -> u8;
+        pub fn qb_start_day(book: *mut u8, len: usize) -> u8;
+        pub fn qb_end_day(book: *mut u8, len: usize) -> u8;
+        pub fn qb_take_block(
+            book: *mut u8,
+            len: usize,
+            line: u32,
+            block: *const u8,
+            block_len: usize,
+            answer: *mut u8,
+            answer_len: usize,
+            report: *mut u64,
+        ) -> u8;
+        pub fn qb_read(
+            book: *const u8,
+            len: usize,
+            symbol: *const u8,
+            symbol_len: usize,
+            publication: *mut u8,
+            publication_len: usize,
+        ) -> u8;
+    }
+}
+
+pub fn book_len(n: u32) -> u64 {
+    // SAFETY: no memory is lent.
+    unsafe { c::qb_book_len(n) }
+}
+
+pub fn make(book: &mut [u8], n: u32) -> u8 {
+    // SAFETY: pointer and length are one slice's.
+    unsafe { c::qb_make(book.as_mut_ptr(), book.len(), n) }
+}
+
+pub fn add_symbol(book: &mut [u8], symbol: &[u8], round_lot: u32) -> u8 {
+    // SAFETY: each pointer and its length are one slice's; the symbol is only read.
+    unsafe {
+        c::qb_add_symbol(
+            book.as_mut_ptr(),
+            book.len(),
+            symbol.as_ptr(),
+            symbol.len(),
+            round_lot,
+        )
+    }
+}
+
+pub fn open_line(book: &mut [u8], line: u32, letter: u8) -> u8 {
+    // SAFETY: pointer and length are one slice's.
+    unsafe { c::qb_open_line(book.as_mut_ptr(), book.len(), line, letter) }
+}
+
+pub fn start_day(book: &mut [u8]) -> u8 {
+    // SAFETY: pointer and length are one slice's.
+    unsafe { c::qb_start_day(book.as_mut_ptr(), book.len()) }
+}
+
+pub fn end_day(book: &mut [u8]) -> u8 {
+    // SAFETY: pointer and length are one slice's.
+    unsafe { c::qb_end_day(book.as_mut_ptr(), book.len()) }
+}
+
+/// The result of the call is the report's number too.
+pub fn take_block(
+    book: &mut [u8],
+    line: u32,
+    block: &[u8],
+    answer: &mut [u8],
+    report: &mut [u64; 7],
+) -> u8 {
+    // SAFETY: each pointer and its length are one slice's; the report has its seven numbers; the
+    // block is only read.
+    unsafe {
+        c::qb_take_block(
+            book.as_mut_ptr(),
+            book.len(),
+            line,
+            block.as_ptr(),
+            block.len(),
+            answer.as_mut_ptr(),
+            answer.len(),
+            report.as_mut_ptr(),
+        )
+    }
+}
+
+pub fn read(book: &[u8], symbol: &[u8], publication: &mut [u8]) -> u8 {
+    // SAFETY: each pointer and its length are one slice's; book and symbol are only read.
+    unsafe {
+        c::qb_read(
+            book.as_ptr(),
+            book.len(),
+            symbol.as_ptr(),
+            symbol.len(),
+            publication.as_mut_ptr(),
+            publication.len(),
+        )
+    }
+}

@@ -1,0 +1,95 @@
+//! The seven calls on lent memory, for those who keep a book elsewhere than in a [`Book`](crate::Book).
+//!
+//! Any bytes of any length may be lent. A refused call changes no byte. In every buffer the bytes
+//! behind those that a call fills keep their contents.
+
+use crate::ffi;
+use crate::number::Number;
+use crate::report::Report;
+
+/// The shortest answer buffer: four bytes for each of 45 messages.
+pub const ANSWER_LEN: usize = 180;
+/// The length of a publication.
+pub const PUBLICATION_LEN: usize = 96;
+/// The length of a symbol.
+pub const SYMBOL_LEN: usize = 11;
+
+fn number(byte: u8) -> Number {
+    Number::try_from(byte).expect("the library answers numbers of document 01")
+}
+
+/// The bytes of a book for n symbols; none if n is not 1 to 64.
+pub fn book_len(n: u32) -> Option<usize> {
+    let len = ffi::book_len(n) as usize;
+    (len > 0).then_some(len)
+}
+
+/// Makes a book of memory of any bytes: no symbols, no lines, a closed day.
+pub fn make(book: &mut [u8], n: u32) -> Number {
+    number(ffi::make(book, n))
+}
+
+/// Adds a symbol, eleven bytes, with its round lot in shares.
+pub fn add_symbol(book: &mut [u8], symbol: &[u8], round_lot: u32) -> Number {
+    number(ffi::add_symbol(book, symbol, round_lot))
+}
+
+/// Opens a line, 0 to 63, for a letter.
+pub fn open_line(book: &mut [u8], line: u32, letter: u8) -> Number {
+    number(ffi::open_line(book, line, letter))
+}
+
+/// Start of Day.
+pub fn start_day(book: &mut [u8]) -> Number {
+    number(ffi::start_day(book))
+}
+
+/// End of Day.
+pub fn end_day(book: &mut [u8]) -> Number {
+    number(ffi::end_day(book))
+}
+
+/// Takes a block on a line. Of a taken block's message i, the bytes 4i to 4i + 3 of `answer` are
+/// those of an [`Answer`](crate::Answer).
+pub fn take_block(book: &mut [u8], line: u32, block: &[u8], answer: &mut [u8]) -> Report {
+    let mut fields = [0; 7];
+    let answered = ffi::take_block(book, line, block, answer, &mut fields);
+    Report::from_fields(number(answered), fields)
+}
+
+/// Reads a symbol's publication into the first 96 bytes of the buffer.
+pub fn read(book: &[u8], symbol: &[u8], publication: &mut [u8]) -> Number {
+    number(ffi::read(book, symbol, publication))
+}
+
+#[cfg(test)]
+mod tests {
+    use super::*;
+
+    /// The call writes all seven numbers of a report, and its result is the first.
+    #[test]
+    fn a_report_is_filled() {
+        let mut book = vec![0; book_len(1).expect("one symbol")];
+        assert_eq!(make(&mut book, 1), Number::Done);
+        assert_eq!(open_line(&mut book, 5, b'N'), Number::Done);
+        let filled = |line, block: &[u8], room| {
+            let mut fields = [u64::MAX; 7];
+            let result = ffi::take_block(
+                &mut book.clone(),
+                line,
+                block,
+                &mut vec![0; room],
+                &mut fields,
+            );
+            assert_eq!(u64::from(result), fields[0]);
+            fields
+        };
+        // C T, which is taken while the day is closed.
+        let mut integrity = vec![1, 1, 0, 32, 0, 0, 0, 1, 1, 20, 0, 12, b'C', b'T', b'N'];
+        integrity.resize(32, 0);
+        assert_eq!(filled(5, &integrity, 180), [0, 0, 1, 0, 1, 0, 0]);
+        assert_eq!(filled(5, &[], 180), [30, 0, 1, 0, 0, 0, 0]);
+        assert_eq!(filled(4, &[], 180), [21, 0, 0, 0, 0, 0, 0]);
+        assert_eq!(filled(5, &[], 179), [9, 0, 0, 0, 0, 0, 0]);
+    }
+}

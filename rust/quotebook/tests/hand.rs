@@ -1,0 +1,23 @@
+//! Every hand-written case of the second implementation, on the library: document 01's cases, each
+//! number and code in its place, and the accident that the mission names.
+
+#[path = "../../second/tests/hand/desk.rs"]
+mod desk;
+mod support;
+
+#[path = "../../second/tests/hand/accident.rs"]
+mod accident;
+#[path = "../../second/tests/hand/cases.rs"]
+mod cases;
+#[path = "../../second/tests/hand/entries.rs"]
+mod entries;
+#[path = "../../second/tests/hand/line.rs"]
+mod line;
+#[path = "../../second/tests/hand/messages.rs"]
+mod messages;
+#[path = "../../second/tests/hand/operator.rs"]
+mod operator;
+
+use second::compare::Fresh;
+
+const BOOKS: [(&str, Fresh); 1] = [("library", support::library)];

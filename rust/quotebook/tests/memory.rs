@@ -1,0 +1,123 @@
+//! Books of arbitrary bytes: used books that are then damaged, and memory of any length that never
+//! was a book. Every call ends, the bytes around every buffer stay, a refused call changes nothing,
+//! and what a call answers and leaves is what docs/LAYOUT.md's reading of the bytes gives.
+
+mod support;
+
+use std::collections::BTreeMap;
+
+use second::generate::{self, Random};
+use second::{build, Call, QuoteBook, Report};
+use support::damage::damage;
+use support::foretold::{self, ensure, Left, NUMBERS};
+use support::guarded::{Fenced, Guarded};
+use support::layout::{in_page, is_book, record, N, SYMBOL};
+
+const BOOKS: u64 = 4_000;
+/// The calls of a list that use a book before it is damaged, and those that come after.
+const USING: usize = 60;
+const AFTER: usize = 40;
+
+#[test]
+fn any_memory() {
+    let mut reached = BTreeMap::new();
+    println!("{BOOKS} books from seed 0 on");
+    for seed in 0..BOOKS {
+        let mut random = Random::new(seed);
+        let list = generate::list(seed, USING + AFTER);
+        let mut book = Guarded::fresh(list.n);
+        for call in &list.calls[..USING] {
+            make_call(&mut book, call, &mut [0; 256]);
+        }
+        let mut memory = book.bytes().to_vec();
+        damage(&mut random, &mut memory);
+        for call in &list.calls[USING..] {
+            let call = fit(&mut random, call, &memory);
+            let number = check_call(&mut memory, &call)
+                .unwrap_or_else(|what| panic!("seed {seed}, {call}: {what}"));
+            *reached.entry((foretold::row(&call), number)).or_insert(0) += 1;
+        }
+    }
+    for (row, (name, numbers)) in NUMBERS.iter().enumerate() {
+        let of_call = reached.range((row, 0)..=(row, u8::MAX));
+        let (met, times): (Vec<u8>, Vec<u32>) = of_call.map(|(key, times)| (key.1, times)).unzip();
+        println!("{name} {met:?} times {times:?}");
+        assert_eq!(met, *numbers, "{name}");
+    }
+}
+
+/// Fits a call to damaged memory: most blocks get the number that their line expects, some reads and
+/// adds the symbol of a page. Now and then the call is a make instead.
+fn fit(random: &mut Random, call: &Call, memory: &[u8]) -> Call {
+    let mut call = call.clone();
+    if random.percent(5) {
+        let n = random.pick(&[0, 1, 2, 3, 64, 65, 257]);
+        return Call::Make { n };
+    }
+    if !is_book(memory) || random.percent(30) {
+        return call;
+    }
+    let of_page = in_page(random.below(usize::from(memory[N])), SYMBOL);
+    match &mut call {
+        Call::Read { symbol, .. } | Call::AddSymbol { symbol, .. } => {
+            *symbol = memory[of_page].to_vec();
+        }
+        Call::TakeBlock { line, block, .. } if *line < 64 && block.len() >= 32 => {
+            let (expected, _) = record(memory, *line as usize);
+            block[4..8].copy_from_slice(&expected.to_be_bytes());
+            build::seal_checksum(block);
+        }
+        _ => {}
+    }
+    call
+}
+
+/// Makes a call; but for a block, the report has its number alone.
+fn make_call(book: &mut Guarded, call: &Call, buffer: &mut [u8]) -> Report {
+    let number = match call {
+        Call::Make { n } => book.make(*n),
+        Call::AddSymbol { symbol, round_lot } => book.add_symbol(symbol, *round_lot),
+        Call::OpenLine { line, letter } => book.open_line(*line, *letter),
+        Call::StartDay => book.start_day(),
+        Call::EndDay => book.end_day(),
+        Call::TakeBlock { line, block, .. } => return book.take_block(*line, block, buffer),
+        Call::Read { symbol, .. } => book.read(symbol, buffer),
+    };
+    Report {
+        number,
+        ..Report::default()
+    }
+}
+
+/// Makes one call on any memory and looks at all that it answers and leaves.
+fn check_call(memory: &mut Vec<u8>, call: &Call) -> Result<u8, String> {
+    let room = match call {
+        Call::TakeBlock { answer_len, .. } => *answer_len,
+        Call::Read {
+            publication_len, ..
+        } => *publication_len,
+        _ => 0,
+    };
+    let pattern: Vec<u8> = (0..room).map(|at| 0xA5 ^ at as u8).collect();
+    let mut buffer = Fenced::new(&pattern);
+    let mut book = Guarded::over(memory);
+    let report = make_call(&mut book, call, buffer.bytes_mut());
+
+    let number = report.number;
+    let (_, numbers) = NUMBERS[foretold::row(call)];
+    ensure(numbers.contains(&number), format!("number {number}"))?;
+    if let Some(foretold) = foretold::number(memory, call) {
+        let right = number == foretold;
+        ensure(right, format!("number {number}, not {foretold}"))?;
+    }
+    ensure(buffer.stands(), "a byte around the buffer was written")?;
+    let left = Left {
+        before: memory,
+        after: book.bytes(),
+        buffer_before: &pattern,
+        buffer: buffer.bytes(),
+    };
+    left.check(call, &report)?;
+    *memory = book.bytes().to_vec();
+    Ok(number)
+}

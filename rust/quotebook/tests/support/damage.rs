@@ -1,0 +1,87 @@
+//! Damaging the memory of a book.
+
+use std::ops::Range;
+
+use second::generate::Random;
+
+use super::layout::{
+    in_page, line, moved, page, CELLS, CELL_LEN, CONTENTS, COUNT, LEVELS, LEVEL_LEN, LINES, LOT, N,
+    OPENING_LEN, PAGE_LEN, SLOTS, SLOT_LEN, SYMBOL,
+};
+
+/// Damages a book: its opening, its length, its lines, its symbols, its pages, or all of it.
+pub fn damage(random: &mut Random, memory: &mut Vec<u8>) {
+    let pages = (memory.len() - OPENING_LEN) / PAGE_LEN;
+    let at = random.below(pages);
+    match random.below(11) {
+        0 => {
+            let (at, any) = (random.below(line(0).start), random.byte());
+            memory[at] = random.usually(50, &[0, 1, 2, 64, 65, 255], &[any]);
+        }
+        1 => {
+            let lengths = [0, 1, 8, 15, 846, 847, 848, 6900, 6901, 6902, 12955];
+            memory.resize(random.pick(&lengths), 0x51);
+        }
+        2 => {
+            let len = random.below(2 * PAGE_LEN);
+            *memory = random.bytes(len);
+        }
+        3 => {
+            scatter(random, &mut memory[line(0).start..line(LINES - 1).end]);
+            // Some lines at the last number and the last count.
+            for at in 0..LINES {
+                if random.percent(30) {
+                    memory[moved(at)].fill(0xFF);
+                }
+            }
+        }
+        4 => memory[COUNT] = memory[N],
+        5 => {
+            let symbol = memory[in_page(at, SYMBOL)].to_vec();
+            memory[in_page(random.below(pages), SYMBOL)].copy_from_slice(&symbol);
+            memory[page(at).start + random.below(LOT + 1)] = random.byte();
+        }
+        6 => scatter(random, &mut memory[OPENING_LEN..]),
+        7 | 8 => {
+            let bytes = random.bytes(CONTENTS.len());
+            memory[in_page(at, CONTENTS)].copy_from_slice(&bytes);
+            admit(random, &mut memory[page(at)]);
+        }
+        _ => shuffle(random, &mut memory[page(at)]),
+    }
+}
+
+/// Writes up to 300 bytes anywhere.
+fn scatter(random: &mut Random, memory: &mut [u8]) {
+    for _ in 0..1 + random.below(300) {
+        let (at, any) = (random.below(memory.len()), random.byte());
+        memory[at] = random.usually(30, b"ADLNRS\x00\x01", &[any]);
+    }
+}
+
+/// Gives most quotes of a page a condition under which they count.
+fn admit(random: &mut Random, page: &mut [u8]) {
+    for slot in page[SLOTS].chunks_exact_mut(SLOT_LEN) {
+        slot[0] = random.usually(50, b"ABEFHORWL", &[slot[0]]);
+    }
+    for cell in page[CELLS].chunks_exact_mut(CELL_LEN) {
+        cell[4] = random.usually(80, b"RRL", &[cell[4]]);
+    }
+}
+
+/// Copies levels, slots and cells of a page over others of their kind.
+fn shuffle(random: &mut Random, page: &mut [u8]) {
+    for _ in 0..40 {
+        let (Range { start, .. }, len, count) = match random.below(3) {
+            0 => {
+                let slot = SLOTS.start + SLOT_LEN * random.below(26);
+                (slot + LEVELS..slot + SLOT_LEN, LEVEL_LEN, 8)
+            }
+            1 => (SLOTS, SLOT_LEN, 26),
+            _ => (CELLS, CELL_LEN, 16),
+        };
+        let from = start + len * random.below(count);
+        let to = start + len * random.below(count);
+        page.copy_within(from..from + len, to);
+    }
+}

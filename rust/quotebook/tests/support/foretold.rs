@@ -1,0 +1,292 @@
+//! What document 01 and docs/LAYOUT.md say of a call on memory of any bytes.
+
+use quotebook::Code;
+use second::{build, Call, Report};
+
+use super::guarded::Guarded;
+use super::layout::{
+    in_page, is_book, is_letter, line, listed_page, page, record, COUNT, DAY, ENTRIES, LINES, LOT,
+    N, OPENING_LEN, PAGE_LEN, SYMBOL,
+};
+use super::reading::Reading;
+
+/// The numbers that each call can answer.
+pub const NUMBERS: [(&str, &[u8]); 7] = [
+    ("make", &[0, 2]),
+    ("add", &[0, 1, 3, 4, 5, 6]),
+    ("open", &[0, 1, 7, 8]),
+    ("start", &[0, 1, 11]),
+    ("end", &[0, 1, 12]),
+    ("take", &[0, 1, 9, 20, 21, 30, 31, 32, 33, 34, 35, 70]),
+    ("read", &[0, 1, 9, 10]),
+];
+
+/// The row of a call in the table.
+pub fn row(call: &Call) -> usize {
+    match call {
+        Call::Make { .. } => 0,
+        Call::AddSymbol { .. } => 1,
+        Call::OpenLine { .. } => 2,
+        Call::StartDay => 3,
+        Call::EndDay => 4,
+        Call::TakeBlock { .. } => 5,
+        Call::Read { .. } => 6,
+    }
+}
+
+/// Says what is wrong unless it is right.
+pub fn ensure(right: bool, what: impl Into<String>) -> Result<(), String> {
+    if right {
+        Ok(())
+    } else {
+        Err(what.into())
+    }
+}
+
+fn is_symbol(symbol: &[u8]) -> bool {
+    let spaces = symbol.iter().rev().take_while(|&&byte| byte == b' ');
+    let text = &symbol[..symbol.len() - spaces.count()];
+    symbol.len() == 11 && symbol[0].is_ascii_uppercase() && text.iter().all(u8::is_ascii_graphic)
+}
+
+/// The number that the bytes of the memory give. None for a block that passes checks 1, 9 and 21:
+/// the next checks read the block and its line alone, and the random lists compare them.
+pub fn number(memory: &[u8], call: &Call) -> Option<u8> {
+    if let Call::Make { n } = call {
+        let right = memory.len() == OPENING_LEN + PAGE_LEN * *n as usize;
+        return Some(if right && (1..=64).contains(n) { 0 } else { 2 });
+    }
+    if !is_book(memory) {
+        return Some(1);
+    }
+    let listed = |symbol: &[u8]| listed_page(memory, symbol).is_some();
+    let is_open = |at: u32| at < LINES as u32 && is_letter(memory[line(at as usize).start]);
+    let checks = match call {
+        Call::Make { .. } => vec![],
+        Call::AddSymbol { symbol, round_lot } => vec![
+            (!is_symbol(symbol), 3),
+            (![1, 10, 25, 50, 100].contains(round_lot), 6),
+            (listed(symbol), 4),
+            (memory[COUNT] == memory[N], 5),
+        ],
+        Call::OpenLine { line, letter } => {
+            vec![(*line > 63 || !is_letter(*letter), 7), (is_open(*line), 8)]
+        }
+        Call::StartDay => vec![(memory[DAY] == 1, 11)],
+        Call::EndDay => vec![(memory[DAY] == 0, 12)],
+        Call::TakeBlock {
+            line, answer_len, ..
+        } => vec![(*answer_len < 180, 9), (!is_open(*line), 21)],
+        Call::Read {
+            symbol,
+            publication_len,
+        } => vec![
+            (*publication_len < 96, 9),
+            (!is_symbol(symbol) || !listed(symbol), 10),
+        ],
+    };
+    let fault = checks.iter().find(|check| check.0);
+    match (fault, call) {
+        (Some(fault), _) => Some(fault.1),
+        (None, Call::TakeBlock { .. }) => None,
+        (None, _) => Some(0),
+    }
+}
+
+/// The memory before and after a call, and the buffer that was lent to it.
+pub struct Left<'a> {
+    pub before: &'a [u8],
+    pub after: &'a [u8],
+    pub buffer_before: &'a [u8],
+    pub buffer: &'a [u8],
+}
+
+impl Left<'_> {
+    /// Looks at all that a call has left behind.
+    pub fn check(&self, call: &Call, report: &Report) -> Result<(), String> {
+        if !matches!(report.number, 0 | 70) {
+            return self.check_refused(call, report);
+        }
+        match call {
+            Call::Make { n } => ensure(self.after == Guarded::fresh(*n).bytes(), "no fresh book"),
+            Call::AddSymbol { symbol, round_lot } => self.check_added(symbol, *round_lot),
+            Call::OpenLine { line, letter } => self.check_line(*line as usize, *letter, (1, 0)),
+            Call::StartDay => self.check_started(),
+            Call::EndDay => ensure(self.after[DAY] == 0, "the day is open"),
+            Call::TakeBlock { line, block, .. } => self.check_taken(*line as usize, block, report),
+            Call::Read { symbol, .. } => self.check_read(symbol),
+        }
+    }
+
+    /// A refused call changes nothing; a block's report has the line as it stands.
+    fn check_refused(&self, call: &Call, report: &Report) -> Result<(), String> {
+        ensure(self.before == self.after, "a refused call changed the book")?;
+        let kept = self.buffer_before == self.buffer;
+        ensure(kept, "a refused call wrote into its buffer")?;
+        let mut expected = Report {
+            number: report.number,
+            ..Report::default()
+        };
+        if let (Call::TakeBlock { line, .. }, 20 | 30..) = (call, report.number) {
+            (expected.expected, expected.count) = record(self.before, *line as usize);
+        }
+        ensure(*report == expected, format!("{report:?}, not {expected:?}"))
+    }
+
+    fn check_added(&self, symbol: &[u8], round_lot: u32) -> Result<(), String> {
+        let count = usize::from(self.before[COUNT]);
+        let added = &self.after[page(count)];
+        ensure(usize::from(self.after[COUNT]) == count + 1, "not counted")?;
+        ensure(added[SYMBOL] == *symbol, "the symbol is not written")?;
+        ensure(u32::from(added[LOT]) == round_lot, "the lot is not written")?;
+        ensure(is_blank(added), "the page is not empty")
+    }
+
+    fn check_line(&self, at: usize, letter: u8, expected: (u32, u64)) -> Result<(), String> {
+        let right = self.after[line(at).start] == letter && record(self.after, at) == expected;
+        ensure(right, format!("the record of line {at}"))
+    }
+
+    fn check_started(&self) -> Result<(), String> {
+        ensure(self.after[DAY] == 1, "the day is not open")?;
+        for at in 0..LINES {
+            self.check_line(at, self.before[line(at).start], (1, 0))?;
+        }
+        for at in 0..usize::from(self.after[N]) {
+            ensure(is_blank(&self.after[page(at)]), format!("page {at} stands"))?;
+        }
+        Ok(())
+    }
+
+    /// Reading copies the entries that the page keeps.
+    fn check_read(&self, symbol: &[u8]) -> Result<(), String> {
+        let listed = listed_page(self.before, symbol).ok_or("no such page")?;
+        let (publication, behind) = self.buffer.split_at(96);
+        let kept = &self.before[in_page(listed, ENTRIES)];
+        ensure(publication == kept, "not the entries that the page keeps")?;
+        let behind_kept = behind == &self.buffer_before[96..];
+        ensure(behind_kept, "a byte behind the publication was written")
+    }
+
+    /// The report, the line's record, every answer, and each page as its reading follows the messages.
+    fn check_taken(&self, at: usize, block: &[u8], report: &Report) -> Result<(), String> {
+        let (sequence, messages) = build::split(block).ok_or("no block")?;
+        let c = messages.len();
+        let (mut expected, mut count) = record(self.before, at);
+        let mut gap = 0;
+        if !matches!(&messages[0][..2], b"CI" | b"CT" | b"C5") {
+            ensure(self.before[DAY] == 1, "taken while the day was closed")?;
+            gap = sequence.wrapping_sub(expected);
+            expected = sequence.wrapping_add(c as u32);
+            count = count.wrapping_add(c as u64);
+        }
+        self.check_line(at, self.before[line(at).start], (expected, count))?;
+        let (answers, behind) = self.buffer.split_at(4 * c);
+        let mut expected = Report {
+            number: if gap == 0 { 0 } else { 70 },
+            gap,
+            expected,
+            count,
+            ..Report::default()
+        };
+        for (message, answer) in messages.iter().zip(answers.chunks_exact(4)) {
+            match (&message[..2], answer[1]) {
+                (_, 0) => expected.accepted += 1,
+                (b"QK", 60..) => expected.partly += 1,
+                _ => expected.rejected += 1,
+            }
+        }
+        ensure(*report == expected, format!("{report:?}, not {expected:?}"))?;
+        let behind_kept = behind == &self.buffer_before[4 * c..];
+        ensure(behind_kept, "a byte behind the answers was written")?;
+        let mut pages = Pages::of(self.before);
+        for (i, (message, answer)) in messages.iter().zip(answers.chunks_exact(4)).enumerate() {
+            ensure(
+                [answer[0], answer[3]] == [i as u8, 0],
+                format!("{answer:?}"),
+            )?;
+            let followed = pages.follow(message, answer[1], answer[2]);
+            followed.map_err(|what| format!("message {i}: {what}"))?;
+        }
+        pages.check(self.after)
+    }
+}
+
+fn is_blank(page: &[u8]) -> bool {
+    let reading = Reading::of(page);
+    reading.is_empty() && page[ENTRIES] == reading.entries()
+}
+
+/// The pages of a book as the messages of a block change them.
+struct Pages<'a> {
+    before: &'a [u8],
+    /// Each page's reading and the entries that it keeps.
+    pages: Vec<(Reading, [u8; 96])>,
+}
+
+impl Pages<'_> {
+    fn of(before: &[u8]) -> Pages<'_> {
+        let pages = (0..usize::from(before[N])).map(|at| {
+            let mut entries = [0; 96];
+            entries.copy_from_slice(&before[in_page(at, ENTRIES)]);
+            (Reading::of(&before[page(at)]), entries)
+        });
+        Pages {
+            before,
+            pages: pages.collect(),
+        }
+    }
+
+    /// Follows one message by its code. Codes 0, 49 and 60 to 64 are the page's and are foretold;
+    /// any other code leaves every page alone.
+    fn follow(&mut self, message: &[u8], code: u8, flags: u8) -> Result<(), String> {
+        Code::try_from(code).map_err(|code| format!("code {code}"))?;
+        let kind = &message[..2];
+        let concerned = match kind {
+            b"CC" | b"CO" if code == 0 => 0..self.pages.len(),
+            b"QK" | b"QM" | b"QU" if code == 0 || code >= 49 => {
+                let named = listed_page(self.before, &message[20..31]).ok_or("not listed")?;
+                named..named + 1
+            }
+            _ => 0..0,
+        };
+        let mut changed = 0;
+        for at in concerned {
+            let (reading, entries) = &mut self.pages[at];
+            let foretold = reading.take(message);
+            ensure(code == foretold, format!("code {code}, not {foretold}"))?;
+            if code != 0 && kind != b"QK" {
+                continue;
+            }
+            let old = std::mem::replace(entries, reading.entries());
+            // The flags go by listed symbols.
+            if at < usize::from(self.before[COUNT]) {
+                changed |= changes(&old, entries);
+            }
+        }
+        ensure(flags == changed, format!("flags {flags}, not {changed}"))
+    }
+
+    fn check(&self, after: &[u8]) -> Result<(), String> {
+        for (at, (reading, entries)) in self.pages.iter().enumerate() {
+            let now = Reading::of(&after[page(at)]);
+            if !now.agrees(reading) {
+                return Err(format!("page {at} reads\n{now:?}, not\n{reading:?}"));
+            }
+            let kept = &after[in_page(at, ENTRIES)];
+            if kept != entries {
+                return Err(format!("page {at} keeps {kept:?}, not {entries:?}"));
+            }
+        }
+        Ok(())
+    }
+}
+
+/// A bit for each entry that changed.
+fn changes(old: &[u8], new: &[u8]) -> u8 {
+    let pairs = old.chunks_exact(16).zip(new.chunks_exact(16));
+    let flags = pairs.enumerate();
+    flags.fold(0, |flags, (i, (old, new))| {
+        flags | u8::from(old != new) << i
+    })
+}

@@ -1,0 +1,219 @@
+//! The library's calls on guarded memory. After every call this sees to what the second
+//! implementation cannot show: no byte around a buffer changed, no byte of a block or symbol did, a
+//! refused call changed no byte of the book, and any other only those that it may.
+
+use std::ops::Range;
+
+use quotebook::{lent, Number};
+use second::{build, QuoteBook, Report};
+
+use super::layout::{self, byte, in_page, line, moved, page, CONTENTS, COUNT, DAY, LINES, N};
+
+/// Answered instead of the call's number if memory was written that may not be. No call of a book
+/// has these numbers, so that the comparison fails at this call.
+pub mod broken {
+    pub const AROUND: u8 = 201;
+    pub const ARGUMENT: u8 = 202;
+    pub const REFUSED: u8 = 203;
+    pub const BEYOND: u8 = 204;
+
+    /// What each of these numbers says.
+    pub const TABLE: [(u8, &str); 4] = [
+        (AROUND, "a byte around the book was written"),
+        (
+            ARGUMENT,
+            "a byte of or around a block or symbol was written",
+        ),
+        (REFUSED, "a refused call wrote into the book"),
+        (
+            BEYOND,
+            "a call wrote a byte of the book that it may not change",
+        ),
+    ];
+}
+
+const GUARD: usize = 64;
+
+/// Bytes with guards around them.
+pub struct Fenced(Vec<u8>);
+
+impl Fenced {
+    const FENCE: [u8; GUARD] = [0xC3; GUARD];
+
+    pub fn new(bytes: &[u8]) -> Fenced {
+        Fenced([&Fenced::FENCE, bytes, &Fenced::FENCE].concat())
+    }
+
+    pub fn bytes(&self) -> &[u8] {
+        &self.0[GUARD..self.0.len() - GUARD]
+    }
+
+    pub fn bytes_mut(&mut self) -> &mut [u8] {
+        let end = self.0.len() - GUARD;
+        &mut self.0[GUARD..end]
+    }
+
+    /// Whether the guards are as they were.
+    pub fn stands(&self) -> bool {
+        self.0.starts_with(&Fenced::FENCE) && self.0.ends_with(&Fenced::FENCE)
+    }
+
+    /// Whether the guards and the bytes are as they were.
+    pub fn keeps(&self, bytes: &[u8]) -> bool {
+        self.stands() && self.bytes() == bytes
+    }
+}
+
+/// A book in guarded memory.
+pub struct Guarded {
+    memory: Fenced,
+    /// The book as the last call left it.
+    before: Vec<u8>,
+}
+
+impl Guarded {
+    /// A fresh book, made in memory of a pattern.
+    pub fn fresh(n: u32) -> Guarded {
+        let len = lent::book_len(n).expect("n is 1 to 64");
+        let pattern: Vec<u8> = (0..len).map(|at| 0x5A ^ at as u8).collect();
+        let mut book = Guarded::over(&pattern);
+        assert_eq!(book.make(n), 0);
+        book
+    }
+
+    /// A copy of any memory.
+    pub fn over(memory: &[u8]) -> Guarded {
+        Guarded {
+            memory: Fenced::new(memory),
+            before: memory.to_vec(),
+        }
+    }
+
+    pub fn bytes(&self) -> &[u8] {
+        self.memory.bytes()
+    }
+
+    /// Writes a byte behind the library's back: of the book, or of the guard behind it.
+    pub fn plant(&mut self, at: usize) {
+        self.memory.0[GUARD + at] ^= 1;
+    }
+
+    /// The call's number, or what it broke. `allowed` are the bytes that the call may change if it
+    /// is not refused.
+    fn settle(&mut self, number: Number, allowed: &[Range<usize>], argument_kept: bool) -> u8 {
+        if !number.is_refusal() {
+            for range in allowed {
+                self.before[range.clone()].copy_from_slice(&self.memory.bytes()[range.clone()]);
+            }
+        }
+        let kept = self.before == self.memory.bytes();
+        if !kept {
+            self.before = self.memory.bytes().to_vec();
+        }
+        match number {
+            _ if !self.memory.stands() => broken::AROUND,
+            _ if !argument_kept => broken::ARGUMENT,
+            _ if !kept && number.is_refusal() => broken::REFUSED,
+            _ if !kept => broken::BEYOND,
+            _ => u8::from(number),
+        }
+    }
+
+    /// What a taken block may change: its line's numbers, and the contents of each page that an
+    /// accepted or partly accepted message names; with an accepted FINRA Close or Open, of every page.
+    fn may_change(&self, line: u32, block: &[u8], answer: &[u8]) -> Vec<Range<usize>> {
+        let mut allowed = vec![moved(line as usize)];
+        let (_, messages) = build::split(block).expect("a taken block has its messages");
+        for (message, answer) in messages.iter().zip(answer.chunks_exact(4)) {
+            let (kind, code) = (&message[..2], answer[1]);
+            let in_part = kind == b"QK" && code >= 60;
+            if code != 0 && !in_part {
+                continue;
+            }
+            match kind {
+                b"QK" | b"QM" | b"QU" => {
+                    let named = layout::listed_page(self.bytes(), &message[20..31]);
+                    allowed.extend(named.map(|named| in_page(named, CONTENTS)));
+                }
+                b"CC" | b"CO" => {
+                    let pages = 0..usize::from(self.bytes()[N]);
+                    allowed.extend(pages.map(|page| in_page(page, CONTENTS)));
+                }
+                _ => {}
+            }
+        }
+        allowed
+    }
+}
+
+impl QuoteBook for Guarded {
+    fn make(&mut self, n: u32) -> u8 {
+        let number = lent::make(self.memory.bytes_mut(), n);
+        let all = 0..self.before.len();
+        self.settle(number, &[all], true)
+    }
+
+    fn add_symbol(&mut self, symbol: &[u8], round_lot: u32) -> u8 {
+        let argument = Fenced::new(symbol);
+        let number = lent::add_symbol(self.memory.bytes_mut(), argument.bytes(), round_lot);
+        let kept = argument.keeps(symbol);
+        if number.is_refusal() {
+            return self.settle(number, &[], kept);
+        }
+        let added = page(usize::from(self.before[COUNT]));
+        self.settle(number, &[byte(COUNT), added], kept)
+    }
+
+    fn open_line(&mut self, line_number: u32, letter: u8) -> u8 {
+        let number = lent::open_line(self.memory.bytes_mut(), line_number, letter);
+        self.settle(number, &[line(line_number as usize)], true)
+    }
+
+    fn start_day(&mut self) -> u8 {
+        let number = lent::start_day(self.memory.bytes_mut());
+        if number.is_refusal() {
+            return self.settle(number, &[], true);
+        }
+        let pages = 0..usize::from(self.before[N]);
+        let mut allowed = vec![byte(DAY)];
+        allowed.extend((0..LINES).map(moved));
+        allowed.extend(pages.map(|page| in_page(page, CONTENTS)));
+        self.settle(number, &allowed, true)
+    }
+
+    fn end_day(&mut self) -> u8 {
+        let number = lent::end_day(self.memory.bytes_mut());
+        self.settle(number, &[byte(DAY)], true)
+    }
+
+    fn take_block(&mut self, line: u32, block: &[u8], answer: &mut [u8]) -> Report {
+        let argument = Fenced::new(block);
+        let report = lent::take_block(self.memory.bytes_mut(), line, argument.bytes(), answer);
+        let allowed = if report.number.is_refusal() {
+            Vec::new()
+        } else {
+            self.may_change(line, block, answer)
+        };
+        Report {
+            number: self.settle(report.number, &allowed, argument.keeps(block)),
+            gap: report.gap,
+            expected: report.expected,
+            count: report.count,
+            accepted: report.accepted,
+            partly: report.partly,
+            rejected: report.rejected,
+        }
+    }
+
+    fn read(&self, symbol: &[u8], publication: &mut [u8]) -> u8 {
+        let argument = Fenced::new(symbol);
+        let number = lent::read(self.memory.bytes(), argument.bytes(), publication);
+        if !argument.keeps(symbol) {
+            return broken::ARGUMENT;
+        }
+        if !self.memory.keeps(&self.before) {
+            return broken::BEYOND;
+        }
+        u8::from(number)
+    }
+}

@@ -1,0 +1,89 @@
+//! Where things lie in a book, as docs/LAYOUT.md says.
+
+use std::ops::Range;
+
+pub const MARK: &[u8; 8] = b"QUOTEBK1";
+pub const N: usize = 8;
+pub const COUNT: usize = 9;
+pub const DAY: usize = 10;
+pub const FIRST_PAGE: Range<usize> = 11..15;
+pub const LINES: usize = 64;
+pub const OPENING_LEN: usize = 847;
+pub const PAGE_LEN: usize = 6054;
+
+/// Within a page: the symbol, the round lot, the six entries, and all that follows the round lot.
+pub const SYMBOL: Range<usize> = 0..11;
+pub const LOT: usize = 11;
+pub const ENTRIES: Range<usize> = 12..108;
+pub const CONTENTS: Range<usize> = 12..PAGE_LEN;
+/// A slot for each letter: a quote, then four odd lot bids and four odd lot offers.
+pub const SLOTS: Range<usize> = 108..5334;
+pub const SLOT_LEN: usize = 201;
+pub const LEVELS: usize = 41;
+pub const LEVEL_LEN: usize = 20;
+/// A cell for each of sixteen makers: the name, then a quote.
+pub const CELLS: Range<usize> = 5334..PAGE_LEN;
+pub const CELL_LEN: usize = 45;
+
+/// One byte of the opening.
+pub fn byte(at: usize) -> Range<usize> {
+    at..at + 1
+}
+
+/// The record of a line: its letter, its next expected number, its count.
+pub fn line(line: usize) -> Range<usize> {
+    let start = 15 + 13 * line;
+    start..start + 13
+}
+
+/// The next expected number and the count of a line.
+pub fn moved(line_number: usize) -> Range<usize> {
+    let Range { start, end } = line(line_number);
+    start + 1..end
+}
+
+pub fn page(page: usize) -> Range<usize> {
+    let start = OPENING_LEN + PAGE_LEN * page;
+    start..start + PAGE_LEN
+}
+
+/// A part of a page, in the book.
+pub fn in_page(page_number: usize, part: Range<usize>) -> Range<usize> {
+    let start = page(page_number).start;
+    start + part.start..start + part.end
+}
+
+/// Whether a letter is one that a line may have.
+pub fn is_letter(letter: u8) -> bool {
+    letter.is_ascii_uppercase() && letter != b'S'
+}
+
+/// The next expected number and the count of a line, as they stand.
+pub fn record(book: &[u8], line_number: usize) -> (u32, u64) {
+    let (expected, count) = book[moved(line_number)].split_at(4);
+    (number(expected) as u32, number(count))
+}
+
+/// A big-endian number.
+pub fn number(bytes: &[u8]) -> u64 {
+    bytes.iter().fold(0, |n, &byte| n << 8 | u64::from(byte))
+}
+
+/// Whether memory is a book: its opening is sound and its length right.
+pub fn is_book(memory: &[u8]) -> bool {
+    memory.len() >= OPENING_LEN
+        && memory.starts_with(MARK)
+        && (1..=64).contains(&memory[N])
+        && memory[COUNT] <= memory[N]
+        && memory[DAY] <= 1
+        && memory[FIRST_PAGE] == (OPENING_LEN as u32).to_be_bytes()
+        && memory.len() == OPENING_LEN + PAGE_LEN * usize::from(memory[N])
+}
+
+/// The first listed page of a symbol.
+pub fn listed_page(book: &[u8], symbol: &[u8]) -> Option<usize> {
+    let listed = 0..usize::from(book[COUNT]);
+    listed
+        .into_iter()
+        .find(|&at| &book[in_page(at, SYMBOL)] == symbol)
+}

@@ -1,0 +1,275 @@
+//! What the bytes of a page say, as docs/LAYOUT.md reads any bytes, what a message makes of it, and
+//! the six entries that follow by document 01 ("Best entries").
+
+use std::cmp::Reverse;
+
+use super::layout::{number, CELLS, CELL_LEN, LEVELS, LEVEL_LEN, LOT, SLOTS, SLOT_LEN};
+
+const NONE: [u8; 16] = *b"    \0\0\0\0\0\0\0\0\0\0\0\0";
+
+/// Bid and offer, as positions.
+const SIDES: [usize; 2] = [0, 1];
+
+/// A side of a quote, or an odd lot level.
+#[derive(Clone, Copy, PartialEq, Eq, PartialOrd, Ord, Debug)]
+pub struct Shown {
+    price: u64,
+    size: u32,
+    time: u64,
+}
+
+#[derive(Clone, Copy, PartialEq, Eq, PartialOrd, Ord, Debug)]
+pub struct Quote {
+    condition: u8,
+    sides: [Shown; 2],
+}
+
+/// A page, read.
+#[derive(Clone, PartialEq, Eq, Debug)]
+pub struct Reading {
+    lot: u8,
+    /// For each letter: its quote, and its levels of both sides, best first.
+    letters: Vec<(Quote, [Vec<Shown>; 2])>,
+    /// The cells, none if free.
+    makers: Vec<Option<([u8; 4], Quote)>>,
+}
+
+fn shown(bytes: &[u8]) -> Shown {
+    Shown {
+        price: number(&bytes[..8]),
+        size: number(&bytes[8..12]) as u32,
+        time: number(&bytes[12..20]),
+    }
+}
+
+fn quote(bytes: &[u8]) -> Quote {
+    Quote {
+        condition: bytes[0],
+        sides: [shown(&bytes[1..21]), shown(&bytes[21..41])],
+    }
+}
+
+/// The larger, the better.
+fn rank(side: usize, price: u64) -> u64 {
+    if side == 0 {
+        price
+    } else {
+        u64::MAX - price
+    }
+}
+
+/// "The cells before the first one that is empty (price 0 or shares 0) or does not rank strictly
+/// behind the cell before it."
+fn levels(side: usize, bytes: &[u8]) -> Vec<Shown> {
+    let mut levels: Vec<Shown> = Vec::new();
+    for level in bytes.chunks_exact(LEVEL_LEN).map(shown) {
+        let behind = levels
+            .last()
+            .is_none_or(|last| rank(side, level.price) < rank(side, last.price));
+        if level.price == 0 || level.size == 0 || !behind {
+            break;
+        }
+        levels.push(level);
+    }
+    levels
+}
+
+impl Reading {
+    pub fn of(page: &[u8]) -> Reading {
+        let slots = page[SLOTS].chunks_exact(SLOT_LEN);
+        let letters = slots.map(|slot| {
+            let (bids, offers) = slot[LEVELS..].split_at(4 * LEVEL_LEN);
+            (quote(slot), [levels(0, bids), levels(1, offers)])
+        });
+        let cells = page[CELLS].chunks_exact(CELL_LEN);
+        let makers = cells.map(|cell| {
+            let stands = matches!(cell[4], b'L' | b'R');
+            stands.then(|| ([cell[0], cell[1], cell[2], cell[3]], quote(&cell[4..])))
+        });
+        Reading {
+            lot: page[LOT],
+            letters: letters.collect(),
+            makers: makers.collect(),
+        }
+    }
+
+    /// Whether nothing stands: no maker, no level, and no quote that counts.
+    pub fn is_empty(&self) -> bool {
+        let nothing = |(_, levels): &(Quote, [Vec<Shown>; 2])| levels.iter().all(Vec::is_empty);
+        self.makers.iter().all(Option::is_none)
+            && self.letters.iter().all(nothing)
+            && self.entries().chunks_exact(16).all(|entry| entry == NONE)
+    }
+
+    /// Equal but for the positions of cells.
+    pub fn agrees(&self, other: &Reading) -> bool {
+        let sorted = |reading: &Reading| {
+            let mut makers = reading.makers.clone();
+            makers.sort();
+            makers
+        };
+        self.lot == other.lot && self.letters == other.letters && sorted(self) == sorted(other)
+    }
+
+    /// What a message that passed checks 40 to 48 makes of the page: its code, 0, 49 or 60 to 64.
+    pub fn take(&mut self, message: &[u8]) -> u8 {
+        let at = usize::from(message[2] - b'A');
+        match &message[..2] {
+            b"QU" => self.take_maker(message),
+            b"QM" => self.take_odd(at, message, 31, 36),
+            b"QK" => {
+                self.letters[at].0 = round(message);
+                self.take_odd(at, message, 56, 60)
+            }
+            kind => {
+                let condition = if kind == b"CC" { b'L' } else { b'R' };
+                for (_, quote) in self.makers.iter_mut().flatten() {
+                    quote.condition = condition;
+                }
+                0
+            }
+        }
+    }
+
+    /// The first cell of the name, else one that is free.
+    fn take_maker(&mut self, message: &[u8]) -> u8 {
+        let name = [message[56], message[57], message[58], message[59]];
+        let quote = round(message);
+        let empty = quote
+            .sides
+            .iter()
+            .all(|side| side.price == 0 && side.size == 0);
+        let has_name = |cell: &Option<([u8; 4], Quote)>| cell.is_some_and(|(of, _)| of == name);
+        let standing = self.makers.iter().position(has_name);
+        let free = self.makers.iter().position(Option::is_none);
+        let Some(cell) = standing.or(free) else {
+            return 49;
+        };
+        self.makers[cell] = (!empty).then_some((name, quote));
+        0
+    }
+
+    /// The odd part whose clear mark and items begin at these bytes.
+    fn take_odd(&mut self, letter: usize, message: &[u8], clear: usize, items: usize) -> u8 {
+        let (mark, bids, offers) = (message[clear], message[clear + 1], message[clear + 2]);
+        if !b" BSX".contains(&mark) {
+            return 60;
+        }
+        if bids > 4 || offers > 4 {
+            return 61;
+        }
+        let items = || message[items..].chunks_exact(12);
+        for item in items() {
+            if number(&item[..8]) == 0 {
+                return 62;
+            }
+            if number(&item[8..]) >= u64::from(self.lot) {
+                return 63;
+            }
+        }
+        let mut changed = self.letters[letter].1.clone();
+        for (side, marks) in [b"BX", b"SX"].into_iter().enumerate() {
+            if marks.contains(&mark) {
+                changed[side].clear();
+            }
+        }
+        for (i, item) in items().enumerate() {
+            let side = usize::from(i >= usize::from(bids));
+            let level = Shown {
+                price: number(&item[..8]),
+                size: number(&item[8..]) as u32,
+                time: number(&message[4..12]),
+            };
+            let levels = &mut changed[side];
+            levels.retain(|standing| standing.price != level.price);
+            if level.size > 0 {
+                levels.push(level);
+            }
+            if levels.len() > 4 {
+                return 64;
+            }
+            levels.sort_by_key(|level| Reverse(rank(side, level.price)));
+        }
+        self.letters[letter].1 = changed;
+        0
+    }
+
+    /// The six entries that follow.
+    pub fn entries(&self) -> [u8; 96] {
+        let mut entries = [0; 96];
+        for side in SIDES {
+            let makers = self.makers.iter().flatten();
+            let makers = makers.filter_map(|(name, quote)| counting(side, quote, *name));
+            let finra = best(side, makers);
+            let quotes = (b'A'..)
+                .zip(&self.letters)
+                .filter_map(|(letter, (quote, _))| {
+                    let counting = counting(side, quote, [letter, quote.condition, b' ', b' ']);
+                    counting.filter(|_| !matches!(letter, b'D' | b'S'))
+                });
+            // A maker's side counts under R only.
+            let d = finra.map(|(shown, _)| (shown, *b"DR  "));
+            let national = best(side, quotes.chain(d));
+            let inside = |level: &Shown| {
+                national.is_none_or(|(best, _)| rank(side, level.price) > rank(side, best.price))
+            };
+            let odd = (b'A'..)
+                .zip(&self.letters)
+                .flat_map(|(letter, (_, levels))| {
+                    let levels = levels[side].iter().filter(|level| inside(level));
+                    levels.map(move |level| (*level, [letter, b' ', b' ', b' ']))
+                });
+            let odd = best(side, odd.filter(|(_, name)| name[0] != b'S'));
+            for (at, entry) in [(side, national), (2 + side, finra), (4 + side, odd)] {
+                entries[16 * at..16 * at + 16].copy_from_slice(&bytes(entry));
+            }
+        }
+        entries
+    }
+}
+
+/// The quote of Q K or Q U.
+fn round(message: &[u8]) -> Quote {
+    let time = number(&message[4..12]);
+    let side = |at: usize| Shown {
+        price: number(&message[at..at + 8]),
+        size: number(&message[at + 8..at + 12]) as u32,
+        time,
+    };
+    Quote {
+        condition: message[31],
+        sides: [side(32), side(44)],
+    }
+}
+
+type Candidate = (Shown, [u8; 4]);
+
+fn counting(side: usize, quote: &Quote, name: [u8; 4]) -> Option<Candidate> {
+    let admits = match quote.condition {
+        b'A' | b'B' | b'H' | b'O' | b'R' | b'W' => true,
+        b'E' => side == 1,
+        b'F' => side == 0,
+        _ => false,
+    };
+    let shown = quote.sides[side];
+    (admits && shown.price > 0 && shown.size > 0).then_some((shown, name))
+}
+
+/// The better price, then larger size, earlier time, lower name.
+fn best(side: usize, candidates: impl Iterator<Item = Candidate>) -> Option<Candidate> {
+    candidates.max_by_key(|(shown, name)| {
+        let rank = rank(side, shown.price);
+        (rank, shown.size, Reverse(shown.time), Reverse(*name))
+    })
+}
+
+fn bytes(candidate: Option<Candidate>) -> [u8; 16] {
+    let Some((shown, name)) = candidate else {
+        return NONE;
+    };
+    let mut bytes = [0; 16];
+    bytes[..4].copy_from_slice(&name);
+    bytes[4..12].copy_from_slice(&shown.price.to_be_bytes());
+    bytes[12..].copy_from_slice(&shown.size.to_be_bytes());
+    bytes
+}

@@ -1,0 +1,294 @@
+//! What the wrapper adds: enums, sentences, decoded answers and publications, a book that owns its
+//! memory.
+
+use std::collections::HashSet;
+
+use quotebook::lent::{self, PUBLICATION_LEN};
+use quotebook::{Answer, Book, Code, Number, Price, Publication, Refusal};
+use second::build::{self, Odd, Round};
+use second::{generate, terms, Call};
+
+#[test]
+fn numbers_and_codes_are_those_of_document_01() {
+    let numbers: Vec<u8> = (0..=255)
+        .filter(|&byte| Number::try_from(byte).is_ok())
+        .collect();
+    let mut expected: Vec<u8> = (0..=12).collect();
+    expected.extend([20, 21, 30, 31, 32, 33, 34, 35, 70]);
+    assert_eq!(numbers, expected);
+    let codes: Vec<u8> = (0..=255)
+        .filter(|&byte| Code::try_from(byte).is_ok())
+        .collect();
+    let mut expected = vec![0];
+    expected.extend((40..=49).chain(60..=64));
+    assert_eq!(codes, expected);
+    assert_eq!(Number::try_from(13), Err(13));
+    for (byte, case) in numbers.iter().zip(Number::ALL) {
+        assert_eq!(
+            (u8::from(*case), Number::try_from(*byte)),
+            (*byte, Ok(*case))
+        );
+    }
+    assert_eq!(
+        u8::from(Number::SymbolUnknown),
+        terms::number::SYMBOL_UNKNOWN
+    );
+    assert_eq!(
+        u8::from(Code::SizeWithoutPrice),
+        terms::code::SIZE_WITHOUT_PRICE
+    );
+}
+
+#[test]
+fn each_has_a_sentence_of_its_own() {
+    let numbers = Number::ALL.iter().map(ToString::to_string);
+    let sentences: Vec<String> = numbers
+        .chain(Code::ALL.iter().map(ToString::to_string))
+        .collect();
+    for sentence in &sentences {
+        assert!(sentence.ends_with('.') && (10..100).contains(&sentence.len()));
+    }
+    // 10 and 45 say the same of a symbol.
+    let distinct: HashSet<&String> = sentences.iter().collect();
+    assert_eq!(distinct.len(), sentences.len() - 1);
+}
+
+#[test]
+fn refusals_say_why() {
+    let refusal = Book::new(65).unwrap_err();
+    assert_eq!(refusal.number, Number::Make);
+    let said = "A book has room for 1 to 64 symbols, in memory of exactly that length. (2)";
+    assert_eq!(refusal.to_string(), said);
+    assert!(Number::ALL
+        .iter()
+        .filter(|number| !number.is_refusal())
+        .eq(&[Number::Done, Number::Gap]));
+    assert!(Code::FifthLevel.refuses_odd_part() && !Code::MakersFull.refuses_odd_part());
+}
+
+#[test]
+fn lengths() {
+    assert_eq!(lent::book_len(1), Some(847 + 6054));
+    assert_eq!(lent::book_len(64), Some(847 + 64 * 6054));
+    assert_eq!([0, 65, 257, u32::MAX].map(lent::book_len), [None; 4]);
+    assert_eq!(Book::new(3).unwrap().as_bytes().len(), 847 + 3 * 6054);
+}
+
+#[test]
+fn prices_have_two_to_six_decimals() {
+    let shown = |price| Price(price).to_string();
+    assert_eq!(shown(10_020_000), "10.02");
+    assert_eq!(shown(10_000_000), "10.00");
+    assert_eq!(shown(1), "0.000001");
+    assert_eq!(shown(120_500), "0.1205");
+    assert_eq!(shown(u64::MAX), "18446744073709.551615");
+    assert_eq!(
+        format!("{:>8}|{:<8}|", Price(5_000_000), Price(5_000_000)),
+        "    5.00|5.00    |"
+    );
+}
+
+fn quote(sequence: u32, bid: (u64, u32), odd: &Odd) -> Vec<u8> {
+    let round = Round {
+        letter: b'N',
+        time: 7,
+        symbol: build::symbol("ZT"),
+        condition: b'R',
+        bid,
+        offer: (10_020_000, 2),
+    };
+    build::block(
+        sequence,
+        &[
+            build::round_lot(&round, odd),
+            build::header(b'Q', b'?', b'N', 7),
+        ],
+    )
+}
+
+fn book() -> Result<Book, Refusal> {
+    let mut book = Book::new(2)?;
+    book.add_symbol("ZT", 100)?;
+    book.open_line(5, b'N')?;
+    book.open_line(7, b'D')?;
+    book.start_day()?;
+    Ok(book)
+}
+
+#[test]
+fn a_block_is_answered_message_by_message() -> Result<(), Refusal> {
+    let mut book = book()?;
+    let odd = Odd {
+        clear: b' ',
+        bids: vec![(10_010_000, 40)],
+        offers: vec![],
+    };
+    let taken = book.take_block(5, &quote(3, (10_000_000, 3), &odd))?;
+    let report = taken.report;
+    assert_eq!(
+        (report.number, report.gap, report.expected, report.count),
+        (Number::Gap, 2, 5, 2)
+    );
+    assert_eq!((report.accepted, report.partly, report.rejected), (1, 0, 1));
+    let answers: Vec<Answer> = taken.answers().collect();
+    assert_eq!(answers.len(), report.messages());
+    let changes = answers[0].changes;
+    assert!(changes.national_bid() && changes.national_offer() && changes.odd_bid());
+    assert!(!changes.finra_bid() && !changes.finra_offer() && !changes.odd_offer());
+    assert_eq!(changes.bits(), 19);
+    assert_eq!(
+        answers[0].to_string(),
+        "0: The message was accepted. Changed: national bid, national offer, odd bid."
+    );
+    assert_eq!(
+        answers[1].to_string(),
+        "1: The category and type are unknown."
+    );
+    assert_eq!(answers[1].code, Code::UnknownType);
+    Ok(())
+}
+
+#[test]
+fn a_refused_block_tells_the_line_as_it_stands() -> Result<(), Refusal> {
+    let mut book = book()?;
+    book.take_block(5, &quote(1, (10_000_000, 3), &Odd::IDLE))?;
+    let refusal = book
+        .take_block(5, &quote(1, (10_000_000, 3), &Odd::IDLE))
+        .unwrap_err();
+    let expected = Refusal {
+        number: Number::Duplicate,
+        expected: 3,
+        count: 2,
+    };
+    assert_eq!(refusal, expected);
+    let refusal = book.take_block(6, &[]).unwrap_err();
+    let expected = Refusal {
+        number: Number::LineNotOpen,
+        expected: 0,
+        count: 0,
+    };
+    assert_eq!(refusal, expected);
+    Ok(())
+}
+
+#[test]
+fn a_publication_is_decoded() -> Result<(), Refusal> {
+    let mut book = book()?;
+    assert_eq!(book.read("ZT")?, Publication::default());
+    let odd = Odd {
+        clear: b' ',
+        bids: vec![(10_010_000, 40)],
+        offers: vec![],
+    };
+    book.take_block(5, &quote(1, (10_000_000, 3), &odd))?;
+    let round = Round {
+        letter: b'D',
+        time: 7,
+        symbol: build::symbol("ZT"),
+        condition: b'R',
+        bid: (9_990_000, 1),
+        offer: (10_015_000, 9),
+    };
+    let maker = build::maker_quote(&round, build::maker("AB"));
+    book.take_block(7, &build::block(1, &[maker]))?;
+    let publication = book.read("ZT")?;
+    let bid = publication.national_bid.expect("a national bid");
+    assert_eq!(
+        (bid.condition, bid.price, bid.size),
+        (Some(b'R'), Price(10_000_000), 3)
+    );
+    assert!(bid.name == "N" && publication.finra_bid.is_some_and(|bid| bid.name == "AB"));
+    let shown = "national bid   N R 10.00 x 3\n\
+                 national offer D R 10.015 x 9\n\
+                 FINRA bid      AB 9.99 x 1\n\
+                 FINRA offer    AB 10.015 x 9\n\
+                 odd bid        N 10.01 x 40\n\
+                 odd offer      none\n";
+    assert_eq!(publication.to_string(), shown);
+    Ok(())
+}
+
+#[test]
+fn symbols_are_filled_up() -> Result<(), Refusal> {
+    let mut book = book()?;
+    assert_eq!(
+        book.add_symbol(build::symbol("ZT"), 100)
+            .unwrap_err()
+            .number,
+        Number::SymbolListed
+    );
+    for wrong in ["", " ", "zt", "Z T", "ABCDEFGHIJKL"] {
+        let refusal = book.add_symbol(wrong, 100).unwrap_err();
+        assert_eq!(refusal.number, Number::SymbolMalformed);
+        assert_eq!(book.read(wrong).unwrap_err().number, Number::SymbolUnknown);
+    }
+    book.add_symbol("ABCDEFGHIJK", 1)?;
+    assert!(book.read(b"ABCDEFGHIJK").is_ok());
+    Ok(())
+}
+
+/// The methods of a book, and the same calls on lent memory: equal answers, and equal bytes after
+/// every call.
+#[test]
+fn a_book_and_lent_memory_agree() {
+    for seed in 0..200 {
+        let list = generate::list(seed, 200);
+        let mut book = Book::new(list.n).expect("n is 1 to 64");
+        let mut memory = book.as_bytes().to_vec();
+        for call in &list.calls {
+            let (method, lent) = match call {
+                Call::Make { n } => (book.make(*n), lent::make(&mut memory, *n)),
+                Call::AddSymbol { symbol, round_lot } => {
+                    let filled = filled_up(symbol);
+                    let lent = lent::add_symbol(&mut memory, &filled, *round_lot);
+                    (book.add_symbol(symbol, *round_lot), lent)
+                }
+                Call::OpenLine { line, letter } => {
+                    let lent = lent::open_line(&mut memory, *line, *letter);
+                    (book.open_line(*line, *letter), lent)
+                }
+                Call::StartDay => (book.start_day(), lent::start_day(&mut memory)),
+                Call::EndDay => (book.end_day(), lent::end_day(&mut memory)),
+                Call::TakeBlock { line, block, .. } => {
+                    let mut answer = [0; 180];
+                    let report = lent::take_block(&mut memory, *line, block, &mut answer);
+                    let taken = book.take_block(*line, block);
+                    if let Ok(taken) = &taken {
+                        assert_eq!(taken.report, report);
+                        let bytes = answer.chunks_exact(4).take(report.messages());
+                        let answers =
+                            bytes.map(|answer| Answer::from_bytes(answer.try_into().unwrap()));
+                        assert!(taken.answers().eq(answers));
+                    }
+                    if let Err(refusal) = taken {
+                        assert_eq!(
+                            (refusal.expected, refusal.count),
+                            (report.expected, report.count)
+                        );
+                    }
+                    (taken.map(|_| ()), report.number)
+                }
+                Call::Read { symbol, .. } => {
+                    let mut publication = [0; PUBLICATION_LEN];
+                    let lent = lent::read(&memory, &filled_up(symbol), &mut publication);
+                    let read = book.read(symbol);
+                    if let Ok(read) = read {
+                        assert_eq!(read, Publication::from_bytes(&publication));
+                    }
+                    (read.map(|_| ()), lent)
+                }
+            };
+            match method {
+                Ok(()) => assert!(!lent.is_refusal()),
+                Err(refusal) => assert_eq!(refusal.number, lent),
+            }
+            assert_eq!(book.as_bytes(), memory);
+        }
+    }
+}
+
+fn filled_up(symbol: &[u8]) -> Vec<u8> {
+    let mut filled = symbol.to_vec();
+    filled.resize(symbol.len().max(11), b' ');
+    filled
+}

@@ -1,0 +1,16 @@
+//! Hand-written cases with their answers. Each runs on every one of `BOOKS`: here the engine, the
+//! incremental engine and the reviewer; the tests of `quotebook` run the same files on the proved
+//! library.
+
+#[path = "../common/mod.rs"]
+mod common;
+mod desk;
+
+mod accident;
+mod cases;
+mod entries;
+mod line;
+mod messages;
+mod operator;
+
+use common::BOOKS;

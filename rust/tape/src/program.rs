@@ -1,0 +1,173 @@
+//! The tape program, written from document 01 ("Tape program") over the second engine.
+
+use std::fmt::{self, Display, Formatter};
+
+use second::terms::{number, ANSWER_LEN, ENTRY_LEN, PUBLICATION_LEN, SYMBOL_LEN};
+use second::{Engine, QuoteBook, Report};
+
+/// What the program prints when it reads these bytes: blocks and their messages as they come, and
+/// each symbol once, last.
+pub fn output(tape: &[u8]) -> String {
+    let mut printed = String::new();
+    let mut input = Input(tape);
+    if let Err(stop) = play(&mut input, &mut printed) {
+        print(&mut printed, stop);
+    }
+    printed
+}
+
+/// Why the program stops before it prints the symbols.
+enum Stop {
+    /// The setup was refused with this number.
+    Setup(u8),
+    /// The input ends in the middle of something.
+    Cut,
+}
+
+impl Display for Stop {
+    fn fmt(&self, f: &mut Formatter) -> fmt::Result {
+        match self {
+            Stop::Setup(number) => write!(f, "setup {number}"),
+            Stop::Cut => write!(f, "cut"),
+        }
+    }
+}
+
+/// What is left of the input.
+struct Input<'a>(&'a [u8]);
+
+impl<'a> Input<'a> {
+    fn take(&mut self, len: usize) -> Result<&'a [u8], Stop> {
+        let (taken, rest) = self.0.split_at_checked(len).ok_or(Stop::Cut)?;
+        self.0 = rest;
+        Ok(taken)
+    }
+
+    fn byte(&mut self) -> Result<u8, Stop> {
+        Ok(self.take(1)?[0])
+    }
+
+    /// A length of two bytes.
+    fn length(&mut self) -> Result<usize, Stop> {
+        Ok(usize::from(self.byte()?) << 8 | usize::from(self.byte()?))
+    }
+}
+
+fn print(printed: &mut String, line: impl Display) {
+    printed.push_str(&format!("{line}\n"));
+}
+
+/// Symbols on a tape.
+const SYMBOLS_MAX: u8 = 8;
+
+fn play(input: &mut Input, printed: &mut String) -> Result<(), Stop> {
+    let count = input.byte()?;
+    if !(1..=SYMBOLS_MAX).contains(&count) {
+        return Err(Stop::Setup(number::MAKE));
+    }
+    let mut book = Engine::fresh(u32::from(count)).ok_or(Stop::Setup(number::MAKE))?;
+    let symbols = add_symbols(input, &mut book, count)?;
+    open_lines(input, &mut book)?;
+    done(book.start_day())?;
+    while !input.0.is_empty() {
+        play_record(input, &mut book, printed)?;
+    }
+    for symbol in symbols {
+        print_symbol(&book, symbol, printed);
+    }
+    Ok(())
+}
+
+fn add_symbols<'a>(
+    input: &mut Input<'a>,
+    book: &mut Engine,
+    count: u8,
+) -> Result<Vec<&'a [u8]>, Stop> {
+    let mut symbols = Vec::new();
+    for _ in 0..count {
+        let symbol = input.take(SYMBOL_LEN)?;
+        let round_lot = input.byte()?;
+        done(book.add_symbol(symbol, u32::from(round_lot)))?;
+        symbols.push(symbol);
+    }
+    Ok(symbols)
+}
+
+fn open_lines(input: &mut Input, book: &mut Engine) -> Result<(), Stop> {
+    for _ in 0..input.byte()? {
+        let line = input.byte()?;
+        let letter = input.byte()?;
+        done(book.open_line(u32::from(line), letter))?;
+    }
+    Ok(())
+}
+
+fn done(number: u8) -> Result<(), Stop> {
+    match number {
+        number::DONE => Ok(()),
+        _ => Err(Stop::Setup(number)),
+    }
+}
+
+/// A record that is there whole goes to the book; `block` and a `msg` for each message.
+fn play_record(input: &mut Input, book: &mut Engine, printed: &mut String) -> Result<(), Stop> {
+    let line = input.byte()?;
+    let len = input.length()?;
+    let block = input.take(len)?;
+    let mut answer = [0; ANSWER_LEN];
+    let report = book.take_block(u32::from(line), block, &mut answer);
+    let Report {
+        number,
+        gap,
+        expected,
+        ..
+    } = report;
+    print(
+        printed,
+        format_args!("block {line} {number} {gap} {expected}"),
+    );
+    let messages = report.accepted + report.partly + report.rejected;
+    for told in answer.chunks_exact(4).take(messages as usize) {
+        let [index, code, flags] = [told[0], told[1], told[2]];
+        print(printed, format_args!("msg {index} {code} {flags}"));
+    }
+    Ok(())
+}
+
+/// What the entries are called, in the order of the publication.
+const ENTRIES: [&str; 6] = ["NB", "NO", "FB", "FO", "OB", "OO"];
+
+/// `sym` and the six entries of a symbol.
+fn print_symbol(book: &Engine, symbol: &[u8], printed: &mut String) {
+    let mut publication = [0; PUBLICATION_LEN];
+    book.read(symbol, &mut publication);
+    print(printed, format_args!("sym {}", text(symbol)));
+    for (kind, entry) in ENTRIES.iter().zip(publication.chunks_exact(ENTRY_LEN)) {
+        print(printed, format_args!("{kind} {}", fields(kind, entry)));
+    }
+}
+
+/// Name, condition, price and size of an entry.
+fn fields(kind: &str, entry: &[u8]) -> String {
+    let name = &entry[..4];
+    let (name, condition) = match kind {
+        _ if name == b"    " => return "- - 0 0".to_string(),
+        "NB" | "NO" => (text(&name[..1]), text(&name[1..2])),
+        "FB" | "FO" => (text(name), "R".to_string()),
+        _ => (text(name), "-".to_string()),
+    };
+    let number = |bytes: &[u8]| {
+        bytes
+            .iter()
+            .fold(0, |number, &byte| number << 8 | u64::from(byte))
+    };
+    let (price, size) = (number(&entry[4..12]), number(&entry[12..]));
+    format!("{name} {condition} {price} {size}")
+}
+
+/// Bytes without their trailing spaces. Names hold printable bytes only.
+fn text(bytes: &[u8]) -> String {
+    String::from_utf8_lossy(bytes)
+        .trim_end_matches(' ')
+        .to_string()
+}
