@@ -6,7 +6,7 @@ use mathlib.Core.Bool.{Bool, true, false, _&&_, cond}
 use mathlib.Core.List.{List, [], _∷_, map}
 use mathlib.Core.Option.{Option, none, some}
 use native.Mathlib.Omega.{arith}
-use native.Mathlib.Nat.{lt-of-lt-of-le, pow-le-pow-right, min-le-left}
+use native.Mathlib.Nat.{le-of-lt, lt-of-lt-of-le, pow-le-pow-right, min-le-left}
 use lib.Dec.{eqb, ltb}
 use lib.ListN.{length, take, drop, length-take}
 use borrow.Author.Tests.{ltb-true, ltb-false}
@@ -32,7 +32,7 @@ use Rattle.entries.specs.declared.Tops.{Tops}
 use Rattle.entries.specs.declared.BestEntries.{BestEntries}
 use Rattle.entries.specs.Entries.{Entries, letters, asD, makerCandidate, finraBest, letterCandidate, nationalBest, oddCandidate, letterLevels, oddBest, entriesBy, entriesOf}
 use Rattle.entries.specs.Page.{slotAt, cellAt, quotesIn, levelsFor, makerIn, makersIn, same, occupied, pageEntries}
-use Rattle.entries.specs.Walk.{inQuote, inLevels, makerAt, quotedAt, firstOf, firstAt, floorOf, reachingAt, noTops, topsFrom, bothReach, allReach, bestsOf}
+use Rattle.entries.specs.Walk.{inQuote, inLevels, makerAt, quotedAt, firstOf, firstAt, floorOf, reachingAt, past, noTops, topsFrom, bothReach, allReach, lowerOf, loweredTo, bestsOf}
 use Rattle.entries.proofs.ReadLaws.{level-at, quote-side, maker-at, first-level, cell-live}
 use Rattle.entries.proofs.NationalLaws.{d-last, choose-d}
 use Rattle.entries.proofs.OddLaws.{collect-bind, page-falls, far, odd-once, beyond-is}
@@ -215,7 +215,7 @@ module _ (p : List ℕ) (b : Bytes p) (s : Side) where
 
   -- one side, its FINRA and national best reaching their floors
   module _ (h g : ℕ) (f q r n o : Candidate) (ef : f ≡ reaching s h (orNone (best (better s) (collect (makerAt p s) (range 16 0))))) (eq : q ≡ reaching s g (orNone quoted))
-      (er : r ≡ reaching s g (orNone (best (better s) (collect (firstAt p s) (range 26 65))))) (en : n ≡ choose s q (asD f)) (eo : o ≡ beyondOf s n r)
+      (er : r ≡ reaching s (g + 1) (orNone (best (better s) (collect (firstAt p s) (range 26 65))))) (en : n ≡ choose s q (asD f)) (eo : o ≡ beyondOf s n r)
       (kf : h ≤ rankOf s (f .price)) (kn : g ≤ rankOf s (n .price)) where
     finra-side : f ≡ orNone (fb p b s)
     finra-side = reach-best s h f (orNone (best (better s) (collect (makerAt p s) (range 16 0)))) ef kf ∙ ap orNone (finra-is p b s)
@@ -236,12 +236,16 @@ module _ (p : List ℕ) (b : Bytes p) (s : Side) where
     odd-side =
         eo
         ∙ ap (beyondOf s n) er
-        ∙ beyond-reach s g n (orNone (best (better s) (collect (firstAt p s) (range 26 65)))) kn
+        ∙ beyond-reach s (g + 1) n (orNone (best (better s) (collect (firstAt p s) (range 26 65)))) (omega (arith, kn))
         ∙ ap (λ (c : Candidate). beyondOf s c (orNone (best (better s) (collect (firstAt p s) (range 26 65))))) national-side
         ∙ odd-is p b s (nb p b s) 26 (national-best-counts p b s)
 
     side-walked : (f ≡ orNone (fb p b s)) × (n ≡ orNone (nb p b s)) × (o ≡ orNone (oddBest (levelsFor p) (nb p b) s))
     side-walked = (finra-side, national-side, odd-side)
+
+past-is : (s : Side) (g : Ranks) → floorOf s (past g) ≡ floorOf s g + 1
+past-is Bid g = refl
+past-is Offer g = refl
 
 -- ---- the whole
 
@@ -276,7 +280,7 @@ module _ (p : List ℕ) (b : Bytes p) (g : Floors) (f : Sides) (t : Tops) (db da
   unfolding topsFrom
   quotes-from = ap (λ (t : Tops). t .national) et
 
-  firsts-from : t .odd ≡ sidesFrom (reachingAt (g .national) (firstAt p)) 65 26 noSides
+  firsts-from : t .odd ≡ sidesFrom (reachingAt (past (g .national)) (firstAt p)) 65 26 noSides
   unfolding topsFrom
   firsts-from = ap (λ (t : Tops). t .odd) et
 
@@ -284,9 +288,9 @@ module _ (p : List ℕ) (b : Bytes p) (g : Floors) (f : Sides) (t : Tops) (db da
   with-d Bid = emb ∙ ap (choose Bid (t .national .bid)) edb
   with-d Offer = ema ∙ ap (choose Offer (t .national .offer)) eda
 
-  past : (s : Side) → ofSide s (six .odd) ≡ beyondOf s (ofSide s (six .national)) (ofSide s (t .odd))
-  past Bid = eob
-  past Offer = eoa
+  beyond-d : (s : Side) → ofSide s (six .odd) ≡ beyondOf s (ofSide s (six .national)) (ofSide s (t .odd))
+  beyond-d Bid = eob
+  beyond-d Offer = eoa
 
   pub walked : allReach g six ≡ true → six ≡ bestsOf (pageEntries p)
   unfolding bestsOf pageEntries entriesOf entriesBy
@@ -303,21 +307,41 @@ module _ (p : List ℕ) (b : Bytes p) (g : Floors) (f : Sides) (t : Tops) (db da
           side-walked p b s (floorOf s (g .finra)) (floorOf s (g .national)) (ofSide s f) (ofSide s (t .national)) (ofSide s (t .odd)) (ofSide s (six .national)) (ofSide s (six .odd))
           (from-floor (makerAt p) (maker-counts p b) (g .finra) f 0 16 ef s)
           (from-floor (quotedAt p) (quoted-counts p b) (g .national) (t .national) 65 26 quotes-from s)
-          (from-floor (firstAt p) (first-counts p b) (g .national) (t .odd) 65 26 firsts-from s)
-          (with-d s) (past s) (both-reach (g .finra) f (k .0) s) (both-reach (g .national) (six .national) (k .1) s)
+          (from-floor (firstAt p) (first-counts p b) (past (g .national)) (t .odd) 65 26 firsts-from s
+          ∙ ap (λ (h : ℕ). reaching s h (orNone (best (better s) (collect (firstAt p s) (range 26 65))))) (past-is s (g .national)))
+          (with-d s) (beyond-d s) (both-reach (g .finra) f (k .0) s) (both-reach (g .national) (six .national) (k .1) s)
 
--- floors that are not reached are not all 0
-pub not-reached : (g : Floors) (e : BestEntries) → allReach g e ≡ false → 0 < g .national .bid + g .national .offer + (g .finra .bid + g .finra .offer)
-unfolding allReach bothReach
-not-reached g e =
-    go (ltb (rankOf Bid (e .finra .bid .price)) (g .finra .bid)) refl (ltb (rankOf Offer (e .finra .offer .price)) (g .finra .offer)) refl
-    (ltb (rankOf Bid (e .national .bid .price)) (g .national .bid)) refl (ltb (rankOf Offer (e .national .offer .price)) (g .national .offer)) refl
+-- ---- floors that are not reached fall
+
+abbrev pub height : Floors → ℕ
+height g = g .national .bid + g .national .offer + (g .finra .bid + g .finra .offer)
+
+lower-le : (g r : ℕ) → lowerOf g r ≤ g
+lower-le g r = go (ltb r g) refl
   where
-    go : (t : Bool) → ltb (rankOf Bid (e .finra .bid .price)) (g .finra .bid) ≡ t → (u : Bool) → ltb (rankOf Offer (e .finra .offer .price)) (g .finra .offer) ≡ u
-        → (v : Bool) → ltb (rankOf Bid (e .national .bid .price)) (g .national .bid) ≡ v → (w : Bool) → ltb (rankOf Offer (e .national .offer .price)) (g .national .offer) ≡ w
-        → cond (cond t false (cond u false true)) (cond v false (cond w false true)) false ≡ false → 0 < g .national .bid + g .national .offer + (g .finra .bid + g .finra .offer)
-    go true h u i v j w k z = omega (arith, ltb-true (rankOf Bid (e .finra .bid .price)) (g .finra .bid) h)
-    go false h true i v j w k z = omega (arith, ltb-true (rankOf Offer (e .finra .offer .price)) (g .finra .offer) i)
-    go false h false i true j w k z = omega (arith, ltb-true (rankOf Bid (e .national .bid .price)) (g .national .bid) j)
-    go false h false i false j true k z = omega (arith, ltb-true (rankOf Offer (e .national .offer .price)) (g .national .offer) k)
-    go false h false i false j false k z = clash z
+    go : (t : Bool) → ltb r g ≡ t → cond t r g ≤ g
+    go true e = le-of-lt (ltb-true r g e)
+    go false e = omega arith
+
+lower-lt : (g r : ℕ) → ltb r g ≡ true → lowerOf g r < g
+lower-lt g r e = rw e (ltb-true r g e)
+
+-- a and b found for FINRA, c and d for the letters
+module _ (g : Floors) (a b c d : ℕ) where
+  falls : (t : Bool) → ltb a (g .finra .bid) ≡ t → (u : Bool) → ltb b (g .finra .offer) ≡ u → (v : Bool) → ltb c (g .national .bid) ≡ v → (w : Bool) → ltb d (g .national .offer) ≡ w
+      → cond (cond t false (cond u false true)) (cond v false (cond w false true)) false ≡ false
+      → lowerOf (g .national .bid) c + lowerOf (g .national .offer) d + (lowerOf (g .finra .bid) a + lowerOf (g .finra .offer) b) < height g
+  falls true h u i v j w k z = omega (arith, lower-lt (g .finra .bid) a h, lower-le (g .finra .offer) b, lower-le (g .national .bid) c, lower-le (g .national .offer) d)
+  falls false h true i v j w k z = omega (arith, lower-le (g .finra .bid) a, lower-lt (g .finra .offer) b i, lower-le (g .national .bid) c, lower-le (g .national .offer) d)
+  falls false h false i true j w k z = omega (arith, lower-le (g .finra .bid) a, lower-le (g .finra .offer) b, lower-lt (g .national .bid) c j, lower-le (g .national .offer) d)
+  falls false h false i false j true k z = omega (arith, lower-le (g .finra .bid) a, lower-le (g .finra .offer) b, lower-le (g .national .bid) c, lower-lt (g .national .offer) d k)
+  falls false h false i false j false k z = clash z
+
+pub floors-fall : (g : Floors) (e : BestEntries) (n f : Ranks) → n ≡ loweredTo (e .national) (g .national) → f ≡ loweredTo (e .finra) (g .finra) → allReach g e ≡ false
+    → height (record { national = n; finra = f }) < height g
+unfolding allReach bothReach loweredTo
+floors-fall g e n f en ef z =
+    rw (en, ef)
+    (falls g (rankOf Bid (e .finra .bid .price)) (rankOf Offer (e .finra .offer .price)) (rankOf Bid (e .national .bid .price)) (rankOf Offer (e .national .offer .price))
+    (ltb (rankOf Bid (e .finra .bid .price)) (g .finra .bid)) refl (ltb (rankOf Offer (e .finra .offer .price)) (g .finra .offer)) refl
+    (ltb (rankOf Bid (e .national .bid .price)) (g .national .bid)) refl (ltb (rankOf Offer (e .national .offer .price)) (g .national .offer)) refl z)

@@ -5,5 +5,6 @@ pub mod NationalLaws
 pub mod EntriesLaws
 pub mod FinraLaws
 pub mod PublicationLaws
+pub mod StandingLaws
 pub mod FrameLaws
 pub mod BlankLaws

@@ -30,7 +30,7 @@ use Rattle.entries.specs.declared.Tops.{Tops}
 use Rattle.entries.specs.declared.BestEntries.{BestEntries}
 use Rattle.entries.specs.Entries.{makerCandidate, letterCandidate, letterLevels}
 use Rattle.entries.specs.Page.{slotAt, cellAt, quotesIn, makerIn}
-use Rattle.entries.specs.Walk.{inQuote, inLevels, makerAt, quotedAt, firstAt, reachingAt, stepTops, topsFrom, bothReach, allReach}
+use Rattle.entries.specs.Walk.{inQuote, inLevels, makerAt, quotedAt, firstAt, reachingAt, past, stepTops, topsFrom, bothReach, allReach, lowerOf, loweredTo}
 use Rattle.entries.proofs.ReadLaws.{level-at, quote-side, quote-condition, maker-at, quotes-at, first-at}
 
 -- ---- a level
@@ -232,16 +232,16 @@ module _ (p : List ℕ) (l : ℕ) (h : 65 ≤ l) (k : l < 91) (s : Side) (g : �
       go true e = rw (first-none (eqb-true l 83 e)) tt
       go false e = rw (first-some (eqb-false l 83 e)) live-priced
 
-  pub first-processor : l ≡ 83 → b ≡ choose s b (reaching s g (orNone (firstAt p s l)))
-  first-processor e = nothing s g b (firstAt p s l) (first-none e)
+  pub first-processor : l ≡ 83 → b ≡ choose s b (reaching s (g + 1) (orNone (firstAt p s l)))
+  first-processor e = nothing s (g + 1) b (firstAt p s l) (first-none e)
 
   module _ (v r : ℕ) (ev : v ≡ field p (a + 41 + o) 8) (er : r ≡ rankOf s v) where
-    pub first-passed : r < g → b ≡ choose s b (reaching s g (orNone (firstAt p s l)))
-    first-passed = passed s g (field p (a + 41 + o) 8) b (firstAt p s l) first-priced v r ev er
+    pub first-passed : r ≤ g → b ≡ choose s b (reaching s (g + 1) (orNone (firstAt p s l)))
+    first-passed m = passed s (g + 1) (field p (a + 41 + o) 8) b (firstAt p s l) first-priced v r ev er (omega arith)
 
-    pub first-read : (x : Candidate) → g ≤ r → (l ≡ 83 → ⊥) → x ≡ choose s b level → x ≡ choose s b (reaching s g (orNone (firstAt p s l)))
+    pub first-read : (x : Candidate) → g < r → (l ≡ 83 → ⊥) → x ≡ choose s b level → x ≡ choose s b (reaching s (g + 1) (orNone (firstAt p s l)))
     first-read x m n ex =
-        looked s g (field p (a + 41 + o) 8) b (firstAt p s l) first-priced v r ev er x m (rw (first-some n) (ex ∙ choose-live s b level))
+        looked s (g + 1) (field p (a + 41 + o) 8) b (firstAt p s l) first-priced v r ev er x (omega arith) (rw (first-some n) (ex ∙ choose-live s b level))
 
 -- ---- both sides, and all letters
 
@@ -253,11 +253,11 @@ sides-read f k t rb ro eb eo = λ i. record { bid = eb i; offer = eo i }
 module _ (p : List ℕ) (g : Ranks) where
   pub tops-read : (l : ℕ) (t : Tops) (nb na ob oa : Candidate)
       → nb ≡ choose Bid (t .national .bid) (reachingAt g (quotedAt p) Bid l) → na ≡ choose Offer (t .national .offer) (reachingAt g (quotedAt p) Offer l)
-      → ob ≡ choose Bid (t .odd .bid) (reachingAt g (firstAt p) Bid l) → oa ≡ choose Offer (t .odd .offer) (reachingAt g (firstAt p) Offer l)
+      → ob ≡ choose Bid (t .odd .bid) (reachingAt (past g) (firstAt p) Bid l) → oa ≡ choose Offer (t .odd .offer) (reachingAt (past g) (firstAt p) Offer l)
       → _≡_ {A = Tops} (record { national = record { bid = nb; offer = na }; odd = record { bid = ob; offer = oa } }) (stepTops p g l t)
   unfolding stepTops
   tops-read l t nb na ob oa enb ena eob eoa =
-      λ i. record { national = sides-read (reachingAt g (quotedAt p)) l (t .national) nb na enb ena i; odd = sides-read (reachingAt g (firstAt p)) l (t .odd) ob oa eob eoa i }
+      λ i. record { national = sides-read (reachingAt g (quotedAt p)) l (t .national) nb na enb ena i; odd = sides-read (reachingAt (past g) (firstAt p)) l (t .odd) ob oa eob eoa i }
 
   module _ (n : ℕ) (w : Tops) where
     tops-step : (i : ℕ) (t : Tops) → i < n → topsFrom p g i (n - i) t ≡ topsFrom p g (i + 1) (n - (i + 1)) (stepTops p g i t)
@@ -297,3 +297,14 @@ module _ (g : Floors) (e : BestEntries) (t : Bool) (et : t ≡ bothReach (g .fin
   pub finra-under : t ≡ false → false ≡ allReach g e
   unfolding allReach
   finra-under h = rw (← et, h)
+
+pub lower-found : (g r : ℕ) → r < g → r ≡ lowerOf g r
+lower-found g r h = rw (lt-ltb r g h)
+
+pub lower-same : (g r : ℕ) → g ≤ r → g ≡ lowerOf g r
+lower-same g r h = rw (le-ltb r g h)
+
+pub lowered-by : (g : Ranks) (t : Sides) (x y b o : ℕ) → x ≡ rankOf Bid (t .bid .price) → y ≡ rankOf Offer (t .offer .price) → b ≡ lowerOf (g .bid) x → o ≡ lowerOf (g .offer) y
+    → _≡_ {A = Ranks} (record { bid = b; offer = o }) (loweredTo t g)
+unfolding loweredTo
+lowered-by g t x y b o ex ey eb eo = λ i. record { bid = (eb ∙ ap (lowerOf (g .bid)) ex) i; offer = (eo ∙ ap (lowerOf (g .offer)) ey) i }

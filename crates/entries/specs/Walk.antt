@@ -1,6 +1,6 @@
 -- What the walk looks at, one candidate after another, in the words of Entries and Page: for the contracts of its steps.
 -- Assumes nothing.
-use Prim.Native.Nat.{ℕ}
+use Prim.Native.Nat.{ℕ, _+_}
 use mathlib.Core.List.{List, [], _∷_}
 use mathlib.Core.Option.{Option, none, some}
 use mathlib.Core.Bool.{Bool, true, false, cond}
@@ -55,15 +55,19 @@ floorOf Offer g = g .offer
 abbrev pub reachingAt : Ranks → (Side → ℕ → Option Candidate) → Side → ℕ → Candidate
 reachingAt g f s k = reaching s (floorOf s g) (orNone (f s k))
 
+-- beyond a floor
+abbrev pub past : Ranks → Ranks
+past g = record { bid = g .bid + 1; offer = g .offer + 1 }
+
 abbrev pub noTops : Tops
 noTops = record { national = noSides; odd = noSides }
 
 -- one letter more, and the k letters from letter l on
 unfoldable pub stepTops : List ℕ → Ranks → ℕ → Tops → Tops
-stepTops p g l t = record { national = stepSides (reachingAt g (quotedAt p)) l (t .national); odd = stepSides (reachingAt g (firstAt p)) l (t .odd) }
+stepTops p g l t = record { national = stepSides (reachingAt g (quotedAt p)) l (t .national); odd = stepSides (reachingAt (past g) (firstAt p)) l (t .odd) }
 
 unfoldable pub topsFrom : List ℕ → Ranks → ℕ → ℕ → Tops → Tops
-topsFrom p g l k t = record { national = sidesFrom (reachingAt g (quotedAt p)) l k (t .national); odd = sidesFrom (reachingAt g (firstAt p)) l k (t .odd) }
+topsFrom p g l k t = record { national = sidesFrom (reachingAt g (quotedAt p)) l k (t .national); odd = sidesFrom (reachingAt (past g) (firstAt p)) l k (t .odd) }
 
 -- whether both sides reach their floors; and the national and the FINRA ones
 unfoldable pub bothReach : Ranks → Sides → Bool
@@ -71,6 +75,13 @@ bothReach g t = cond (ltb (rankOf Bid (t .bid .price)) (g .bid)) false (cond (lt
 
 unfoldable pub allReach : Floors → BestEntries → Bool
 allReach g e = cond (bothReach (g .finra) (e .finra)) (bothReach (g .national) (e .national)) false
+
+-- floors, those that are not reached lowered to what was found
+abbrev pub lowerOf : ℕ → ℕ → ℕ
+lowerOf g r = cond (ltb r g) r g
+
+unfoldable pub loweredTo : Sides → Ranks → Ranks
+loweredTo t g = record { bid = lowerOf (g .bid) (rankOf Bid (t .bid .price)); offer = lowerOf (g .offer) (rankOf Offer (t .offer .price)) }
 
 -- the six entries, none as price 0
 unfoldable pub bestsOf : Entries → BestEntries

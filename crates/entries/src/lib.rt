@@ -11,7 +11,7 @@ ghost use Rattle.quote.specs.Quote.{levelIn, quoteIn, levelCandidate, candidate
 ghost use Rattle.entries.specs.Entries.{asD};
 ghost use Rattle.entries.specs.Publication.{entryBytes, nationalName, finraName, oddName, publication, changeFlags, noEntries};
 ghost use Rattle.entries.specs.Page.{slotAt, cellAt, pageEntries, refreshed};
-ghost use Rattle.entries.specs.Walk.{inQuote, inLevels, makerAt, quotedAt, firstAt, reachingAt, noTops, stepTops, topsFrom, bothReach, allReach, bestsOf};
+ghost use Rattle.entries.specs.Walk.{inQuote, inLevels, makerAt, quotedAt, firstAt, reachingAt, noTops, stepTops, topsFrom, bothReach, allReach, lowerOf, loweredTo, bestsOf};
 ghost use Rattle.entries.specs.Entry.{priced, entriesIn, bytesOf, publishedBytes, holds};
 use levels::Levels;
 use quote::Quote;
@@ -79,21 +79,10 @@ pub struct Ranks {
     pub offer: u64,
 }
 
-impl Ranks {
-    pub const NONE: Ranks = Ranks { bid: 0, offer: 0 };
-}
-
-/// The floors of a walk: a price that ranks lower is passed over. Odd lots go by the national ones.
+/// The floors of a walk: a price that ranks lower is passed over, and an odd lot's that is not beyond the national one.
 pub struct Floors {
     pub national: Ranks,
     pub finra: Ranks,
-}
-
-impl Floors {
-    pub const NONE: Floors = Floors {
-        national: Ranks::NONE,
-        finra: Ranks::NONE,
-    };
 }
 
 /// The best of the letters so far: their quotes and their odd-lot levels.
@@ -257,10 +246,10 @@ fn with_maker_side(page: &[u8], k: usize, side: Side, floor: u64, best: Candidat
 {
     let at = cell_at(k);
     let quote = at + Cell::QUOTE;
-    if ranking::rank(side, field::get64(page, quote + in_quote(side))) < floor {
-        return best;
-    }
     if field::get8(page, quote) == b'R' {
+        if ranking::rank(side, field::get64(page, quote + in_quote(side))) < floor {
+            return best;
+        }
         return with_quote(page, quote, side, field::get32(page, at), best);
     }
     best
@@ -311,14 +300,14 @@ fn with_letter_side(
     }
 }
 
-// A side of one letter's odd-lot levels more, if it reaches the floor. They are read best first, so the first one is enough.
+// A side of one letter's odd-lot levels more, if it is beyond the floor. They are read best first, so the first one is enough.
 fn with_first(page: &[u8], letter: usize, side: Side, floor: u64, best: Candidate) -> Candidate
     requires { ⌜ length (now page) ≡ 6054 ⌝ }
     requires { ⌜ (65 ≤ letter) × (letter < 91) ⌝ }
-    ensures { λ r. ⌜ r ≡ choose side best (reaching side floor (orNone (firstAt (now (page .entry)) side letter))) ⌝ }
+    ensures { λ r. ⌜ r ≡ choose side best (reaching side (floor + 1) (orNone (firstAt (now (page .entry)) side letter))) ⌝ }
 {
     let at = slot_at(letter) + Slot::LEVELS + in_levels(side);
-    if ranking::rank(side, field::get64(page, at)) < floor {
+    if ranking::rank(side, field::get64(page, at)) <= floor {
         return best;
     }
     let better = with_level(page, at, side, letter as u32, b' ', best);
@@ -348,7 +337,7 @@ fn with_letter(page: &[u8], letter: usize, floors: Ranks, tops: Tops) -> Tops
     }
 }
 
-// The best of the letters but D that reach the floors.
+// The best of the letters but D, of quotes that reach the floors and levels beyond them.
 fn walk_letters(page: &[u8], floors: Ranks) -> Tops
     requires { ⌜ length (now page) ≡ 6054 ⌝ }
     ensures { λ r. ⌜ r ≡ topsFrom (now (page .entry)) floors 65 26 noTops ⌝ }
@@ -423,7 +412,25 @@ fn all_reach(floors: Floors, best: BestEntries) -> bool
     false
 }
 
-// The ranks of the two entries that stand in the page at `at`.
+fn lower(floor: u64, rank: u64) -> u64
+    ensures { λ r. ⌜ r ≡ lowerOf floor rank ⌝ }
+{
+    if rank < floor {
+        return rank;
+    }
+    floor
+}
+
+// The floors, those that are not reached lowered to what was found.
+fn lowered(floors: Ranks, best: Sides) -> Ranks
+    ensures { λ r. ⌜ r ≡ loweredTo best floors ⌝ }
+{
+    let bid = lower(floors.bid, ranking::rank(Side::Bid, best.bid.price));
+    let offer = lower(floors.offer, ranking::rank(Side::Offer, best.offer.price));
+    Ranks { bid, offer }
+}
+
+// The ranks of the two entries that stand in the page at `at`: a guess at what the best will reach.
 fn standing_ranks(page: &[u8], at: usize) -> Ranks
     requires { ⌜ at + 32 ≤ length (now page) ⌝ }
 {
@@ -436,7 +443,7 @@ fn standing_ranks(page: &[u8], at: usize) -> Ranks
 }
 
 /// The six best entries of a page. A message rarely makes a best price worse, so the prices of the entries that stand are tried as floors first:
-/// almost every price is then passed over by one comparison. Where they are not reached, all is looked at.
+/// almost every price is then passed over by one comparison. If they are not reached, lower ones are tried.
 pub fn walk_page(page: &[u8]) -> BestEntries
     requires { ⌜ length (now page) ≡ 6054 ⌝ }
     ensures { λ r. ⌜ r ≡ bestsOf (pageEntries (now (page .entry))) ⌝ }
@@ -449,7 +456,9 @@ pub fn walk_page(page: &[u8]) -> BestEntries
         if all_reach(floors, best) {
             return best;
         }
-        floors = Floors::NONE;
+        let national = lowered(floors.national, best.national);
+        let finra = lowered(floors.finra, best.finra);
+        floors = Floors { national, finra };
     }
 }
 
@@ -571,6 +580,9 @@ pub fn renew(page: &mut [u8]) -> u8
 {
     let published = to_publish(walk_page(page));
     let changed = flags(page, published);
+    if changed == 0 {
+        return 0; // they stand already
+    }
     put_entries(page, published);
     changed
 }

@@ -121,8 +121,8 @@ module _ (s : Side) (g : ℕ) where
   pub reach-best : (r b : Candidate) → r ≡ reaching s g b → g ≤ rankOf s (r .price) → r ≡ b
   reach-best r b e h = reach-all r b (ap (reaching s g) e ∙ reach-twice b) h
 
-  -- what is beyond one that reaches the floor reaches it too
-  pub beyond-reach : (n x : Candidate) → g ≤ rankOf s (n .price) → beyondOf s n (reaching s g x) ≡ beyondOf s n x
+  -- what is beyond one that reaches the floor, or is next to it, reaches it too
+  pub beyond-reach : (n x : Candidate) → g ≤ rankOf s (n .price) + 1 → beyondOf s n (reaching s g x) ≡ beyondOf s n x
   unfolding beyondOf
   beyond-reach n x h = go (ltb (rankOf s (x .price)) g) refl
     where

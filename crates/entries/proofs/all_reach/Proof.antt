@@ -5,7 +5,9 @@ use Rattle.entries.proofs.all_reach.Statement.{statement}
 use Rattle.entries.proofs.all_reach.Tie as tie
 
 returns : tie.Need-returns
-returns c = finra-reaches _ _ _ (c .before .before .reach .ensures) _ (c .before .if1 .taken) (c .reach2 .ensures)
+returns c =
+    let a = c .before .before .before .args in
+    finra-reaches (a .floors) (a .best) _ (c .before .before .reach .ensures) _ (c .before .if1 .taken) (c .reach2 .ensures)
 
 returns-2 : tie.Need-returns-2
 returns-2 c = finra-under _ _ _ (c .before .reach .ensures) (c .if1 .left)

@@ -10,12 +10,14 @@ returns c = bid-under _ _ _ (c .before .before .rank .ensures) (c .if1 .taken)
 returns-2 : tie.Need-returns-2
 returns-2 c =
     let q = c .before .before .before in
-    offer-under _ _ _ (q .before .before .rank .ensures) (q .if1 .left) _ (c .before .before .rank2 .ensures) (c .if2 .taken)
+    let a = q .before .before .before .args in
+    offer-under (a .floors) (a .best) _ (q .before .before .rank .ensures) (q .if1 .left) _ (c .before .before .rank2 .ensures) (c .if2 .taken)
 
 returns-3 : tie.Need-returns-3
 returns-3 c =
     let q = c .before .before .before in
-    none-under _ _ _ (q .before .before .rank .ensures) (q .if1 .left) _ (c .before .before .rank2 .ensures) (c .if2 .left)
+    let a = q .before .before .before .args in
+    none-under (a .floors) (a .best) _ (q .before .before .rank .ensures) (q .if1 .left) _ (c .before .before .rank2 .ensures) (c .if2 .left)
 
 pub reach-spec : {M : Type 1} → statement M
 reach-spec = tie.close (tie.spec (λ c κs. search needs) returns (λ c κs. search needs) returns-2 returns-3)

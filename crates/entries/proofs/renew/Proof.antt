@@ -1,17 +1,27 @@
 -- `entries::renew` meets its contract.
 use borrow.Author.Needs.{needs}
 use denote.Ref.{now}
-use Rattle.entries.proofs.PublicationLaws.{renewed}
 use Rattle.field.specs.Field.{Bytes}
+use Rattle.entries.proofs.PublicationLaws.{renewed}
+use Rattle.entries.proofs.StandingLaws.{renewed-none}
 use Rattle.entries.proofs.renew.Statement.{statement}
 use Rattle.entries.proofs.renew.Tie as tie
 
+bytes : (c : tie.After-slice-known) → Bytes (now (c .before .args .page))
+bytes c = λ i. c .slice-known .given i .fits
+
 returns : tie.Need-returns
 returns c =
-    let q = c .before .before .before .before in
+    let q = c .before in
     let w = q .before .before .before in
-    let b : Bytes (now (w .before .before .before .args .page)) = λ i. w .before .before .slice-known .given i .fits in
-    renewed _ b _ _ (w .walk-page .ensures) (q .before .before .to-publish .ensures) _ _ (q .flags .ensures) (c .before .before .put-entries .ensures)
+    let k = w .before .before in
+    renewed-none _ (k .before .pre) (bytes k) _ _ (w .walk-page .ensures) (q .before .before .to-publish .ensures) _ (q .flags .ensures) (c .if1 .taken)
+
+returns-2 : tie.Need-returns-2
+returns-2 c =
+    let q = c .before .before .before .before .before in
+    let w = q .before .before .before in
+    renewed _ (bytes (w .before .before)) _ _ (w .walk-page .ensures) (q .before .before .to-publish .ensures) _ _ (q .flags .ensures) (c .before .before .put-entries .ensures)
 
 pub renew-spec : {M : Type 1} → statement M
 renew-spec =
@@ -20,6 +30,8 @@ renew-spec =
     (λ c κs. search needs)
     (λ c κs. search needs)
     (λ c κs. search needs)
+    (λ c. search needs)
+    returns
     (λ c κs. search needs)
     (λ c. search needs)
-    returns)
+    returns-2)

@@ -1,9 +1,7 @@
 -- `entries::walk_page` meets its contract.
-use Prim.Native.Nat.{_+_}
-use mathlib.Core.Path.{sym, _∙_}
-use native.Mathlib.Omega.{arith}
 use borrow.Author.Needs.{needs}
-use Rattle.entries.proofs.EntriesLaws.{not-reached}
+use mathlib.Core.Path.{sym, _∙_}
+use Rattle.entries.proofs.EntriesLaws.{height, floors-fall}
 use Rattle.entries.proofs.walk_page.Statement.{statement}
 use Rattle.entries.proofs.walk_page.Tie as tie
 
@@ -11,34 +9,18 @@ abbrev Inv-loop : tie.InvT-loop
 Inv-loop page floors₀ floors = Unit {0}
 
 abbrev μ-loop : tie.MeasureT-loop
-μ-loop page floors₀ floors = floors .national .bid + floors .national .offer + (floors .finra .bid + floors .finra .offer)
-
-standing-ranks-requires : tie.Need-standing-ranks-requires Inv-loop μ-loop
-standing-ranks-requires c κs = search needs
-
-mul-standing-ranks : tie.Need-mul-standing-ranks Inv-loop μ-loop
-mul-standing-ranks c = search needs
-
-add-standing-ranks : tie.Need-add-standing-ranks Inv-loop μ-loop
-add-standing-ranks c = search needs
-
-standing-ranks-requires-2 : tie.Need-standing-ranks-requires-2 Inv-loop μ-loop
-standing-ranks-requires-2 c κs = search needs
+μ-loop page floors₀ floors = height floors
 
 loop-holds : tie.Need-loop-holds Inv-loop μ-loop
 loop-holds c = tt
-
-walk-from-requires : tie.Need-walk-from-requires Inv-loop μ-loop
-walk-from-requires c κs = search needs
-
-all-reach-requires : tie.Need-all-reach-requires Inv-loop μ-loop
-all-reach-requires c κs = search needs
 
 returns : tie.Need-returns Inv-loop μ-loop
 returns c = c .before .before .walk-from .ensures (sym (c .before .all-reach .ensures) ∙ c .if1 .taken)
 
 loop-less : tie.Need-loop-less Inv-loop μ-loop
-loop-less c = omega (arith, not-reached _ _ (sym (c .before .all-reach .ensures) ∙ c .if1 .left))
+loop-less c =
+    let q = c .before .before in
+    floors-fall _ _ _ _ (c .before .lowered .ensures) (c .lowered2 .ensures) (sym (q .before .all-reach .ensures) ∙ q .if1 .left)
 
 loop-again : tie.Need-loop-again Inv-loop μ-loop
 loop-again c = tt
@@ -49,13 +31,15 @@ walk-page-spec =
     (tie.spec
     Inv-loop
     μ-loop
-    standing-ranks-requires
-    mul-standing-ranks
-    add-standing-ranks
-    standing-ranks-requires-2
+    (λ c κs. search needs)
+    (λ c. search needs)
+    (λ c. search needs)
+    (λ c κs. search needs)
     loop-holds
-    walk-from-requires
-    all-reach-requires
+    (λ c κs. search needs)
+    (λ c κs. search needs)
     returns
+    (λ c κs. search needs)
+    (λ c κs. search needs)
     loop-less
     loop-again)

@@ -1,4 +1,5 @@
 -- `entries::with_letter_side` meets its contract.
+use native.Mathlib.Omega.{arith}
 use borrow.Author.Needs.{needs}
 use Rattle.entries.proofs.StepLaws.{letter-passed, letter-none, letter-read}
 use Rattle.entries.proofs.with_letter_side.Statement.{statement}
@@ -9,7 +10,7 @@ returns c =
     let q = c .before in
     let m = q .before .before in
     let s = m .before .before .before in
-    letter-passed _ _ (s .pre .1 .0) (s .pre .1 .1) _ _ _ _ _ (m .before .slot-at .ensures) (m .in-quote .ensures .0) _ _ (q .before .get64 .ensures) (q .rank .ensures) (c .if1 .taken)
+    letter-passed _ _ (s .pre .1 .0) (s .pre .1 .1) _ _ _ _ _ (m .before .slot-at .ensures) (m .in-quote .ensures .0) _ _ (q .before .get64 .ensures) (q .rank .ensures) (omega (arith, c .if1 .taken))
 
 returns-2 : tie.Need-returns-2
 returns-2 c =

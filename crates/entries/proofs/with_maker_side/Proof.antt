@@ -1,4 +1,5 @@
 -- `entries::with_maker_side` meets its contract.
+use mathlib.Core.Path.{refl}
 use borrow.Author.Needs.{needs}
 use Rattle.entries.proofs.StepLaws.{maker-passed, maker-read, maker-free}
 use Rattle.entries.proofs.with_maker_side.Statement.{statement}
@@ -6,22 +7,21 @@ use Rattle.entries.proofs.with_maker_side.Tie as tie
 
 returns : tie.Need-returns
 returns c =
-    let q = c .before in
-    let m = q .before .before in
-    maker-passed _ _ _ _ _ _ _ (m .before .cell-at .ensures) (m .in-quote .ensures .0) _ _ (q .before .get64 .ensures) (q .rank .ensures) (c .if1 .taken)
+    let r = c .before in
+    let q = r .before .before in
+    maker-passed _ _ _ _ _ _ _ (q .before .before .before .cell-at .ensures) (q .in-quote .ensures .0) _ _ (r .before .get64 .ensures) (r .rank .ensures) (c .if2 .taken)
 
 returns-2 : tie.Need-returns-2
 returns-2 c =
-    let i = c .before .before .before .before in
-    let q = i .before in
-    let m = q .before .before in
-    maker-read _ _ _ _ _ _ _ (m .before .cell-at .ensures) (m .in-quote .ensures .0) _ _ (q .before .get64 .ensures) (q .rank .ensures) _ _ _
-    (i .if1 .left) (c .before .before .before .get8 .ensures) (c .before .before .if2 .taken) (c .before .get32 .ensures) (c .with-quote .ensures)
+    let i = c .before .before in
+    let r = i .before in
+    let q = r .before .before in
+    let g = q .before .before in
+    maker-read _ _ _ _ _ _ _ (g .before .cell-at .ensures) (q .in-quote .ensures .0) _ _ (r .before .get64 .ensures) (r .rank .ensures) _ _ _
+    (i .if2 .left) (g .get8 .ensures) (q .before .if1 .taken) (c .before .get32 .ensures) (c .with-quote .ensures)
 
 returns-3 : tie.Need-returns-3
-returns-3 c =
-    let m = c .before .before .before .before .before in
-    maker-free _ _ _ _ _ _ _ (m .before .cell-at .ensures) (m .in-quote .ensures .0) _ (c .before .get8 .ensures) (c .if2 .left)
+returns-3 c = maker-free _ _ _ _ _ _ _ (c .before .before .cell-at .ensures) refl _ (c .before .get8 .ensures) (c .if1 .left)
 
 pub with-maker-side-spec : {M : Type 1} → statement M
 with-maker-side-spec =
@@ -30,11 +30,11 @@ with-maker-side-spec =
     (λ c κs. search needs)
     (λ c. search needs)
     (λ c κs. search needs)
+    (λ c κs. search needs)
     (λ c. search needs)
     (λ c κs. search needs)
     (λ c κs. search needs)
     returns
-    (λ c κs. search needs)
     (λ c κs. search needs)
     (λ c κs. search needs)
     returns-2
