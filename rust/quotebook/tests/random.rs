@@ -8,14 +8,8 @@
 mod support;
 
 use second::coverage::Coverage;
+use second::generate::from_environment;
 use support::compared::{run, CALLS};
-
-fn from_environment(name: &str, otherwise: u64) -> u64 {
-    let value = std::env::var(name).ok();
-    value
-        .and_then(|value| value.parse().ok())
-        .unwrap_or(otherwise)
-}
 
 #[test]
 fn lists_of_calls() {

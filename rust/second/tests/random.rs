@@ -8,17 +8,11 @@ mod common;
 use common::*;
 use second::compare::{compare, first_difference, observe, Fresh};
 use second::coverage::Coverage;
+use second::generate::from_environment;
 use second::shrink::shrink;
 use second::{generate, List};
 
 const CALLS: usize = 200;
-
-fn from_environment(name: &str, otherwise: u64) -> u64 {
-    let value = std::env::var(name).ok();
-    value
-        .and_then(|value| value.parse().ok())
-        .unwrap_or(otherwise)
-}
 
 #[test]
 fn lists_of_calls() {

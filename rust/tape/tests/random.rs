@@ -5,14 +5,8 @@
 mod common;
 
 use common::*;
+use second::generate::from_environment;
 use tape::generate::{damaged, tape};
-
-fn from_environment(name: &str, otherwise: u64) -> u64 {
-    let value = std::env::var(name).ok();
-    value
-        .and_then(|value| value.parse().ok())
-        .unwrap_or(otherwise)
-}
 
 const BLOCKS: usize = 120;
 

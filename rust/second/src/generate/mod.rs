@@ -17,7 +17,7 @@ use crate::engine::Engine;
 use crate::quote_book::QuoteBook;
 use crate::terms::{number, ANSWER_LEN, PUBLICATION_LEN, ROUND_LOTS};
 use pools::{Pools, Symbol, Theme};
-pub use random::Random;
+pub use random::{from_environment, Random};
 
 /// The list of so many calls that a seed gives.
 pub fn list(seed: u64, calls: usize) -> List {

@@ -66,3 +66,11 @@ impl Random {
         0
     }
 }
+
+/// A number of the environment, so that a test can be run on other seeds or on more of them.
+pub fn from_environment(name: &str, otherwise: u64) -> u64 {
+    let value = std::env::var(name).ok();
+    value
+        .and_then(|value| value.parse().ok())
+        .unwrap_or(otherwise)
+}
