@@ -13,7 +13,7 @@ use Rattle.lists.specs.Lists.{at, member, upper}
 use Rattle.lists.proofs.Tests.{Cut, equal, apart, cut}
 use Rattle.message.specs.declared.Kind.{Kind}
 use Rattle.message.specs.declared.Kind.the-variants as kind
-use Rattle.message.specs.Message.{kindOf, symbolOf, oddAt, Known, codeOf, Part, roundOf, wholeBy, partlyTaken, partsOf}
+use Rattle.message.specs.Message.{kindOf, symbolOf, oddAt, Known, codeOf, Part, roundOf, wholeBy, partlyTaken, partsOf, roundLotOdd, oddLotOdd}
 use Rattle.block.specs.Block.{countIn, messageAt, messagesFrom, messagesOf}
 use Rattle.page.specs.Page.{Reading, knownOf}
 use Rattle.page.proofs.Model.{partReading}
@@ -23,7 +23,7 @@ use Rattle.book.proofs.OpeningLaws.{Sound}
 use Rattle.book.proofs.PageLaws.{OpeningKept, opening-none, opening-then, kept-sound}
 use Rattle.book.proofs.PartLaws.{PartGood, PartDone, part-done}
 use Rattle.review.proofs.FitLaws.{quote-fits, name-fits, odd-message}
-use Rattle.review.proofs.CodeLaws.{Takes, takes-whole, takes-partly, letter-is, RoundTaken, round-taken, OddTaken, odd-taken, MakerTaken, maker-taken}
+use Rattle.review.proofs.CodeLaws.{Takes, takes-whole, takes-partly, letter-is, OddTaken, round-taken, odd-taken, MakerTaken, maker-taken}
 use Rattle.review.proofs.KeptLaws.{partly-is}
 use Rattle.review.proofs.WorkLaws.{partsReading, messageReading, messagesReading, toldReading}
 
@@ -37,7 +37,7 @@ module _ (e : Known) (letter : ℕ) (m : List ℕ) (u : upper letter ≡ true) (
   up : Takes c → upper (at m 2) ≡ true
   up t = rw (letter-is e letter m c t x) u
 
-  round-good : (t : Takes c) → RoundTaken e letter m c t → PartGood (roundOf m)
+  round-good : (t : Takes c) → OddTaken e letter m c t (roundLotOdd m) → PartGood (roundOf m)
   unfolding oddAt
   round-good t r = (up t, quote-fits m by (omega (arith, r .size)))
 
@@ -49,11 +49,11 @@ module _ (e : Known) (letter : ℕ) (m : List ℕ) (u : upper letter ≡ true) (
   whole-good z kind.Test k = tt
   whole-good z kind.RoundLot k =
       let t : Takes c = takes-whole c z in
-      let r : RoundTaken e letter m c t = round-taken e letter m c t x k in
+      let r : OddTaken e letter m c t (roundLotOdd m) = round-taken e letter m c t x k in
       (round-good t r, ((up t, odd-message m by 56 60 (omega arith) (r .size) (e .lot) (e .levels letter) (r .odd ∙ z)), tt))
   whole-good z kind.OddLot k =
       let t : Takes c = takes-whole c z in
-      let r : OddTaken e letter m c t = odd-taken e letter m c t x k in
+      let r : OddTaken e letter m c t (oddLotOdd m) = odd-taken e letter m c t x k in
       ((up t, odd-message m by 31 36 (omega arith) (r .size) (e .lot) (e .levels letter) (r .odd ∙ z)), tt)
   whole-good z kind.Maker k =
       let t : Takes c = takes-whole c z in

@@ -17,6 +17,7 @@ use Rattle.message.specs.declared.Kind.{Kind}
 use Rattle.message.specs.declared.Kind.the-variants as kind
 use Rattle.message.specs.declared.Message.{Message}
 use Rattle.message.specs.declared.Message.the-variants as says
+use Rattle.message.specs.declared.OddPart.{OddPart}
 use Rattle.message.specs.Message.{kindOf, quoteAt, makerName, roundLotOdd, oddLotOdd, oddOf, oddLength, sideBad, roundConditions, makerConditions, priceFault, quoteFault, isD, readRoundLot, readOddLot, readMaker, readBy, isUnknown, messageOf, Known, makerCode, codeBy, codeOf}
 
 -- ---- checks that were passed
@@ -78,13 +79,14 @@ module _ (e : Known) (letter : ℕ) (m : List ℕ) (c : ℕ) (t : Takes c) where
   pub letter-is : codeOf e letter m ≡ c → at m 2 ≡ letter
   letter-is q = spoken q .0
 
-  -- what is known of a Q K that is taken, wholly or in part
-  pub record RoundTaken : Type 0 where
-    pub size : length m ≡ oddLength (roundLotOdd m)
+  -- what is known of a message that is taken, by where its odd part stands
+  pub record OddTaken (o : OddPart) : Type 0 where
+    pub size : length m ≡ oddLength o
     pub known : e .listed ≡ true
-    pub odd : oddCode (e .lot) (e .levels letter) (oddOf m (roundLotOdd m)) ≡ c
+    pub odd : oddCode (e .lot) (e .levels letter) (oddOf m o) ≡ c
 
-  pub round-taken : codeOf e letter m ≡ c → kindOf m ≡ kind.RoundLot → RoundTaken
+  -- a Q K, wholly or in part
+  pub round-taken : codeOf e letter m ≡ c → kindOf m ≡ kind.RoundLot → OddTaken (roundLotOdd m)
   unfolding readRoundLot
   round-taken q k =
       let a : codeBy e letter m (readRoundLot letter m) ≡ c = rw k at (spoken q .1) in
@@ -96,13 +98,8 @@ module _ (e : Known) (letter : ℕ) (m : List ℕ) (c : ℕ) (t : Takes c) where
       let a7 = fault roundConditions (quoteAt m) true _ (a6 .1) in
       record { size = eqb-true _ _ (a2 .0); known = a6 .0; odd = a7 .1 }
 
-  -- of a Q M that is taken
-  pub record OddTaken : Type 0 where
-    pub size : length m ≡ oddLength (oddLotOdd m)
-    pub known : e .listed ≡ true
-    pub odd : oddCode (e .lot) (e .levels letter) (oddOf m (oddLotOdd m)) ≡ c
-
-  pub odd-taken : codeOf e letter m ≡ c → kindOf m ≡ kind.OddLot → OddTaken
+  -- a Q M
+  pub odd-taken : codeOf e letter m ≡ c → kindOf m ≡ kind.OddLot → OddTaken (oddLotOdd m)
   unfolding readOddLot
   odd-taken q k =
       let a : codeBy e letter m (readOddLot letter m) ≡ c = rw k at (spoken q .1) in

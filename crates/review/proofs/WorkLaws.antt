@@ -14,7 +14,7 @@ use Rattle.lists.specs.Lists.{isSome}
 use Rattle.lists.proofs.Tests.{clash, Cut, equal, apart, cut}
 use Rattle.message.specs.declared.Kind.{Kind}
 use Rattle.message.specs.declared.Kind.the-variants as kind
-use Rattle.message.specs.Message.{kindOf, symbolOf, makerName, oddAt, Known, makerCode, codeOf, Part, roundPart, oddPart, makerPart, finraPart, roundOf, wholeBy, partlyTaken, partsOf}
+use Rattle.message.specs.Message.{kindOf, symbolOf, makerName, oddAt, Known, makerCode, codeOf, Part, roundPart, oddPart, makerPart, finraPart, roundOf, wholeBy, partlyTaken, partsOf, roundLotOdd}
 use Rattle.entries.specs.Page.{occupied}
 use Rattle.page.specs.Page.{Reading, findMaker, knownBy, knownOf}
 use Rattle.page.proofs.Model.{partReading}
@@ -24,7 +24,7 @@ use Rattle.review.proofs.CellLaws.{Room}
 use Rattle.review.proofs.SilentLaws.{names}
 use Rattle.review.proofs.Agree.{Good, good-reviewed, AllGood, Core, ReadingOf, missing, found, reading-of, known-same}
 use Rattle.review.proofs.PartLaws.{RoomFor, cellsIn, core-part, part-listed}
-use Rattle.review.proofs.CodeLaws.{Takes, takes-whole, takes-partly, RoundTaken, round-taken, OddTaken, odd-taken, MakerTaken, maker-taken}
+use Rattle.review.proofs.CodeLaws.{Takes, takes-whole, takes-partly, OddTaken, round-taken, odd-taken, MakerTaken, maker-taken}
 use Rattle.review.proofs.KeptLaws.{onto, partly-is, kept-parts}
 
 -- ---- the book's work, on readings
@@ -124,7 +124,7 @@ module _ (letter : ℕ) (m : List ℕ) (h : List Part) (rs : List Reading) (g : 
       go kind.Open k = (record { room = tt; listed = λ s d. refl }, tt)
       go kind.Test k = tt
       go kind.RoundLot k =
-          let t : RoundTaken e letter m c (takes-whole c z) = round-taken e letter m c (takes-whole c z) x k in
+          let t : OddTaken e letter m c (takes-whole c z) (roundLotOdd m) = round-taken e letter m c (takes-whole c z) x k in
           (named _ (λ s. refl) tt (t .known), (named-then _ _ (λ s. refl) tt (t .known), tt))
       go kind.OddLot k = (named _ (λ s. refl) tt (odd-taken e letter m c (takes-whole c z) x k .known), tt)
       go kind.Maker k =
@@ -146,7 +146,7 @@ module _ (letter : ℕ) (m : List ℕ) (h : List Part) (rs : List Reading) (g : 
   -- a Q K that is taken has 60 bytes or more
   long : Takes c → kindOf m ≡ kind.RoundLot → 60 ≤ length m
   unfolding oddAt
-  long t k = let r : RoundTaken e letter m c t = round-taken e letter m c t x k in omega (arith, r .size)
+  long t k = let r : OddTaken e letter m c t (roundLotOdd m) = round-taken e letter m c t x k in omega (arith, r .size)
 
 module _ (letter : ℕ) (m : List ℕ) (hist : List (List ℕ)) (rs : List Reading) (co : Core (parts hist) rs) where
   pub code-same : codeIn letter m rs ≡ codeR (listedOf rs) letter m hist
