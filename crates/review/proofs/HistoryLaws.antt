@@ -21,7 +21,7 @@ use Rattle.page.specs.Page.{findMaker}
 use Rattle.page.proofs.Model.{standing, marked}
 use Rattle.review.specs.Reviewer.{lastOf, conditionOf, standingQuote, makerOf, elem, insert, namesOf, makersOf}
 use Rattle.review.proofs.CellLaws.{Sole, in-find, find-in, occupied-distinct}
-use Rattle.review.proofs.FinraLaws.{finra-same}
+use Rattle.entries.proofs.FinraLaws.{finra-same}
 
 -- ---- one more part
 

@@ -1,5 +1,4 @@
 pub mod CellLaws
-pub mod FinraLaws
 pub mod HistoryLaws
 pub mod SilentLaws
 pub mod Agree
