@@ -23,7 +23,7 @@ use Rattle.message.specs.declared.Message.the-variants as says
 use Rattle.message.specs.Message.{kindOf, symbolOf, oddLength, roundLotOdd, oddLotOdd, oddAt, isD, testBytes, readInquiry, readTest, readFinra, readRoundLot, readOddLot, readMaker, readBy, isUnknown, messageOf, partlyBy, partlyTaken}
 use Rattle.page.specs.Page.{finraOn}
 use Rattle.page.specs.Update.{Updated}
-use Rattle.page.proofs.SpokenLaws.{Spoken, refused, idle, finra, round, odd, maker, spoken}
+use Rattle.page.proofs.SpokenLaws.{Spoken, refused, idle, finra, round, odd, maker, spoken, partly-no}
 use Rattle.page.proofs.WorkLaws.{pageCode, pageAfter, said-kept}
 use Rattle.page.proofs.UpdateLaws.{updatedBy, update-is}
 use Rattle.book.specs.Opening.{sound, symbolsOf, pageAt, setPage, pagePlace, eachPage}
@@ -117,16 +117,6 @@ module _ (letter : ℕ) (m : List ℕ) where
 
 -- ---- partly accepted: a Q K alone
 
-partly-low : (c : ℕ) (k : Kind) → leb 60 c ≡ false → partlyBy c k ≡ false
-partly-low c kind.Inquiry e = refl
-partly-low c kind.Close e = refl
-partly-low c kind.Open e = refl
-partly-low c kind.Test e = refl
-partly-low c kind.RoundLot e = e
-partly-low c kind.OddLot e = refl
-partly-low c kind.Maker e = refl
-partly-low c kind.Unknown e = refl
-
 low-code : (letter : ℕ) (m : List ℕ) (x : Message) → Spoken letter m x → leb 60 (saidCode x) ≡ false
 low-code letter m x (refused c lo hi) = lt-leb 60 c hi
 low-code letter m x (idle w) = refl
@@ -184,7 +174,7 @@ module _ (b : List ℕ) (s : sound b ≡ true) where
       told-else h =
           rw (← e)
           (done (saidCode (messageOf letter m)) (saidFlags letter m b (messageOf letter m)) false (saidOn letter m b (messageOf letter m))
-          (worked-else (symbolsOf b) b sd letter u m (rw e h)) (partly-low (saidCode (messageOf letter m)) (kindOf m) (low-code letter m (messageOf letter m) (spoken letter m))))
+          (worked-else (symbolsOf b) b sd letter u m (rw e h)) (partly-no (saidCode (messageOf letter m)) (kindOf m) (low-code letter m (messageOf letter m) (spoken letter m))))
 
       module _ (h : names x ≡ true) where
         named : names (messageOf letter m) ≡ true
@@ -193,7 +183,7 @@ module _ (b : List ℕ) (s : sound b ≡ true) where
         -- one whose symbol is not found
         pub told-nowhere : pagePlace b (be (take 11 (drop 20 m))) ≡ Nothing → Done letter m b (record { code = 45; flags = 0; partly = false }) b
         unfolding symbolOf field part partlyTaken
-        told-nowhere p = done 45 0 false b (worked-nowhere (symbolsOf b) b sd letter u m p named) (partly-low 45 (kindOf m) refl)
+        told-nowhere p = done 45 0 false b (worked-nowhere (symbolsOf b) b sd letter u m p named) (partly-no 45 (kindOf m) refl)
 
         -- one whose symbol has page k: that page is lent, and comes back as the page's code left it
         pub told-at : (k : ℕ) → pagePlace b (be (take 11 (drop 20 m))) ≡ At k → (code flags : ℕ) (page : List ℕ)

@@ -84,7 +84,7 @@ AllShaped [] = Unit {0}
 AllShaped (r ∷ rs) = Shaped r × AllShaped rs
 
 -- a message's parts: of a Q K with 60 or more the round part alone; of any other with another code than 0 none
-partly-no : (c : ℕ) (k : Kind) → leb 60 c ≡ false → partlyBy c k ≡ false
+pub partly-no : (c : ℕ) (k : Kind) → leb 60 c ≡ false → partlyBy c k ≡ false
 partly-no c kind.Inquiry e = refl
 partly-no c kind.Close e = refl
 partly-no c kind.Open e = refl
