@@ -16,6 +16,10 @@ static inline uint32_t get32(const uint8_t *p) { uint32_t v; memcpy(&v, p, 4); r
 static inline void put64(uint8_t *p, uint64_t v) { v = __builtin_bswap64(v); memcpy(p, &v, 8); }
 static inline void put32(uint8_t *p, uint32_t v) { v = __builtin_bswap32(v); memcpy(p, &v, 4); }
 
+// a level's numbers have their lowest byte first
+static inline uint64_t low64(const uint8_t *p) { uint64_t v; memcpy(&v, p, 8); return v; }
+static inline uint32_t low32(const uint8_t *p) { uint32_t v; memcpy(&v, p, 4); return v; }
+
 static inline uint64_t rank(int bid, uint64_t price) { return bid ? price : 0 - price; }
 
 static inline int admits(int bid, uint8_t c) {
@@ -35,11 +39,11 @@ static inline int wins(const Best *b, uint32_t size, uint64_t time, uint32_t nam
 
 // a level (any condition) or a side of a quote (its condition must admit it)
 static inline void take(const uint8_t *p, int bid, int quote, uint8_t condition, uint32_t name, Best *b) {
-    uint64_t price = get64(p), r = rank(bid, price), top = rank(bid, b->price);
+    uint64_t price = low64(p), r = rank(bid, price), top = rank(bid, b->price);
     if (r < top || price == 0) return;
     if (quote && !admits(bid, condition)) return;
-    uint32_t size = get32(p + 8);
-    uint64_t time = get64(p + 12);
+    uint32_t size = low32(p + 8);
+    uint64_t time = low64(p + 12);
     if (size == 0) return;
     if (r > top || wins(b, size, time, name)) *b = (Best){price, time, size, name, condition};
 }

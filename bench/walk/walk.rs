@@ -27,9 +27,9 @@ impl Random {
 }
 
 fn level(page: &mut [u8], at: usize, price: u64, size: u64, time: u64) {
-    page[at..at + 8].copy_from_slice(&price.to_be_bytes());
-    page[at + 8..at + 12].copy_from_slice(&(size as u32).to_be_bytes());
-    page[at + 12..at + 20].copy_from_slice(&time.to_be_bytes());
+    page[at..at + 8].copy_from_slice(&price.to_le_bytes());
+    page[at + 8..at + 12].copy_from_slice(&(size as u32).to_le_bytes());
+    page[at + 12..at + 20].copy_from_slice(&time.to_le_bytes());
 }
 
 fn quote(r: &mut Random, page: &mut [u8], at: usize, condition: u8) {

@@ -1,28 +1,31 @@
 -- A page with zeros from 108 on holds no quote, maker or level, and has six entries of none.
 -- Assumes nothing.
-use Prim.Native.Nat.{ℕ, zero, suc, _+_, _*_, _^_, _≤_}
+use Prim.Native.Nat.{ℕ, zero, suc, _+_, _*_, _≤_}
 use mathlib.Core.Path.{_≡_, refl, sym, ap, ap₂, _∙_, fun-ext}
 use mathlib.Core.Bool.{Bool, true, false, cond}
 use mathlib.Core.List.{List, [], _∷_, map}
 use mathlib.Core.Option.{Option, none}
 use native.Mathlib.Omega.{arith}
 use lib.Dec.{eqb, lit≤}
-use lib.ListN.{length, getD, take, drop}
+use lib.ListN.{getD, take, drop}
 use lib.Seq.{getD-drop}
 use Rattle.lists.specs.Lists.{member, collect, gather, range, upper}
-use Rattle.field.specs.Field.{be, part, field}
+use Rattle.field.specs.Field.{part, field}
+use Rattle.field.specs.Low.{le, low}
 use Rattle.field.proofs.Laws.{part-part}
+use Rattle.field.proofs.LowLaws.{low-one}
 use Rattle.ranking.specs.declared.Side.{Side}
 use Rattle.ranking.specs.declared.Side.the-variants.{Bid, Offer}
 use Rattle.ranking.specs.declared.Candidate.{Candidate}
 use Rattle.ranking.specs.Ranking.{better, best}
 use Rattle.quote.specs.declared.Quote.{Quote}
+use Rattle.quote.proofs.QuoteLaws.{level-at}
 use Rattle.quote.specs.Quote.{noLevel, noQuote, counts, candidateOf, levelIn, quoteIn}
 use Rattle.levels.specs.Levels.{Standing, noLevels, sideLevels, ranked, cellsIn, sideIn, levelsIn}
 use Rattle.entries.specs.Entries.{Maker, Entries, letters, finraBest, letterCandidate, nationalBest, oddCandidate, letterLevels, oddBest, entriesBy, entriesOf}
 use Rattle.entries.specs.Publication.{noEntries, publication}
 use Rattle.entries.specs.Page.{slotAt, cellAt, quotesIn, levelsFor, makerIn, makersIn, occupied, pageEntries}
-use Rattle.entries.proofs.ReadLaws.{level-at, quote-side, quote-condition, maker-at, front}
+use Rattle.entries.proofs.ReadLaws.{quote-side, quote-condition, maker-at, front}
 
 -- six entries of none
 abbrev pub noBest : Entries
@@ -85,10 +88,10 @@ same-either : {A : Type 0} (t : Bool) (a : A) → cond t a a ≡ a
 same-either true a = refl
 same-either false a = refl
 
-zeros-be : (l : List ℕ) → ((i : ℕ) → getD l i 0 ≡ 0) → be l ≡ 0
-unfolding be
-zeros-be [] z = refl
-zeros-be (b ∷ bs) z = ap₂ (λ (x n : ℕ). x * 256 ^ length bs + n) (z 0) (zeros-be bs (λ i. z (suc i))) ∙ omega arith
+zeros-le : (l : List ℕ) → ((i : ℕ) → getD l i 0 ≡ 0) → le l ≡ 0
+unfolding le
+zeros-le [] z = refl
+zeros-le (b ∷ bs) z = ap₂ (λ (x n : ℕ). x + 256 * n) (z 0) (zeros-le bs (λ i. z (suc i)))
 
 zeros-take : (n : ℕ) (l : List ℕ) → ((i : ℕ) → getD l i 0 ≡ 0) → (i : ℕ) → getD (take n l) i 0 ≡ 0
 zeros-take zero l z i = refl
@@ -101,22 +104,25 @@ unfolding sideIn cellsIn ranked part
 side-zero s b e = rw e
 
 module _ (p : List ℕ) (z : (i : ℕ) → 108 ≤ i → getD p i 0 ≡ 0) where
-  field-zero : (at w : ℕ) → 108 ≤ at → field p at w ≡ 0
-  unfolding field
-  field-zero at w h = zeros-be (take w (drop at p)) (zeros-take w (drop at p) (λ i. getD-drop at p i 0 ∙ z (at + i) (omega arith)))
+  low-zero : (at w : ℕ) → 108 ≤ at → low p at w ≡ 0
+  unfolding low part
+  low-zero at w h = zeros-le (take w (drop at p)) (zeros-take w (drop at p) (λ i. getD-drop at p i 0 ∙ z (at + i) (omega arith)))
+
+  byte-zero : (at : ℕ) → 108 ≤ at → field p at 1 ≡ 0
+  byte-zero at h = sym (low-one p at) ∙ low-zero at 1 h
 
   level-zero : (at : ℕ) → 108 ≤ at → levelIn (part p at 20) ≡ noLevel
   level-zero at h =
       let a : 108 ≤ at + 8 = omega arith in
       let b : 108 ≤ at + 12 = omega arith in
-      rw (level-at p at) (λ i. record { price = field-zero at 8 h i; size = field-zero (at + 8) 4 a i; time = field-zero (at + 12) 8 b i })
+      rw (level-at p at) (λ i. record { price = low-zero at 8 h i; size = low-zero (at + 8) 4 a i; time = low-zero (at + 12) 8 b i })
 
   quote-zero : (at : ℕ) → 108 ≤ at → quoteIn (part p at 41) ≡ noQuote
   quote-zero at h =
       let a : 108 ≤ at + 1 = omega arith in
       let b : 108 ≤ at + 21 = omega arith in
       λ i. record {
-        condition = (sym (quote-condition p at) ∙ field-zero at 1 h) i;
+        condition = (sym (quote-condition p at) ∙ byte-zero at h) i;
         bid = (sym (quote-side p at Bid) ∙ level-zero (at + 1) a) i;
         offer = (sym (quote-side p at Offer) ∙ level-zero (at + 21) b) i;
       }
@@ -140,7 +146,7 @@ module _ (p : List ℕ) (z : (i : ℕ) → 108 ≤ i → getD p i 0 ≡ 0) where
 
   maker-zero : (at : ℕ) → 108 ≤ at → makerIn (part p at 45) ≡ none
   unfolding member
-  maker-zero at h = let a : 108 ≤ at + 4 = omega arith in rw (maker-at p at, field-zero (at + 4) 1 a)
+  maker-zero at h = let a : 108 ≤ at + 4 = omega arith in rw (maker-at p at, byte-zero (at + 4) a)
 
   pub blank-makers : makersIn p ≡ map (λ k. none) (range 16 0)
   unfolding makersIn

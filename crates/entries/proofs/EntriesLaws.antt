@@ -13,7 +13,9 @@ use borrow.Author.Tests.{ltb-true, ltb-false}
 use Rattle.lists.proofs.Tests.{clash}
 use Rattle.lists.specs.Lists.{member, mapOption, bindOption, consOption, collect, gather, range, upper}
 use Rattle.field.specs.Field.{Bytes, part, field}
-use Rattle.field.proofs.Laws.{be-lt, bytes-part}
+use Rattle.field.specs.Low.{low}
+use Rattle.field.proofs.Laws.{bytes-part}
+use Rattle.field.proofs.LowLaws.{le-lt}
 use Rattle.ranking.specs.declared.Side.{Side}
 use Rattle.ranking.specs.declared.Side.the-variants.{Bid, Offer}
 use Rattle.ranking.specs.declared.Candidate.{Candidate}
@@ -26,6 +28,7 @@ use Rattle.ranking.proofs.Bridge.{OrCounting, live-counts, live-back, fits-or, 
 use Rattle.quote.specs.declared.Quote.{Quote}
 use Rattle.quote.specs.Quote.{noQuote, sideOf, admits, counts, levelCandidate, candidateOf, levelIn, quoteIn}
 use Rattle.levels.specs.Levels.{emptyCell, sideLevels, noLevels, levelsIn}
+use Rattle.quote.proofs.QuoteLaws.{level-at}
 use Rattle.entries.specs.declared.Ranks.{Ranks}
 use Rattle.entries.specs.declared.Floors.{Floors}
 use Rattle.entries.specs.declared.Tops.{Tops}
@@ -33,21 +36,21 @@ use Rattle.entries.specs.declared.BestEntries.{BestEntries}
 use Rattle.entries.specs.Entries.{Entries, letters, asD, makerCandidate, finraBest, letterCandidate, nationalBest, oddCandidate, letterLevels, oddBest, entriesBy, entriesOf}
 use Rattle.entries.specs.Page.{slotAt, cellAt, quotesIn, levelsFor, makerIn, makersIn, same, occupied, pageEntries}
 use Rattle.entries.specs.Walk.{inQuote, inLevels, makerAt, quotedAt, firstOf, firstAt, floorOf, reachingAt, past, noTops, topsFrom, bothReach, allReach, lowerOf, loweredTo, bestsOf}
-use Rattle.entries.proofs.ReadLaws.{level-at, quote-side, maker-at, first-level, cell-live}
+use Rattle.entries.proofs.ReadLaws.{quote-side, maker-at, first-level, cell-live}
 use Rattle.entries.proofs.NationalLaws.{d-last, choose-d}
 use Rattle.entries.proofs.OddLaws.{collect-bind, page-falls, far, odd-once, beyond-is}
 
 -- ---- whatever stands in a page of bytes fits
 
-pub field-below : (p : List ℕ) (at w : ℕ) → Bytes p → field p at w < 256 ^ w
-unfolding field
-field-below p at w b = lt-of-lt-of-le (be-lt (part p at w) (bytes-part p at w b)) (pow-le-pow-right (omega arith) short)
+low-below : (p : List ℕ) (at w : ℕ) → Bytes p → low p at w < 256 ^ w
+unfolding low part
+low-below p at w b = lt-of-lt-of-le (le-lt (part p at w) (bytes-part p at w b)) (pow-le-pow-right (omega arith) short)
   where
     short : length (take w (drop at p)) ≤ w
     short = rw (length-take w (drop at p)) (min-le-left w (length (drop at p)))
 
 price-below : (p : List ℕ) (at : ℕ) → Bytes p → levelIn (part p at 20) .price < 2 ^ 64
-price-below p at b = rw (level-at p at) (field-below p at 8 b)
+price-below p at b = rw (level-at p at) (low-below p at 8 b)
 
 -- ---- each candidate is none or counts
 

@@ -24,10 +24,6 @@ use Rattle.entries.specs.Page.{slotAt, quotesIn, levelsFor, makerIn}
 use Rattle.entries.specs.Walk.{inQuote, inLevels, firstOf, firstAt}
 
 module _ (p : List ℕ) (at : ℕ) where
-  pub level-at : _≡_ {A = Level} (levelIn (part p at 20)) (record { price = field p at 8; size = field p (at + 8) 4; time = field p (at + 12) 8 })
-  unfolding levelIn
-  level-at = λ i. record { price = field-part-0 p at 20 8 (lit≤ tt) i; size = field-part p at 20 8 4 (lit≤ tt) i; time = field-part p at 20 12 8 (lit≤ tt) i }
-
   pub quote-side : (s : Side) → levelIn (part p (at + inQuote s) 20) ≡ sideOf s (quoteIn (part p at 41))
   unfolding quoteIn
   quote-side Bid = ap levelIn (sym (part-part p at 41 1 20 (lit≤ tt)))

@@ -14,6 +14,7 @@ use Rattle.lists.proofs.Searches.{less-one}
 use Rattle.lists.proofs.Tables.{one-of, none-of}
 use Rattle.lists.proofs.Tests.{clash}
 use Rattle.field.specs.Field.{part, field}
+use Rattle.field.specs.Low.{low}
 use Rattle.ranking.specs.declared.Side.{Side}
 use Rattle.ranking.specs.declared.Side.the-variants.{Bid, Offer}
 use Rattle.ranking.specs.declared.Candidate.{Candidate}
@@ -24,6 +25,7 @@ use Rattle.ranking.proofs.ReachingLaws.{reach-low, reach-high, reach-none}
 use Rattle.quote.specs.declared.Level.{Level}
 use Rattle.quote.specs.declared.Quote.{Quote}
 use Rattle.quote.specs.Quote.{sideOf, admits, counts, levelCandidate, candidateOf, levelIn, quoteIn}
+use Rattle.quote.proofs.QuoteLaws.{level-at}
 use Rattle.entries.specs.declared.Ranks.{Ranks}
 use Rattle.entries.specs.declared.Floors.{Floors}
 use Rattle.entries.specs.declared.Tops.{Tops}
@@ -31,16 +33,16 @@ use Rattle.entries.specs.declared.BestEntries.{BestEntries}
 use Rattle.entries.specs.Entries.{makerCandidate, letterCandidate, letterLevels}
 use Rattle.entries.specs.Page.{slotAt, cellAt, quotesIn, makerIn}
 use Rattle.entries.specs.Walk.{inQuote, inLevels, makerAt, quotedAt, firstAt, reachingAt, past, stepTops, topsFrom, bothReach, allReach, lowerOf, loweredTo}
-use Rattle.entries.proofs.ReadLaws.{level-at, quote-side, quote-condition, maker-at, quotes-at, first-at}
+use Rattle.entries.proofs.ReadLaws.{quote-side, quote-condition, maker-at, quotes-at, first-at}
 
 -- ---- a level
 
 module _ (s : Side) (b : Candidate) (p : List ℕ) (at n c : ℕ) where
-  pub level-behind : (q : ℕ) (t : Bool) → q ≡ field p at 8 → t ≡ ltb (rankOf s q) (rankOf s (b .price)) → t ≡ true
+  pub level-behind : (q : ℕ) (t : Bool) → q ≡ low p at 8 → t ≡ ltb (rankOf s q) (rankOf s (b .price)) → t ≡ true
       → b ≡ choose s b (levelCandidate n c (levelIn (part p at 20)))
   level-behind q t e f h = rw (level-at p at) (choose-behind s b _ t (f ∙ ap (λ (v : ℕ). ltb (rankOf s v) (rankOf s (b .price))) e) h)
 
-  pub level-read : (r : Candidate) (q z t : ℕ) → q ≡ field p at 8 → z ≡ field p (at + 8) 4 → t ≡ field p (at + 12) 8
+  pub level-read : (r : Candidate) (q z t : ℕ) → q ≡ low p at 8 → z ≡ low p (at + 8) 4 → t ≡ low p (at + 12) 8
       → r ≡ choose s b (record { name = n; price = q; size = z; time = t; condition = c }) → r ≡ choose s b (levelCandidate n c (levelIn (part p at 20)))
   level-read r q z t ep ez et er = rw (level-at p at, ← ep, ← ez, ← et) er
 
@@ -86,29 +88,29 @@ Priced q none = Unit {0}
 Priced q (some c) = c .price ≡ q
 
 module _ (s : Side) (g q : ℕ) where
-  low : (o : Option Candidate) → Priced q o → rankOf s q < g → reaching s g (orNone o) ≡ noCandidate
-  low none e h = reach-none s g
-  low (some c) e h = reach-low s g c (rw e h)
+  below : (o : Option Candidate) → Priced q o → rankOf s q < g → reaching s g (orNone o) ≡ noCandidate
+  below none e h = reach-none s g
+  below (some c) e h = reach-low s g c (rw e h)
 
-  high : (o : Option Candidate) → Priced q o → g ≤ rankOf s q → reaching s g (orNone o) ≡ orNone o
-  high none e h = reach-none s g
-  high (some c) e h = reach-high s g c (rw e h)
+  at-least : (o : Option Candidate) → Priced q o → g ≤ rankOf s q → reaching s g (orNone o) ≡ orNone o
+  at-least none e h = reach-none s g
+  at-least (some c) e h = reach-high s g c (rw e h)
 
   module _ (b : Candidate) (o : Option Candidate) (e : Priced q o) (v k : ℕ) (ev : v ≡ q) (ek : k ≡ rankOf s v) where
     passed : k < g → b ≡ choose s b (reaching s g (orNone o))
-    passed h = choose-none s b ∙ ap (choose s b) (sym (low o e (rw (← ev, ← ek) h)))
+    passed h = choose-none s b ∙ ap (choose s b) (sym (below o e (rw (← ev, ← ek) h)))
 
     looked : (r : Candidate) → g ≤ k → r ≡ choose s b (orNone o) → r ≡ choose s b (reaching s g (orNone o))
-    looked r h er = er ∙ ap (choose s b) (sym (high o e (rw (← ev, ← ek) h)))
+    looked r h er = er ∙ ap (choose s b) (sym (at-least o e (rw (← ev, ← ek) h)))
 
 nothing : (s : Side) (g : ℕ) (b : Candidate) (o : Option Candidate) → o ≡ none → b ≡ choose s b (reaching s g (orNone o))
 nothing s g b o e = rw (e, reach-none s g) (choose-none s b)
 
-candidate-priced : (p : List ℕ) (at : ℕ) (s : Side) (n : ℕ) → Priced (field p (at + inQuote s) 8) (candidateOf s n (quoteIn (part p at 41)))
+candidate-priced : (p : List ℕ) (at : ℕ) (s : Side) (n : ℕ) → Priced (low p (at + inQuote s) 8) (candidateOf s n (quoteIn (part p at 41)))
 unfolding candidateOf
 candidate-priced p at s n = go (counts s (quoteIn (part p at 41)))
   where
-    go : (t : Bool) → Priced (field p (at + inQuote s) 8) (cond t (some (levelCandidate n (quoteIn (part p at 41) .condition) (sideOf s (quoteIn (part p at 41))))) none)
+    go : (t : Bool) → Priced (low p (at + inQuote s) 8) (cond t (some (levelCandidate n (quoteIn (part p at 41) .condition) (sideOf s (quoteIn (part p at 41))))) none)
     go true = ap (λ (l : Level). l .price) (sym (quote-side p at s) ∙ level-at p (at + inQuote s))
     go false = tt
 
@@ -139,23 +141,23 @@ maker-other p a s n = rw (maker-at p a, ne-eqb (field p (a + 4) 1) 82 n) (go (eq
     go false e = refl
 
 module _ (p : List ℕ) (k : ℕ) (s : Side) (g : ℕ) (b : Candidate) (a o : ℕ) (ea : a ≡ cellAt k) (eo : o ≡ inQuote s) where
-  maker-priced : Priced (field p (a + 4 + inQuote s) 8) (makerAt p s k)
+  maker-priced : Priced (low p (a + 4 + inQuote s) 8) (makerAt p s k)
   unfolding makerAt makerCandidate
   maker-priced = rw (← ea, maker-at p a) (go (member (76 ∷ 82 ∷ []) (field p (a + 4) 1)))
     where
-      go : (t : Bool) → Priced (field p (a + 4 + inQuote s) 8) (bindOption (cond t (some (record { name = field p a 4; quote = quoteIn (part p (a + 4) 41) })) none) (makerCandidate s))
+      go : (t : Bool) → Priced (low p (a + 4 + inQuote s) 8) (bindOption (cond t (some (record { name = field p a 4; quote = quoteIn (part p (a + 4) 41) })) none) (makerCandidate s))
       go true = candidate-priced p (a + 4) s (field p a 4)
       go false = tt
 
-  module _ (v r : ℕ) (ev : v ≡ field p (a + 4 + o) 8) (er : r ≡ rankOf s v) where
+  module _ (v r : ℕ) (ev : v ≡ low p (a + 4 + o) 8) (er : r ≡ rankOf s v) where
     pub maker-passed : r < g → b ≡ choose s b (reaching s g (orNone (makerAt p s k)))
-    maker-passed = passed s g (field p (a + 4 + inQuote s) 8) b (makerAt p s k) maker-priced v r (rw eo at ev) er
+    maker-passed = passed s g (low p (a + 4 + inQuote s) 8) b (makerAt p s k) maker-priced v r (rw eo at ev) er
 
     pub maker-read : (c n : ℕ) (x : Candidate) → g ≤ r → c ≡ field p (a + 4) 1 → c ≡ 82 → n ≡ field p a 4
         → x ≡ choose s b (orNone (candidateOf s n (quoteIn (part p (a + 4) 41)))) → x ≡ choose s b (reaching s g (orNone (makerAt p s k)))
     unfolding makerAt
     maker-read c n x h ec e en ex =
-        looked s g (field p (a + 4 + inQuote s) 8) b (makerAt p s k) maker-priced v r (rw eo at ev) er x h
+        looked s g (low p (a + 4 + inQuote s) 8) b (makerAt p s k) maker-priced v r (rw eo at ev) er x h
         (rw (← ea, maker-r p a s (sym ec ∙ e), ← en) ex)
 
   pub maker-free : (c : ℕ) → c ≡ field p (a + 4) 1 → (c ≡ 82 → ⊥) → b ≡ choose s b (reaching s g (orNone (makerAt p s k)))
@@ -183,24 +185,24 @@ module _ (p : List ℕ) (l : ℕ) (h : 65 ≤ l) (k : l < 91) (s : Side) (g : �
       go false true e = clash e
       go false false e = refl
 
-  quoted-priced : Priced (field p (a + inQuote s) 8) (quotedAt p s l)
+  quoted-priced : Priced (low p (a + inQuote s) 8) (quotedAt p s l)
   quoted-priced = go (member (68 ∷ 83 ∷ []) l) refl
     where
-      go : (t : Bool) → member (68 ∷ 83 ∷ []) l ≡ t → Priced (field p (a + inQuote s) 8) (quotedAt p s l)
+      go : (t : Bool) → member (68 ∷ 83 ∷ []) l ≡ t → Priced (low p (a + inQuote s) 8) (quotedAt p s l)
       go true e = rw (quoted-none e) tt
       go false e = rw (quoted-some e) (candidate-priced p a s l)
 
   pub letter-none : OneOf (68 ∷ 83 ∷ []) l → b ≡ choose s b (reaching s g (orNone (quotedAt p s l)))
   letter-none e = nothing s g b (quotedAt p s l) (quoted-none (one-of (68 ∷ 83 ∷ []) l e))
 
-  module _ (v r : ℕ) (ev : v ≡ field p (a + o) 8) (er : r ≡ rankOf s v) where
+  module _ (v r : ℕ) (ev : v ≡ low p (a + o) 8) (er : r ≡ rankOf s v) where
     pub letter-passed : r < g → b ≡ choose s b (reaching s g (orNone (quotedAt p s l)))
-    letter-passed = passed s g (field p (a + inQuote s) 8) b (quotedAt p s l) quoted-priced v r (rw eo at ev) er
+    letter-passed = passed s g (low p (a + inQuote s) 8) b (quotedAt p s l) quoted-priced v r (rw eo at ev) er
 
     pub letter-read : (x : Candidate) → g ≤ r → (OneOf (68 ∷ 83 ∷ []) l → ⊥) → x ≡ choose s b (orNone (candidateOf s l (quoteIn (part p a 41))))
         → x ≡ choose s b (reaching s g (orNone (quotedAt p s l)))
     letter-read x m n ex =
-        looked s g (field p (a + inQuote s) 8) b (quotedAt p s l) quoted-priced v r (rw eo at ev) er x m
+        looked s g (low p (a + inQuote s) 8) b (quotedAt p s l) quoted-priced v r (rw eo at ev) er x m
         (rw (quoted-some (none-of (68 ∷ 83 ∷ []) l n)) ex)
 
 -- ---- a letter's first levels
@@ -216,32 +218,32 @@ module _ (p : List ℕ) (l : ℕ) (h : 65 ≤ l) (k : l < 91) (s : Side) (g : �
   unfolding firstAt letterLevels
   first-none e = rw e
 
-  live-priced : Priced (field p (a + 41 + o) 8) (live level)
+  live-priced : Priced (low p (a + 41 + o) 8) (live level)
   unfolding live
   live-priced = go (eqb (level .price) 0) (eqb (level .size) 0)
     where
-      go : (t u : Bool) → Priced (field p (a + 41 + o) 8) (cond t none (cond u none (some level)))
+      go : (t u : Bool) → Priced (low p (a + 41 + o) 8) (cond t none (cond u none (some level)))
       go true u = tt
       go false true = tt
       go false false = ap (λ (v : Level). v .price) (level-at p (a + 41 + o))
 
-  first-priced : Priced (field p (a + 41 + o) 8) (firstAt p s l)
+  first-priced : Priced (low p (a + 41 + o) 8) (firstAt p s l)
   first-priced = go (eqb l 83) refl
     where
-      go : (t : Bool) → eqb l 83 ≡ t → Priced (field p (a + 41 + o) 8) (firstAt p s l)
+      go : (t : Bool) → eqb l 83 ≡ t → Priced (low p (a + 41 + o) 8) (firstAt p s l)
       go true e = rw (first-none (eqb-true l 83 e)) tt
       go false e = rw (first-some (eqb-false l 83 e)) live-priced
 
   pub first-processor : l ≡ 83 → b ≡ choose s b (reaching s (g + 1) (orNone (firstAt p s l)))
   first-processor e = nothing s (g + 1) b (firstAt p s l) (first-none e)
 
-  module _ (v r : ℕ) (ev : v ≡ field p (a + 41 + o) 8) (er : r ≡ rankOf s v) where
+  module _ (v r : ℕ) (ev : v ≡ low p (a + 41 + o) 8) (er : r ≡ rankOf s v) where
     pub first-passed : r ≤ g → b ≡ choose s b (reaching s (g + 1) (orNone (firstAt p s l)))
-    first-passed m = passed s (g + 1) (field p (a + 41 + o) 8) b (firstAt p s l) first-priced v r ev er (omega arith)
+    first-passed m = passed s (g + 1) (low p (a + 41 + o) 8) b (firstAt p s l) first-priced v r ev er (omega arith)
 
     pub first-read : (x : Candidate) → g < r → (l ≡ 83 → ⊥) → x ≡ choose s b level → x ≡ choose s b (reaching s (g + 1) (orNone (firstAt p s l)))
     first-read x m n ex =
-        looked s (g + 1) (field p (a + 41 + o) 8) b (firstAt p s l) first-priced v r ev er x (omega arith) (rw (first-some n) (ex ∙ choose-live s b level))
+        looked s (g + 1) (low p (a + 41 + o) 8) b (firstAt p s l) first-priced v r ev er x (omega arith) (rw (first-some n) (ex ∙ choose-live s b level))
 
 -- ---- both sides, and all letters
 

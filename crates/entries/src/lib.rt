@@ -207,12 +207,12 @@ fn with_level(
     ensures { λ r. ⌜ r ≡ choose side best (levelCandidate name condition (levelIn (part (now (page .entry)) at 20))) ⌝ }
 {
     // price 8, size 4, time 8
-    let price = field::get64(page, at);
+    let price = field::low64(page, at);
     if ranking::is_behind(side, price, best) {
         return best;
     }
-    let size = field::get32(page, at + 8);
-    let time = field::get64(page, at + 12);
+    let size = field::low32(page, at + 8);
+    let time = field::low64(page, at + 12);
     ranking::choose(
         side,
         best,
@@ -247,7 +247,7 @@ fn with_maker_side(page: &[u8], k: usize, side: Side, floor: u64, best: Candidat
     let at = cell_at(k);
     let quote = at + Cell::QUOTE;
     if field::get8(page, quote) == b'R' {
-        if ranking::rank(side, field::get64(page, quote + in_quote(side))) < floor {
+        if ranking::rank(side, field::low64(page, quote + in_quote(side))) < floor {
             return best;
         }
         return with_quote(page, quote, side, field::get32(page, at), best);
@@ -291,7 +291,7 @@ fn with_letter_side(
     ensures { λ r. ⌜ r ≡ choose side best (reaching side floor (orNone (quotedAt (now (page .entry)) side letter))) ⌝ }
 {
     let at = slot_at(letter);
-    if ranking::rank(side, field::get64(page, at + in_quote(side))) < floor {
+    if ranking::rank(side, field::low64(page, at + in_quote(side))) < floor {
         return best;
     }
     match letter {
@@ -307,7 +307,7 @@ fn with_first(page: &[u8], letter: usize, side: Side, floor: u64, best: Candidat
     ensures { λ r. ⌜ r ≡ choose side best (reaching side (floor + 1) (orNone (firstAt (now (page .entry)) side letter))) ⌝ }
 {
     let at = slot_at(letter) + Slot::LEVELS + in_levels(side);
-    if ranking::rank(side, field::get64(page, at)) <= floor {
+    if ranking::rank(side, field::low64(page, at)) <= floor {
         return best;
     }
     let better = with_level(page, at, side, letter as u32, b' ', best);

@@ -2,14 +2,15 @@
 use mathlib.Core.Path.{_≡_, refl, sym, ap, ap₂, _∙_, subst}
 use Prim.Native.Nat.{ℕ, zero, suc, _+_, _*_, _/_, _%_, _^_, _≤_, _<_}
 use mathlib.Core.List.{List, [], _∷_, _++_}
-use native.Mathlib.Nat.{mul-add, mul-assoc, mul-comm, pow-suc, pow-succ', mod-eq-of-lt, zero-add, suc-add, div-one, div-add-mod', div-div-eq-div-mul}
+use native.Mathlib.Nat.{mul-add, mul-assoc, mul-comm, pow-suc, pow-succ', mod-eq-of-lt, mod-lt, zero-lt-suc, add-zero, zero-add, suc-add, div-one, div-add-mod', div-div-eq-div-mul}
 use native.Mathlib.Omega.{arith}
 use native.Mathlib.Numerals.{add-one}
+use lib.Dec.{lit<}
 use lib.ListN.{length, take, drop, getD}
 use lib.Seq.{drop-cons}
 use Rattle.field.specs.Field.{Bytes, be, beBytes, part, field, splice}
 use Rattle.field.specs.Low.{le, leBytes, low, swapped}
-use Rattle.field.proofs.Laws.{pow256-pos, be-append, length-beBytes, bytes-beBytes, beBytes-join, beBytes-one, beBytes-mod, part-join, length-part, bytes-part, splice-join}
+use Rattle.field.proofs.Laws.{pow256-pos, be-append, length-beBytes, bytes-beBytes, beBytes-join, beBytes-one, beBytes-mod, part-join, part-part, length-part, bytes-part, splice-join}
 
 -- ---- le
 
@@ -24,6 +25,24 @@ le-append (x ∷ a) b =
       mul-assoc 256 (256 ^ length a) (le b),
       ap (λ (n : ℕ). n * le b) (mul-comm 256 (256 ^ length a) ∙ sym (pow-suc 256 (length a))),
     )
+
+-- each is below its width's bound
+pub le-lt : (bs : List ℕ) → Bytes bs → le bs < 256 ^ length bs
+unfolding le
+le-lt [] h = lit< tt
+le-lt (b ∷ bs) h = let k : b < 256 = h 0 in omega (arith, le-lt bs (λ i. h (suc i)), pow-succ' 256 (length bs))
+
+pub low-lt : (p : List ℕ) (at w : ℕ) → at + w ≤ length p → Bytes p → low p at w < 256 ^ w
+unfolding low
+low-lt p at w h b = subst (λ (n : ℕ). le (part p at w) < 256 ^ n) (length-part p at w h) (le-lt (part p at w) (bytes-part p at w b))
+
+-- a number within a part; at the part's start
+pub low-part : (p : List ℕ) (at n k w : ℕ) → k + w ≤ n → low (part p at n) k w ≡ low p (at + k) w
+unfolding low
+low-part p at n k w h = ap le (part-part p at n k w h)
+
+pub low-part-0 : (p : List ℕ) (at n w : ℕ) → w ≤ n → low (part p at n) 0 w ≡ low p at w
+low-part-0 p at n w h = low-part p at n 0 w (omega arith) ∙ ap (λ (k : ℕ). low p k w) (add-zero at)
 
 pub low-join : (m n : ℕ) (p : List ℕ) (at : ℕ) → at + (m + n) ≤ length p → low p at m + low p (at + m) n * 256 ^ m ≡ low p at (m + n)
 unfolding low
@@ -47,6 +66,17 @@ pub length-leBytes : (w v : ℕ) → length (leBytes w v) ≡ w
 unfolding leBytes
 length-leBytes zero v = refl
 length-leBytes (suc w) v = ap suc (length-leBytes w (v / 256))
+
+pub bytes-leBytes : (w v : ℕ) → Bytes (leBytes w v)
+unfolding leBytes
+bytes-leBytes zero v i = lit< tt
+bytes-leBytes (suc w) v zero = mod-lt v (zero-lt-suc 255)
+bytes-leBytes (suc w) v (suc i) = bytes-leBytes w (v / 256) i
+
+pub le-leBytes : (w v : ℕ) → v < 256 ^ w → le (leBytes w v) ≡ v
+unfolding le leBytes
+le-leBytes zero v h = omega arith
+le-leBytes (suc w) v h = let k : v / 256 < 256 ^ w = omega (arith, pow-succ' 256 w) in omega (arith, le-leBytes w (v / 256) k)
 
 leBytes-low : (w v q : ℕ) → leBytes w (v + 256 ^ w * q) ≡ leBytes w v
 unfolding leBytes

@@ -1,5 +1,6 @@
-// Big-endian unsigned numbers in lent bytes. A number is read or written in the machine's own order and swapped by arithmetic:
-// LLVM makes one load or store and one bswap of it, early enough that readers stay small and are inlined.
+// Unsigned numbers in lent bytes: big-endian ones, and little-endian ones in `low` and `put_low`, the machine's own order. A big-endian number is
+// read or written in that order and swapped by arithmetic: LLVM makes one load or store and one bswap of it, early enough that readers stay small
+// and are inlined.
 ghost use mathlib.Core.Path.{_≡_};
 ghost use Prim.Native.Nat.{_+_, _≤_};
 ghost use lib.ListN.{length, getD};
@@ -97,14 +98,16 @@ fn low16(s: &[u8], at: usize) -> u16
     (get8(s, at) as u16) + (get8(s, at + 1) as u16) * 256
 }
 
-fn low32(s: &[u8], at: usize) -> u32
+/// Four bytes, the lowest first.
+pub fn low32(s: &[u8], at: usize) -> u32
     requires { ⌜ at + 4 ≤ length (now s) ⌝ }
     ensures { λ r. ⌜ r ≡ low (now (s .entry)) at 4 ⌝ }
 {
     (low16(s, at) as u32) + (low16(s, at + 2) as u32) * 65536
 }
 
-fn low64(s: &[u8], at: usize) -> u64
+/// Eight bytes, the lowest first.
+pub fn low64(s: &[u8], at: usize) -> u64
     requires { ⌜ at + 8 ≤ length (now s) ⌝ }
     ensures { λ r. ⌜ r ≡ low (now (s .entry)) at 8 ⌝ }
 {
@@ -119,7 +122,8 @@ fn put_low16(s: &mut [u8], at: usize, v: u16)
     put8(s, at + 1, (v / 256) as u8);
 }
 
-fn put_low32(s: &mut [u8], at: usize, v: u32)
+/// Writes four bytes, the lowest first.
+pub fn put_low32(s: &mut [u8], at: usize, v: u32)
     requires { ⌜ at + 4 ≤ length (now s) ⌝ }
     ensures { λ _. ⌜ now (s .exit) ≡ splice (now (s .entry)) at (leBytes 4 v) ⌝ }
 {
@@ -127,7 +131,8 @@ fn put_low32(s: &mut [u8], at: usize, v: u32)
     put_low16(s, at + 2, (v / 65536) as u16);
 }
 
-fn put_low64(s: &mut [u8], at: usize, v: u64)
+/// Writes eight bytes, the lowest first.
+pub fn put_low64(s: &mut [u8], at: usize, v: u64)
     requires { ⌜ at + 8 ≤ length (now s) ⌝ }
     ensures { λ _. ⌜ now (s .exit) ≡ splice (now (s .entry)) at (leBytes 8 v) ⌝ }
 {

@@ -9,7 +9,8 @@ use borrow.Author.Tests.{eq-eqb, ne-eqb, lt-ltb, le-ltb, ltb-true, ltb-false}
 use lib.Dec.{eqb, ltb, lit≤}
 use lib.ListN.{length, getD, take, drop, length-map}
 use lib.Seq.{drop-drop, take-take}
-use Rattle.field.specs.Field.{beBytes, part, splice}
+use Rattle.field.specs.Field.{part, splice}
+use Rattle.field.specs.Low.{leBytes}
 use Rattle.field.proofs.Laws.{part-part, splice-join}
 use Rattle.lists.proofs.Tests.{Cut, equal, apart, cut}
 use Rattle.ranking.specs.declared.Side.{Side}
@@ -102,7 +103,7 @@ module _ (ls : List Level) (d : Level) (n : length ls ≡ 4) where
   -- four cells written in a row
   pub put-is : (p : List ℕ) (at : ℕ) →
       splice (splice (splice (splice p at (levelBytes (getD ls 0 d))) (at + 20) (levelBytes (getD ls 1 d))) (at + 40) (levelBytes (getD ls 2 d))) (at + 60) (levelBytes (getD ls 3 d)) ≡ splice p at (bytesOf ls)
-  unfolding bytesOf levelBytes beBytes
+  unfolding bytesOf levelBytes leBytes
   put-is p at =
       rw (splice-join p at 20 _ _ refl, splice-join p at 40 _ _ refl, splice-join p at 60 _ _ refl)
       (ap (splice p at) (regroup (levelBytes (getD ls 0 d)) (levelBytes (getD ls 1 d)) (levelBytes (getD ls 2 d)) (levelBytes (getD ls 3 d)) ∙ sym (ap bytesOf (as-four ls d n))))

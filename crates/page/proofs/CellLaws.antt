@@ -10,6 +10,7 @@ use lib.Dec.{eqb, ltb, lit≤}
 use lib.ListN.{length, replicate, length-replicate}
 use borrow.Author.Tests.{ltb-true}
 use Rattle.field.specs.Field.{Bytes, be, part, field, splice, beBytes}
+use Rattle.field.specs.Low.{leBytes}
 use Rattle.field.proofs.Laws.{be-beBytes, length-beBytes, bytes-beBytes, bytes-append, bytes-splice, length-splice, part-part, part-behind, field-part, field-before, field-put}
 use Rattle.lists.specs.Lists.{member, every, mapOption, isSome}
 use Rattle.lists.proofs.Tests.{clash, and-true, Cut, equal, apart, cut}
@@ -41,7 +42,7 @@ unfolding every
 stands-fits c e = member-below (76 ∷ 82 ∷ []) 256 c refl e
 
 pub length-maker : (m : Maker) → length (makerBytes m) ≡ 45
-unfolding makerBytes quoteBytes levelBytes beBytes
+unfolding makerBytes quoteBytes levelBytes beBytes leBytes
 length-maker m = refl
 
 pub bytes-maker : (m : Maker) → Bytes (makerBytes m)
@@ -49,7 +50,7 @@ unfolding makerBytes
 bytes-maker m = bytes-append (beBytes 4 (m .name)) (quoteBytes (m .quote)) (bytes-beBytes 4 (m .name)) (bytes-quote (m .quote))
 
 pub maker-back : (m : Maker) → m .name < 256 ^ 4 → QuoteFits (m .quote) → Stands (m .quote .condition) → makerIn (makerBytes m) ≡ some m
-unfolding makerIn makerBytes quoteBytes beBytes levelBytes field part
+unfolding makerIn makerBytes quoteBytes beBytes levelBytes leBytes field part
 maker-back m n f c =
     let a : be (beBytes 1 (m .quote .condition)) ≡ m .quote .condition = be-beBytes 1 (m .quote .condition) (f .condition) in
     let d : be (beBytes 4 (m .name)) ≡ m .name = be-beBytes 4 (m .name) n in

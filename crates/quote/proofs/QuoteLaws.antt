@@ -8,7 +8,9 @@ use native.Mathlib.Omega.{arith}
 use lib.Dec.{lit≤}
 use lib.ListN.{length, replicate}
 use Rattle.field.specs.Field.{Bytes, beBytes, part, field, splice}
-use Rattle.field.proofs.Laws.{be-beBytes, bytes-append, bytes-beBytes, field-lt, field-part, field-part-0, length-part, bytes-part, part-part, part-put, part-other, splice-join}
+use Rattle.field.specs.Low.{le, leBytes, low}
+use Rattle.field.proofs.Laws.{be-beBytes, bytes-append, bytes-beBytes, field-lt, field-part-0, length-part, bytes-part, part-part, part-put, part-other, splice-join}
+use Rattle.field.proofs.LowLaws.{le-leBytes, bytes-leBytes, low-lt, low-part, low-part-0}
 use Rattle.quote.specs.declared.Level.{Level}
 use Rattle.quote.specs.declared.Quote.{Quote}
 use Rattle.quote.specs.Quote.{noLevel, noQuote, levelIn, levelBytes, quoteIn, quoteBytes, LevelFits, QuoteFits}
@@ -20,37 +22,37 @@ three-written p q r u at m n a b c k l e f g = rw (g, f, e, splice-join p at m a
 -- ---- a level
 
 pub length-level : (l : Level) → length (levelBytes l) ≡ 20
-unfolding levelBytes beBytes
+unfolding levelBytes leBytes
 length-level l = refl
 
 pub bytes-level : (l : Level) → Bytes (levelBytes l)
 unfolding levelBytes
-bytes-level l = bytes-append (beBytes 8 (l .price) ++ beBytes 4 (l .size)) (beBytes 8 (l .time)) (bytes-append (beBytes 8 (l .price)) (beBytes 4 (l .size)) (bytes-beBytes 8 (l .price)) (bytes-beBytes 4 (l .size))) (bytes-beBytes 8 (l .time))
+bytes-level l = bytes-append (leBytes 8 (l .price) ++ leBytes 4 (l .size)) (leBytes 8 (l .time)) (bytes-append (leBytes 8 (l .price)) (leBytes 4 (l .size)) (bytes-leBytes 8 (l .price)) (bytes-leBytes 4 (l .size))) (bytes-leBytes 8 (l .time))
 
 -- a level's fields, by their places in a page
-pub level-at : (p : List ℕ) (at : ℕ) → levelIn (part p at 20) ≡ record { price = field p at 8; size = field p (at + 8) 4; time = field p (at + 12) 8 }
+pub level-at : (p : List ℕ) (at : ℕ) → levelIn (part p at 20) ≡ record { price = low p at 8; size = low p (at + 8) 4; time = low p (at + 12) 8 }
 unfolding levelIn
 level-at p at = λ k. record {
-  price = field-part-0 p at 20 8 (lit≤ tt) k;
-  size = field-part p at 20 8 4 (lit≤ tt) k;
-  time = field-part p at 20 12 8 (lit≤ tt) k;
+  price = low-part-0 p at 20 8 (lit≤ tt) k;
+  size = low-part p at 20 8 4 (lit≤ tt) k;
+  time = low-part p at 20 12 8 (lit≤ tt) k;
 }
 
-pub level-read : (p : List ℕ) (at a b c : ℕ) → a ≡ field p at 8 → b ≡ field p (at + 8) 4 → c ≡ field p (at + 12) 8 → record { price = a; size = b; time = c } ≡ levelIn (part p at 20)
+pub level-read : (p : List ℕ) (at a b c : ℕ) → a ≡ low p at 8 → b ≡ low p (at + 8) 4 → c ≡ low p (at + 12) 8 → record { price = a; size = b; time = c } ≡ levelIn (part p at 20)
 level-read p at a b c e f g = rw (e, f, g, level-at p at)
 
 -- three numbers written in a row are the level
-pub level-written : (p q r u : List ℕ) (at : ℕ) (l : Level) → q ≡ splice p at (beBytes 8 (l .price)) → r ≡ splice q (at + 8) (beBytes 4 (l .size)) → u ≡ splice r (at + 12) (beBytes 8 (l .time)) → u ≡ splice p at (levelBytes l)
-unfolding levelBytes beBytes
+pub level-written : (p q r u : List ℕ) (at : ℕ) (l : Level) → q ≡ splice p at (leBytes 8 (l .price)) → r ≡ splice q (at + 8) (leBytes 4 (l .size)) → u ≡ splice r (at + 12) (leBytes 8 (l .time)) → u ≡ splice p at (levelBytes l)
+unfolding levelBytes leBytes
 level-written p q r u at l e f g = three-written p q r u at 8 12 _ _ _ refl refl e f g
 
 -- the level of a level's bytes is the level
 pub level-back : (l : Level) → LevelFits l → levelIn (levelBytes l) ≡ l
-unfolding levelIn levelBytes beBytes field part
+unfolding levelIn levelBytes leBytes low part
 level-back l f = λ k. record {
-  price = be-beBytes 8 (l .price) (f .price) k;
-  size = be-beBytes 4 (l .size) (f .size) k;
-  time = be-beBytes 8 (l .time) (f .time) k;
+  price = le-leBytes 8 (l .price) (f .price) k;
+  size = le-leBytes 4 (l .size) (f .size) k;
+  time = le-leBytes 8 (l .time) (f .time) k;
 }
 
 -- what was written is read back
@@ -65,23 +67,23 @@ level-other p at l i h o = ap levelIn (part-other p at (levelBytes l) i 20 h (su
 pub level-fits : (b : List ℕ) → length b ≡ 20 → Bytes b → LevelFits (levelIn b)
 unfolding levelIn
 level-fits b n k = record {
-  price = field-lt b 0 8 (omega arith) k;
-  size = field-lt b 8 4 (omega arith) k;
-  time = field-lt b 12 8 (omega arith) k;
+  price = low-lt b 0 8 (omega arith) k;
+  size = low-lt b 8 4 (omega arith) k;
+  time = low-lt b 12 8 (omega arith) k;
 }
 
 pub zero-level : levelIn (replicate 20 0) ≡ noLevel
-unfolding levelIn field part
+unfolding levelIn low le part
 zero-level = refl
 
 pub no-level-bytes : levelBytes noLevel ≡ replicate 20 0
-unfolding levelBytes beBytes
+unfolding levelBytes leBytes
 no-level-bytes = refl
 
 -- ---- a quote
 
 pub length-quote : (q : Quote) → length (quoteBytes q) ≡ 41
-unfolding quoteBytes levelBytes beBytes
+unfolding quoteBytes levelBytes beBytes leBytes
 length-quote q = refl
 
 pub bytes-quote : (q : Quote) → Bytes (quoteBytes q)
@@ -100,11 +102,11 @@ pub quote-read : (p : List ℕ) (at a : ℕ) (b c : Level) → a ≡ field p at 
 quote-read p at a b c e f g = rw (e, f, g, quote-at p at)
 
 pub quote-written : (p q r u : List ℕ) (at : ℕ) (x : Quote) → q ≡ splice p at (beBytes 1 (x .condition)) → r ≡ splice q (at + 1) (levelBytes (x .bid)) → u ≡ splice r (at + 21) (levelBytes (x .offer)) → u ≡ splice p at (quoteBytes x)
-unfolding quoteBytes levelBytes beBytes
+unfolding quoteBytes levelBytes beBytes leBytes
 quote-written p q r u at x e f g = three-written p q r u at 1 21 _ _ _ refl refl e f g
 
 pub quote-back : (q : Quote) → QuoteFits q → quoteIn (quoteBytes q) ≡ q
-unfolding quoteIn quoteBytes levelBytes beBytes field part
+unfolding quoteIn quoteBytes levelBytes beBytes leBytes field part
 quote-back q f = λ k. record {
   condition = be-beBytes 1 (q .condition) (f .condition) k;
   bid = level-back (q .bid) (f .bid) k;
@@ -126,5 +128,5 @@ quote-fits b n k = record {
 }
 
 pub zero-quote : quoteIn (replicate 41 0) ≡ noQuote
-unfolding quoteIn levelIn field part
+unfolding quoteIn levelIn field low le part
 zero-quote = refl

@@ -6,6 +6,7 @@ use mathlib.Core.List.{List, [], _∷_, _++_}
 use mathlib.Core.Option.{Option, none, some}
 use lib.Dec.{eqb, ltb}
 use Rattle.field.specs.Field.{part, field, beBytes}
+use Rattle.field.specs.Low.{low, leBytes}
 use Rattle.lists.specs.Lists.{member}
 use Rattle.ranking.specs.declared.Side.{Side}
 use Rattle.ranking.specs.declared.Side.the-variants.{Bid, Offer}
@@ -54,13 +55,13 @@ levelCandidate name condition l = record { name = name; price = l .price; size =
 unfoldable pub candidateOf : Side → ℕ → Quote → Option Candidate
 candidateOf s n q = cond (counts s q) (some (levelCandidate n (q .condition) (sideOf s q))) none
 
--- ---- bytes
+-- ---- bytes; a level's numbers have their lowest byte first
 
 unfoldable pub levelIn : List ℕ → Level
-levelIn b = record { price = field b 0 8; size = field b 8 4; time = field b 12 8 }
+levelIn b = record { price = low b 0 8; size = low b 8 4; time = low b 12 8 }
 
 unfoldable pub levelBytes : Level → List ℕ
-levelBytes l = beBytes 8 (l .price) ++ beBytes 4 (l .size) ++ beBytes 8 (l .time)
+levelBytes l = leBytes 8 (l .price) ++ leBytes 4 (l .size) ++ leBytes 8 (l .time)
 
 unfoldable pub quoteIn : List ℕ → Quote
 quoteIn b = record { condition = field b 0 1; bid = levelIn (part b 1 20); offer = levelIn (part b 21 20) }

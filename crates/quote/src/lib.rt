@@ -14,7 +14,7 @@ pub struct Level {
 }
 
 impl Level {
-    /// Bytes of a level: price 8, size 4, time 8.
+    /// Bytes of a level: price 8, size 4, time 8, each in the order of the machine, so that a price is read by one load.
     pub const LEN: usize = 20;
 
     const SIZE: usize = 8;
@@ -33,9 +33,9 @@ impl Level {
         ensures { λ r. ⌜ r ≡ levelIn (part (now (page .entry)) at 20) ⌝ }
     {
         Level {
-            price: field::get64(page, at),
-            size: field::get32(page, at + Level::SIZE),
-            time: field::get64(page, at + Level::TIME),
+            price: field::low64(page, at),
+            size: field::low32(page, at + Level::SIZE),
+            time: field::low64(page, at + Level::TIME),
         }
     }
 
@@ -44,9 +44,9 @@ impl Level {
         requires { ⌜ at + 20 ≤ length (now page) ⌝ }
         ensures { λ _. ⌜ now (page .exit) ≡ splice (now (page .entry)) at (levelBytes self) ⌝ }
     {
-        field::put64(page, at, self.price);
-        field::put32(page, at + Level::SIZE, self.size);
-        field::put64(page, at + Level::TIME, self.time);
+        field::put_low64(page, at, self.price);
+        field::put_low32(page, at + Level::SIZE, self.size);
+        field::put_low64(page, at + Level::TIME, self.time);
     }
 }
 

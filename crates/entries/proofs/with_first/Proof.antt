@@ -9,7 +9,7 @@ returns c =
     let q = c .before in
     let m = q .before .before in
     let s = m .before .before .before in
-    first-passed _ _ (s .pre .1 .0) (s .pre .1 .1) _ _ _ _ _ (m .before .slot-at .ensures) (m .in-levels .ensures .0) _ _ (q .before .get64 .ensures) (q .rank .ensures) (c .if1 .taken)
+    first-passed _ _ (s .pre .1 .0) (s .pre .1 .1) _ _ _ _ _ (m .before .slot-at .ensures) (m .in-levels .ensures .0) _ _ (q .before .low64 .ensures) (q .rank .ensures) (c .if1 .taken)
 
 returns-2 : tie.Need-returns-2
 returns-2 c =
@@ -22,7 +22,7 @@ returns-3 c =
     let q = c .before .before .before in
     let m = q .before .before in
     let s = m .before .before .before in
-    first-read _ _ (s .pre .1 .0) (s .pre .1 .1) _ _ _ _ _ (m .before .slot-at .ensures) (m .in-levels .ensures .0) _ _ (q .before .get64 .ensures) (q .rank .ensures) _
+    first-read _ _ (s .pre .1 .0) (s .pre .1 .1) _ _ _ _ _ (m .before .slot-at .ensures) (m .in-levels .ensures .0) _ _ (q .before .low64 .ensures) (q .rank .ensures) _
     (c .before .before .if1 .left) (c .if2 .left) (c .before .with-level .ensures)
 
 pub with-first-spec : {M : Type 1} → statement M

@@ -10,7 +10,7 @@ returns c =
     let q = c .before in
     let m = q .before .before in
     let s = m .before .before .before in
-    letter-passed _ _ (s .pre .1 .0) (s .pre .1 .1) _ _ _ _ _ (m .before .slot-at .ensures) (m .in-quote .ensures .0) _ _ (q .before .get64 .ensures) (q .rank .ensures) (omega (arith, c .if1 .taken))
+    letter-passed _ _ (s .pre .1 .0) (s .pre .1 .1) _ _ _ _ _ (m .before .slot-at .ensures) (m .in-quote .ensures .0) _ _ (q .before .low64 .ensures) (q .rank .ensures) (omega (arith, c .if1 .taken))
 
 returns-2 : tie.Need-returns-2
 returns-2 c =
@@ -23,7 +23,7 @@ returns-3 c =
     let q = c .before .before .before in
     let m = q .before .before in
     let s = m .before .before .before in
-    letter-read _ _ (s .pre .1 .0) (s .pre .1 .1) _ _ _ _ _ (m .before .slot-at .ensures) (m .in-quote .ensures .0) _ _ (q .before .get64 .ensures) (q .rank .ensures) _
+    letter-read _ _ (s .pre .1 .0) (s .pre .1 .1) _ _ _ _ _ (m .before .slot-at .ensures) (m .in-quote .ensures .0) _ _ (q .before .low64 .ensures) (q .rank .ensures) _
     (c .before .before .if1 .left) (c .before .match .rest .1) (c .with-quote .ensures)
 
 pub with-letter-side-spec : {M : Type 1} → statement M

@@ -5,11 +5,11 @@ use Rattle.entries.proofs.with_level.Statement.{statement}
 use Rattle.entries.proofs.with_level.Tie as tie
 
 returns : tie.Need-returns
-returns c = level-behind _ _ _ _ _ _ _ _ (c .before .before .get64 .ensures) (c .before .is-behind .ensures) (c .if1 .taken)
+returns c = level-behind _ _ _ _ _ _ _ _ (c .before .before .low64 .ensures) (c .before .is-behind .ensures) (c .if1 .taken)
 
 returns-2 : tie.Need-returns-2
 returns-2 c =
-    level-read _ _ _ _ _ _ _ _ _ _ (c .before .before .before .before .before .get64 .ensures) (c .before .before .get32 .ensures) (c .before .get642 .ensures)
+    level-read _ _ _ _ _ _ _ _ _ _ (c .before .before .before .before .before .low64 .ensures) (c .before .before .low32 .ensures) (c .before .low642 .ensures)
     (c .choose .ensures)
 
 pub with-level-spec : {M : Type 1} → statement M

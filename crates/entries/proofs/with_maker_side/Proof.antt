@@ -9,7 +9,7 @@ returns : tie.Need-returns
 returns c =
     let r = c .before in
     let q = r .before .before in
-    maker-passed _ _ _ _ _ _ _ (q .before .before .before .cell-at .ensures) (q .in-quote .ensures .0) _ _ (r .before .get64 .ensures) (r .rank .ensures) (c .if2 .taken)
+    maker-passed _ _ _ _ _ _ _ (q .before .before .before .cell-at .ensures) (q .in-quote .ensures .0) _ _ (r .before .low64 .ensures) (r .rank .ensures) (c .if2 .taken)
 
 returns-2 : tie.Need-returns-2
 returns-2 c =
@@ -17,7 +17,7 @@ returns-2 c =
     let r = i .before in
     let q = r .before .before in
     let g = q .before .before in
-    maker-read _ _ _ _ _ _ _ (g .before .cell-at .ensures) (q .in-quote .ensures .0) _ _ (r .before .get64 .ensures) (r .rank .ensures) _ _ _
+    maker-read _ _ _ _ _ _ _ (g .before .cell-at .ensures) (q .in-quote .ensures .0) _ _ (r .before .low64 .ensures) (r .rank .ensures) _ _ _
     (i .if2 .left) (g .get8 .ensures) (q .before .if1 .taken) (c .before .get32 .ensures) (c .with-quote .ensures)
 
 returns-3 : tie.Need-returns-3

@@ -3,7 +3,7 @@
 
 use std::cmp::Reverse;
 
-use super::layout::{number, CELLS, CELL_LEN, LEVELS, LEVEL_LEN, LOT, SLOTS, SLOT_LEN};
+use super::layout::{low, number, CELLS, CELL_LEN, LEVELS, LEVEL_LEN, LOT, SLOTS, SLOT_LEN};
 
 const NONE: [u8; 16] = *b"    \0\0\0\0\0\0\0\0\0\0\0\0";
 
@@ -36,9 +36,9 @@ pub struct Reading {
 
 fn shown(bytes: &[u8]) -> Shown {
     Shown {
-        price: number(&bytes[..8]),
-        size: number(&bytes[8..12]) as u32,
-        time: number(&bytes[12..20]),
+        price: low(&bytes[..8]),
+        size: low(&bytes[8..12]) as u32,
+        time: low(&bytes[12..20]),
     }
 }
 

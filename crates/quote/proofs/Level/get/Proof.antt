@@ -4,7 +4,7 @@ use Rattle.quote.proofs.Level.get.Statement.{statement}
 use Rattle.quote.proofs.Level.get.Tie as tie
 
 returns : tie.Need-returns
-returns c = level-read _ _ _ _ _ (c .before .before .get64 .ensures) (c .before .get32 .ensures) (c .get642 .ensures)
+returns c = level-read _ _ _ _ _ (c .before .before .low64 .ensures) (c .before .low32 .ensures) (c .low642 .ensures)
 
 pub get-spec : {M : Type 1} → statement M
 get-spec =

@@ -8,7 +8,7 @@ returns c =
     let d = c .before .before in
     let e = d .before .before .before .before in
     let f = e .before .before .before .before in
-    level-written _ _ _ _ _ (f .before .before .before .args .self) (f .put64 .ensures) (e .put32 .ensures) (d .put642 .ensures)
+    level-written _ _ _ _ _ (f .before .before .before .args .self) (f .put-low64 .ensures) (e .put-low32 .ensures) (d .put-low642 .ensures)
 
 pub put-spec : {M : Type 1} → statement M
 put-spec =
