@@ -5,11 +5,12 @@ use mathlib.Core.Path.{_≡_, refl, sym, ap, ap₂, _∙_}
 use mathlib.Core.Bool.{Bool, true, false, _&&_, cond}
 use mathlib.Core.List.{List, [], _∷_, map}
 use mathlib.Core.Option.{Option, none, some}
+use mathlib.Core.Logic.{_⊎_, inl, inr}
 use native.Mathlib.Omega.{arith}
 use native.Mathlib.Nat.{le-of-lt, lt-of-lt-of-le, pow-le-pow-right, min-le-left}
-use lib.Dec.{eqb, ltb}
+use lib.Dec.{eqb, leb, ltb}
 use lib.ListN.{length, take, drop, length-take}
-use borrow.Author.Tests.{ltb-true, ltb-false}
+use borrow.Author.Tests.{leb-true, leb-false, lt-ltb, ltb-true, ltb-false}
 use Rattle.lists.proofs.Tests.{clash}
 use Rattle.lists.specs.Lists.{member, mapOption, bindOption, consOption, collect, gather, range, upper}
 use Rattle.field.specs.Field.{Bytes, part, field}
@@ -23,7 +24,7 @@ use Rattle.ranking.specs.declared.Sides.{Sides}
 use Rattle.ranking.specs.Ranking.{better, best}
 use Rattle.ranking.specs.Choice.{rankOf, noCandidate, orNone, ofSide, choose, reaching, bestFrom, bothSides, noSides, sidesFrom, beyondOf}
 use Rattle.ranking.proofs.OrderLaws.{keep, either}
-use Rattle.ranking.proofs.ReachingLaws.{reach-none, reach-choose, reach-from, reach-twice, reach-all, reach-best, beyond-reach}
+use Rattle.ranking.proofs.ReachingLaws.{reach-none, reach-choose, reach-from, reach-twice, reach-all, reach-best, beyond-found}
 use Rattle.ranking.proofs.Bridge.{OrCounting, live-counts, live-back, fits-or, side-best, best-counts, choose-either}
 use Rattle.quote.specs.declared.Quote.{Quote}
 use Rattle.quote.specs.Quote.{noQuote, sideOf, admits, counts, levelCandidate, candidateOf, levelIn, quoteIn}
@@ -35,7 +36,7 @@ use Rattle.entries.specs.declared.Tops.{Tops}
 use Rattle.entries.specs.declared.BestEntries.{BestEntries}
 use Rattle.entries.specs.Entries.{Entries, letters, asD, makerCandidate, finraBest, letterCandidate, nationalBest, oddCandidate, letterLevels, oddBest, entriesBy, entriesOf}
 use Rattle.entries.specs.Page.{slotAt, cellAt, quotesIn, levelsFor, makerIn, makersIn, same, occupied, pageEntries}
-use Rattle.entries.specs.Walk.{inQuote, inLevels, makerAt, quotedAt, firstOf, firstAt, floorOf, reachingAt, past, noTops, topsFrom, bothReach, allReach, lowerOf, loweredTo, bestsOf}
+use Rattle.entries.specs.Walk.{inQuote, inLevels, makerAt, quotedAt, firstOf, firstAt, floorOf, reachingAt, past, noTops, topsFrom, bothReach, certain, bothCertain, allReach, lowerOf, loweredTo, bestsOf}
 use Rattle.entries.proofs.ReadLaws.{quote-side, maker-at, first-level, cell-live}
 use Rattle.entries.proofs.NationalLaws.{d-last, choose-d}
 use Rattle.entries.proofs.OddLaws.{collect-bind, page-falls, far, odd-once, beyond-is}
@@ -216,10 +217,10 @@ module _ (p : List ℕ) (b : Bytes p) (s : Side) where
       d-counts : OrCounting (mapOption asD (fb p b s))
       d-counts = as-d-counts p b (fb p b s) (finra-counts p b s)
 
-  -- one side, its FINRA and national best reaching their floors
-  module _ (h g : ℕ) (f q r n o : Candidate) (ef : f ≡ reaching s h (orNone (best (better s) (collect (makerAt p s) (range 16 0))))) (eq : q ≡ reaching s g (orNone quoted))
-      (er : r ≡ reaching s (g + 1) (orNone (best (better s) (collect (firstAt p s) (range 26 65))))) (en : n ≡ choose s q (asD f)) (eo : o ≡ beyondOf s n r)
-      (kf : h ≤ rankOf s (f .price)) (kn : g ≤ rankOf s (n .price)) where
+  -- one side, its FINRA and national best reaching their floors, its odd best certain
+  module _ (h g d : ℕ) (f q r n o : Candidate) (ef : f ≡ reaching s h (orNone (best (better s) (collect (makerAt p s) (range 16 0))))) (eq : q ≡ reaching s g (orNone quoted))
+      (er : r ≡ reaching s (d + 1) (orNone (best (better s) (collect (firstAt p s) (range 26 65))))) (en : n ≡ choose s q (asD f)) (eo : o ≡ beyondOf s n r)
+      (kf : h ≤ rankOf s (f .price)) (kn : g ≤ rankOf s (n .price)) (ko : o .price ≡ 0 → d ≤ rankOf s (n .price)) where
     finra-side : f ≡ orNone (fb p b s)
     finra-side = reach-best s h f (orNone (best (better s) (collect (makerAt p s) (range 16 0)))) ef kf ∙ ap orNone (finra-is p b s)
 
@@ -239,7 +240,8 @@ module _ (p : List ℕ) (b : Bytes p) (s : Side) where
     odd-side =
         eo
         ∙ ap (beyondOf s n) er
-        ∙ beyond-reach s (g + 1) n (orNone (best (better s) (collect (firstAt p s) (range 26 65)))) (omega (arith, kn))
+        ∙ beyond-found s (d + 1) n (orNone (best (better s) (collect (firstAt p s) (range 26 65))))
+        (λ z. omega (arith, ko (ap (λ (c : Candidate). c .price) (eo ∙ ap (beyondOf s n) er) ∙ z)))
         ∙ ap (λ (c : Candidate). beyondOf s c (orNone (best (better s) (collect (firstAt p s) (range 26 65))))) national-side
         ∙ odd-is p b s (nb p b s) 26 (national-best-counts p b s)
 
@@ -263,17 +265,34 @@ both-reach g t e = go (ltb (rankOf Bid (t .bid .price)) (g .bid)) refl (ltb (ran
     go false h false k e Bid = ltb-false (rankOf Bid (t .bid .price)) (g .bid) h
     go false h false k e Offer = ltb-false (rankOf Offer (t .offer .price)) (g .offer) k
 
-all-reach : (g : Floors) (e : BestEntries) → allReach g e ≡ true → (bothReach (g .finra) (e .finra) ≡ true) × (bothReach (g .national) (e .national) ≡ true)
-unfolding allReach
-all-reach g e = go (bothReach (g .finra) (e .finra)) refl
+one-certain : (s : Side) (h : ℕ) (n o : Candidate) → certain s h n o ≡ true → o .price ≡ 0 → h ≤ rankOf s (n .price)
+unfolding certain
+one-certain s h n o e z = leb-true h (rankOf s (n .price)) (rw z at e)
+
+both-certain : (h : Ranks) (n o : Sides) → bothCertain h n o ≡ true → (s : Side) → ofSide s o .price ≡ 0 → floorOf s h ≤ rankOf s (ofSide s n .price)
+unfolding bothCertain
+both-certain h n o e = go (certain Bid (h .bid) (n .bid) (o .bid)) refl e
   where
-    go : (t : Bool) → bothReach (g .finra) (e .finra) ≡ t → cond t (bothReach (g .national) (e .national)) false ≡ true
-        → (bothReach (g .finra) (e .finra) ≡ true) × (bothReach (g .national) (e .national) ≡ true)
-    go true h k = (h, k)
-    go false h k = clash (sym k)
+    go : (t : Bool) → certain Bid (h .bid) (n .bid) (o .bid) ≡ t → cond t (certain Offer (h .offer) (n .offer) (o .offer)) false ≡ true
+        → (s : Side) → ofSide s o .price ≡ 0 → floorOf s h ≤ rankOf s (ofSide s n .price)
+    go true k e Bid = one-certain Bid (h .bid) (n .bid) (o .bid) k
+    go true k e Offer = one-certain Offer (h .offer) (n .offer) (o .offer) e
+    go false k e s = clash (sym e)
+
+all-reach : (g : Floors) (e : BestEntries) → allReach g e ≡ true
+    → (bothReach (g .finra) (e .finra) ≡ true) × (bothReach (g .national) (e .national) ≡ true) × (bothCertain (g .odd) (e .national) (e .odd) ≡ true)
+unfolding allReach
+all-reach g e = go (bothReach (g .finra) (e .finra)) refl (bothReach (g .national) (e .national)) refl
+  where
+    go : (t : Bool) → bothReach (g .finra) (e .finra) ≡ t → (u : Bool) → bothReach (g .national) (e .national) ≡ u
+        → cond t (cond u (bothCertain (g .odd) (e .national) (e .odd)) false) false ≡ true
+        → (bothReach (g .finra) (e .finra) ≡ true) × (bothReach (g .national) (e .national) ≡ true) × (bothCertain (g .odd) (e .national) (e .odd) ≡ true)
+    go true h true i k = (h, i, k)
+    go true h false i k = clash (sym k)
+    go false h u i k = clash (sym k)
 
 module _ (p : List ℕ) (b : Bytes p) (g : Floors) (f : Sides) (t : Tops) (db da mb ma ob oa : Candidate)
-    (ef : f ≡ sidesFrom (reachingAt (g .finra) (makerAt p)) 0 16 noSides) (et : t ≡ topsFrom p (g .national) 65 26 noTops)
+    (ef : f ≡ sidesFrom (reachingAt (g .finra) (makerAt p)) 0 16 noSides) (et : t ≡ topsFrom p g 65 26 noTops)
     (edb : db ≡ asD (f .bid)) (eda : da ≡ asD (f .offer)) (emb : mb ≡ choose Bid (t .national .bid) db) (ema : ma ≡ choose Offer (t .national .offer) da)
     (eob : ob ≡ beyondOf Bid mb (t .odd .bid)) (eoa : oa ≡ beyondOf Offer ma (t .odd .offer)) where
   abbrev six : BestEntries
@@ -283,7 +302,7 @@ module _ (p : List ℕ) (b : Bytes p) (g : Floors) (f : Sides) (t : Tops) (db da
   unfolding topsFrom
   quotes-from = ap (λ (t : Tops). t .national) et
 
-  firsts-from : t .odd ≡ sidesFrom (reachingAt (past (g .national)) (firstAt p)) 65 26 noSides
+  firsts-from : t .odd ≡ sidesFrom (reachingAt (past (g .odd)) (firstAt p)) 65 26 noSides
   unfolding topsFrom
   firsts-from = ap (λ (t : Tops). t .odd) et
 
@@ -307,17 +326,18 @@ module _ (p : List ℕ) (b : Bytes p) (g : Floors) (f : Sides) (t : Tops) (db da
       side : (s : Side) → (ofSide s f ≡ orNone (fb p b s)) × (ofSide s (six .national) ≡ orNone (nb p b s)) × (ofSide s (six .odd) ≡ orNone (oddBest (levelsFor p) (nb p b) s))
       side s =
           let k = all-reach g six e in
-          side-walked p b s (floorOf s (g .finra)) (floorOf s (g .national)) (ofSide s f) (ofSide s (t .national)) (ofSide s (t .odd)) (ofSide s (six .national)) (ofSide s (six .odd))
+          side-walked p b s (floorOf s (g .finra)) (floorOf s (g .national)) (floorOf s (g .odd)) (ofSide s f) (ofSide s (t .national)) (ofSide s (t .odd)) (ofSide s (six .national)) (ofSide s (six .odd))
           (from-floor (makerAt p) (maker-counts p b) (g .finra) f 0 16 ef s)
           (from-floor (quotedAt p) (quoted-counts p b) (g .national) (t .national) 65 26 quotes-from s)
-          (from-floor (firstAt p) (first-counts p b) (past (g .national)) (t .odd) 65 26 firsts-from s
-          ∙ ap (λ (h : ℕ). reaching s h (orNone (best (better s) (collect (firstAt p s) (range 26 65))))) (past-is s (g .national)))
+          (from-floor (firstAt p) (first-counts p b) (past (g .odd)) (t .odd) 65 26 firsts-from s
+          ∙ ap (λ (h : ℕ). reaching s h (orNone (best (better s) (collect (firstAt p s) (range 26 65))))) (past-is s (g .odd)))
           (with-d s) (beyond-d s) (both-reach (g .finra) f (k .0) s) (both-reach (g .national) (six .national) (k .1) s)
+          (both-certain (g .odd) (six .national) (six .odd) (k .2) s)
 
 -- ---- floors that are not reached fall
 
 abbrev pub height : Floors → ℕ
-height g = g .national .bid + g .national .offer + (g .finra .bid + g .finra .offer)
+height g = g .national .bid + g .national .offer + (g .finra .bid + g .finra .offer) + (g .odd .bid + g .odd .offer)
 
 lower-le : (g r : ℕ) → lowerOf g r ≤ g
 lower-le g r = go (ltb r g) refl
@@ -326,25 +346,57 @@ lower-le g r = go (ltb r g) refl
     go true e = le-of-lt (ltb-true r g e)
     go false e = omega arith
 
-lower-lt : (g r : ℕ) → ltb r g ≡ true → lowerOf g r < g
-lower-lt g r e = rw e (ltb-true r g e)
+lower-lt : (g r : ℕ) → r < g → lowerOf g r < g
+lower-lt g r h = rw (lt-ltb r g h) h
 
--- a and b found for FINRA, c and d for the letters
-module _ (g : Floors) (a b c d : ℕ) where
-  falls : (t : Bool) → ltb a (g .finra .bid) ≡ t → (u : Bool) → ltb b (g .finra .offer) ≡ u → (v : Bool) → ltb c (g .national .bid) ≡ v → (w : Bool) → ltb d (g .national .offer) ≡ w
-      → cond (cond t false (cond u false true)) (cond v false (cond w false true)) false ≡ false
-      → lowerOf (g .national .bid) c + lowerOf (g .national .offer) d + (lowerOf (g .finra .bid) a + lowerOf (g .finra .offer) b) < height g
-  falls true h u i v j w k z = omega (arith, lower-lt (g .finra .bid) a h, lower-le (g .finra .offer) b, lower-le (g .national .bid) c, lower-le (g .national .offer) d)
-  falls false h true i v j w k z = omega (arith, lower-le (g .finra .bid) a, lower-lt (g .finra .offer) b i, lower-le (g .national .bid) c, lower-le (g .national .offer) d)
-  falls false h false i true j w k z = omega (arith, lower-le (g .finra .bid) a, lower-le (g .finra .offer) b, lower-lt (g .national .bid) c j, lower-le (g .national .offer) d)
-  falls false h false i false j true k z = omega (arith, lower-le (g .finra .bid) a, lower-le (g .finra .offer) b, lower-le (g .national .bid) c, lower-lt (g .national .offer) d k)
-  falls false h false i false j false k z = clash z
+-- the sum of two that are lowered: no higher, and lower if either was not reached
+abbrev fallen : Ranks → Sides → ℕ
+fallen g t = lowerOf (g .bid) (rankOf Bid (t .bid .price)) + lowerOf (g .offer) (rankOf Offer (t .offer .price))
 
-pub floors-fall : (g : Floors) (e : BestEntries) (n f : Ranks) → n ≡ loweredTo (e .national) (g .national) → f ≡ loweredTo (e .finra) (g .finra) → allReach g e ≡ false
-    → height (record { national = n; finra = f }) < height g
-unfolding allReach bothReach loweredTo
-floors-fall g e n f en ef z =
-    rw (en, ef)
-    (falls g (rankOf Bid (e .finra .bid .price)) (rankOf Offer (e .finra .offer .price)) (rankOf Bid (e .national .bid .price)) (rankOf Offer (e .national .offer .price))
-    (ltb (rankOf Bid (e .finra .bid .price)) (g .finra .bid)) refl (ltb (rankOf Offer (e .finra .offer .price)) (g .finra .offer)) refl
-    (ltb (rankOf Bid (e .national .bid .price)) (g .national .bid)) refl (ltb (rankOf Offer (e .national .offer .price)) (g .national .offer)) refl z)
+fallen-le : (g : Ranks) (t : Sides) → fallen g t ≤ g .bid + g .offer
+fallen-le g t = omega (arith, lower-le (g .bid) (rankOf Bid (t .bid .price)), lower-le (g .offer) (rankOf Offer (t .offer .price)))
+
+fallen-lt : (g : Ranks) (t : Sides) → (rankOf Bid (t .bid .price) < g .bid) ⊎ (rankOf Offer (t .offer .price) < g .offer) → fallen g t < g .bid + g .offer
+fallen-lt g t (inl h) = omega (arith, lower-lt (g .bid) (rankOf Bid (t .bid .price)) h, lower-le (g .offer) (rankOf Offer (t .offer .price)))
+fallen-lt g t (inr h) = omega (arith, lower-le (g .bid) (rankOf Bid (t .bid .price)), lower-lt (g .offer) (rankOf Offer (t .offer .price)) h)
+
+not-reached : (g : Ranks) (t : Sides) → bothReach g t ≡ false → (rankOf Bid (t .bid .price) < g .bid) ⊎ (rankOf Offer (t .offer .price) < g .offer)
+unfolding bothReach
+not-reached g t = go (ltb (rankOf Bid (t .bid .price)) (g .bid)) refl (ltb (rankOf Offer (t .offer .price)) (g .offer)) refl
+  where
+    go : (u : Bool) → ltb (rankOf Bid (t .bid .price)) (g .bid) ≡ u → (v : Bool) → ltb (rankOf Offer (t .offer .price)) (g .offer) ≡ v → cond u false (cond v false true) ≡ false
+        → (rankOf Bid (t .bid .price) < g .bid) ⊎ (rankOf Offer (t .offer .price) < g .offer)
+    go true h v k e = inl (ltb-true (rankOf Bid (t .bid .price)) (g .bid) h)
+    go false h true k e = inr (ltb-true (rankOf Offer (t .offer .price)) (g .offer) k)
+    go false h false k e = clash e
+
+uncertain : (s : Side) (h : ℕ) (n o : Candidate) → certain s h n o ≡ false → rankOf s (n .price) < h
+unfolding certain
+uncertain s h n o = go (eqb (o .price) 0) (leb h (rankOf s (n .price))) refl
+  where
+    go : (t u : Bool) → leb h (rankOf s (n .price)) ≡ u → cond t u true ≡ false → rankOf s (n .price) < h
+    go true true k e = clash e
+    go true false k e = leb-false h (rankOf s (n .price)) k
+    go false u k e = clash e
+
+not-certain : (h : Ranks) (n o : Sides) → bothCertain h n o ≡ false → (rankOf Bid (n .bid .price) < h .bid) ⊎ (rankOf Offer (n .offer .price) < h .offer)
+unfolding bothCertain
+not-certain h n o = go (certain Bid (h .bid) (n .bid) (o .bid)) refl
+  where
+    go : (t : Bool) → certain Bid (h .bid) (n .bid) (o .bid) ≡ t → cond t (certain Offer (h .offer) (n .offer) (o .offer)) false ≡ false
+        → (rankOf Bid (n .bid .price) < h .bid) ⊎ (rankOf Offer (n .offer .price) < h .offer)
+    go true k e = inr (uncertain Offer (h .offer) (n .offer) (o .offer) e)
+    go false k e = inl (uncertain Bid (h .bid) (n .bid) (o .bid) k)
+
+pub floors-fall : (g : Floors) (e : BestEntries) (n f o : Ranks) → n ≡ loweredTo (e .national) (g .national) → f ≡ loweredTo (e .finra) (g .finra)
+    → o ≡ loweredTo (e .national) (g .odd) → allReach g e ≡ false → height (record { national = n; finra = f; odd = o }) < height g
+unfolding allReach loweredTo
+floors-fall g e n f o en ef eo z = rw (en, ef, eo) (go (bothReach (g .finra) (e .finra)) refl (bothReach (g .national) (e .national)) refl z)
+  where
+    go : (t : Bool) → bothReach (g .finra) (e .finra) ≡ t → (u : Bool) → bothReach (g .national) (e .national) ≡ u
+        → cond t (cond u (bothCertain (g .odd) (e .national) (e .odd)) false) false ≡ false
+        → fallen (g .national) (e .national) + fallen (g .finra) (e .finra) + fallen (g .odd) (e .national) < height g
+    go false h u k z = omega (arith, fallen-lt (g .finra) (e .finra) (not-reached (g .finra) (e .finra) h), fallen-le (g .national) (e .national), fallen-le (g .odd) (e .national))
+    go true h false k z = omega (arith, fallen-lt (g .national) (e .national) (not-reached (g .national) (e .national) k), fallen-le (g .finra) (e .finra), fallen-le (g .odd) (e .national))
+    go true h true k z =
+        omega (arith, fallen-lt (g .odd) (e .national) (not-certain (g .odd) (e .national) (e .odd) z), fallen-le (g .national) (e .national), fallen-le (g .finra) (e .finra))

@@ -7,7 +7,7 @@ use mathlib.Core.List.{List, [], _∷_}
 use mathlib.Core.Option.{Option, none, some}
 use types.Run.{OneOf}
 use native.Mathlib.Omega.{arith}
-use lib.Dec.{eqb, ltb}
+use lib.Dec.{eqb, leb, ltb}
 use borrow.Author.Tests.{eqb-true, eqb-false, ne-eqb, lt-ltb, le-ltb, ltb-false}
 use Rattle.lists.specs.Lists.{member, bindOption}
 use Rattle.lists.proofs.Searches.{less-one}
@@ -32,7 +32,7 @@ use Rattle.entries.specs.declared.Tops.{Tops}
 use Rattle.entries.specs.declared.BestEntries.{BestEntries}
 use Rattle.entries.specs.Entries.{makerCandidate, letterCandidate, letterLevels}
 use Rattle.entries.specs.Page.{slotAt, cellAt, quotesIn, makerIn}
-use Rattle.entries.specs.Walk.{inQuote, inLevels, makerAt, quotedAt, firstAt, reachingAt, past, stepTops, topsFrom, bothReach, allReach, lowerOf, loweredTo}
+use Rattle.entries.specs.Walk.{inQuote, inLevels, makerAt, quotedAt, firstAt, reachingAt, past, stepTops, topsFrom, bothReach, certain, bothCertain, allReach, lowerOf, loweredTo}
 use Rattle.entries.proofs.ReadLaws.{quote-side, quote-condition, maker-at, quotes-at, first-at}
 
 -- ---- a level
@@ -252,14 +252,18 @@ pub sides-read : (f : Side → ℕ → Candidate) (k : ℕ) (t : Sides) (rb ro :
 unfolding stepSides
 sides-read f k t rb ro eb eo = λ i. record { bid = eb i; offer = eo i }
 
-module _ (p : List ℕ) (g : Ranks) where
+module _ (p : List ℕ) (g : Floors) where
   pub tops-read : (l : ℕ) (t : Tops) (nb na ob oa : Candidate)
-      → nb ≡ choose Bid (t .national .bid) (reachingAt g (quotedAt p) Bid l) → na ≡ choose Offer (t .national .offer) (reachingAt g (quotedAt p) Offer l)
-      → ob ≡ choose Bid (t .odd .bid) (reachingAt (past g) (firstAt p) Bid l) → oa ≡ choose Offer (t .odd .offer) (reachingAt (past g) (firstAt p) Offer l)
+      → nb ≡ choose Bid (t .national .bid) (reachingAt (g .national) (quotedAt p) Bid l) → na ≡ choose Offer (t .national .offer) (reachingAt (g .national) (quotedAt p) Offer l)
+      → ob ≡ choose Bid (t .odd .bid) (reachingAt (past (g .odd)) (firstAt p) Bid l) → oa ≡ choose Offer (t .odd .offer) (reachingAt (past (g .odd)) (firstAt p) Offer l)
       → _≡_ {A = Tops} (record { national = record { bid = nb; offer = na }; odd = record { bid = ob; offer = oa } }) (stepTops p g l t)
   unfolding stepTops
   tops-read l t nb na ob oa enb ena eob eoa =
-      λ i. record { national = sides-read (reachingAt g (quotedAt p)) l (t .national) nb na enb ena i; odd = sides-read (reachingAt (past g) (firstAt p)) l (t .odd) ob oa eob eoa i }
+      λ i.
+      record {
+        national = sides-read (reachingAt (g .national) (quotedAt p)) l (t .national) nb na enb ena i;
+        odd = sides-read (reachingAt (past (g .odd)) (firstAt p)) l (t .odd) ob oa eob eoa i;
+      }
 
   module _ (n : ℕ) (w : Tops) where
     tops-step : (i : ℕ) (t : Tops) → i < n → topsFrom p g i (n - i) t ≡ topsFrom p g (i + 1) (n - (i + 1)) (stepTops p g i t)
@@ -292,13 +296,37 @@ module _ (g : Ranks) (t : Sides) (x : ℕ) (ex : x ≡ rankOf Bid (t .bid .price
     none-under k = rw (← ex, le-ltb x (g .bid) h, ← ey, le-ltb y (g .offer) k)
 
 module _ (g : Floors) (e : BestEntries) (t : Bool) (et : t ≡ bothReach (g .finra) (e .finra)) where
-  pub finra-reaches : (u : Bool) → t ≡ true → u ≡ bothReach (g .national) (e .national) → u ≡ allReach g e
-  unfolding allReach
-  finra-reaches u h eu = rw (← et, h) eu
-
   pub finra-under : t ≡ false → false ≡ allReach g e
   unfolding allReach
   finra-under h = rw (← et, h)
+
+  module _ (h : t ≡ true) (u : Bool) (eu : u ≡ bothReach (g .national) (e .national)) where
+    pub national-under : u ≡ false → false ≡ allReach g e
+    unfolding allReach
+    national-under k = rw (← et, h, ← eu, k)
+
+    pub both-reached : (v : Bool) → u ≡ true → v ≡ bothCertain (g .odd) (e .national) (e .odd) → v ≡ allReach g e
+    unfolding allReach
+    both-reached v k ev = rw (← et, h, ← eu, k) ev
+
+-- an odd lot found, or not
+module _ (s : Side) (h : ℕ) (n o : Candidate) where
+  pub certain-none : (r : ℕ) (v : Bool) → r ≡ rankOf s (n .price) → o .price ≡ 0 → v ≡ leb h r → v ≡ certain s h n o
+  unfolding certain
+  certain-none r v er z ev = rw (z, ← er) ev
+
+  pub certain-found : (o .price ≡ 0 → ⊥) → true ≡ certain s h n o
+  unfolding certain
+  certain-found z = rw (ne-eqb (o .price) 0 z)
+
+module _ (h : Ranks) (n o : Sides) (t : Bool) (et : t ≡ certain Bid (h .bid) (n .bid) (o .bid)) where
+  pub bid-certain : (u : Bool) → t ≡ true → u ≡ certain Offer (h .offer) (n .offer) (o .offer) → u ≡ bothCertain h n o
+  unfolding bothCertain
+  bid-certain u k eu = rw (← et, k) eu
+
+  pub bid-uncertain : t ≡ false → false ≡ bothCertain h n o
+  unfolding bothCertain
+  bid-uncertain k = rw (← et, k)
 
 pub lower-found : (g r : ℕ) → r < g → r ≡ lowerOf g r
 lower-found g r h = rw (lt-ltb r g h)

@@ -4,7 +4,7 @@ use Prim.Native.Nat.{ℕ, _+_}
 use mathlib.Core.List.{List, [], _∷_}
 use mathlib.Core.Option.{Option, none, some}
 use mathlib.Core.Bool.{Bool, true, false, cond}
-use lib.Dec.{ltb}
+use lib.Dec.{eqb, leb, ltb}
 use Rattle.field.specs.Field.{part}
 use Rattle.lists.specs.Lists.{mapOption, bindOption}
 use Rattle.ranking.specs.declared.Side.{Side}
@@ -63,18 +63,31 @@ abbrev pub noTops : Tops
 noTops = record { national = noSides; odd = noSides }
 
 -- one letter more, and the k letters from letter l on
-unfoldable pub stepTops : List ℕ → Ranks → ℕ → Tops → Tops
-stepTops p g l t = record { national = stepSides (reachingAt g (quotedAt p)) l (t .national); odd = stepSides (reachingAt (past g) (firstAt p)) l (t .odd) }
+unfoldable pub stepTops : List ℕ → Floors → ℕ → Tops → Tops
+stepTops p g l t =
+    record { national = stepSides (reachingAt (g .national) (quotedAt p)) l (t .national); odd = stepSides (reachingAt (past (g .odd)) (firstAt p)) l (t .odd) }
 
-unfoldable pub topsFrom : List ℕ → Ranks → ℕ → ℕ → Tops → Tops
-topsFrom p g l k t = record { national = sidesFrom (reachingAt g (quotedAt p)) l k (t .national); odd = sidesFrom (reachingAt (past g) (firstAt p)) l k (t .odd) }
+unfoldable pub topsFrom : List ℕ → Floors → ℕ → ℕ → Tops → Tops
+topsFrom p g l k t =
+    record { national = sidesFrom (reachingAt (g .national) (quotedAt p)) l k (t .national); odd = sidesFrom (reachingAt (past (g .odd)) (firstAt p)) l k (t .odd) }
 
--- whether both sides reach their floors; and the national and the FINRA ones
+-- whether both sides reach their floors
 unfoldable pub bothReach : Ranks → Sides → Bool
 bothReach g t = cond (ltb (rankOf Bid (t .bid .price)) (g .bid)) false (cond (ltb (rankOf Offer (t .offer .price)) (g .offer)) false true)
 
+-- whether an odd lot was found, or none that is beyond the national best was passed over
+unfoldable pub certain : Side → ℕ → Candidate → Candidate → Bool
+certain s h n o = cond (eqb (o .price) 0) (leb h (rankOf s (n .price))) true
+
+unfoldable pub bothCertain : Ranks → Sides → Sides → Bool
+bothCertain h n o = cond (certain Bid (h .bid) (n .bid) (o .bid)) (certain Offer (h .offer) (n .offer) (o .offer)) false
+
+-- whether all six are the page's
 unfoldable pub allReach : Floors → BestEntries → Bool
-allReach g e = cond (bothReach (g .finra) (e .finra)) (bothReach (g .national) (e .national)) false
+allReach g e =
+    cond (bothReach (g .finra) (e .finra))
+    (cond (bothReach (g .national) (e .national)) (bothCertain (g .odd) (e .national) (e .odd)) false)
+    false
 
 -- floors, those that are not reached lowered to what was found
 abbrev pub lowerOf : ℕ → ℕ → ℕ

@@ -11,7 +11,7 @@ ghost use Rattle.quote.specs.Quote.{levelIn, quoteIn, levelCandidate, candidate
 ghost use Rattle.entries.specs.Entries.{asD};
 ghost use Rattle.entries.specs.Publication.{entryBytes, nationalName, finraName, oddName, publication, changeFlags, noEntries};
 ghost use Rattle.entries.specs.Page.{slotAt, cellAt, pageEntries, refreshed};
-ghost use Rattle.entries.specs.Walk.{inQuote, inLevels, makerAt, quotedAt, firstAt, reachingAt, noTops, stepTops, topsFrom, bothReach, allReach, lowerOf, loweredTo, bestsOf};
+ghost use Rattle.entries.specs.Walk.{inQuote, inLevels, makerAt, quotedAt, firstAt, reachingAt, noTops, stepTops, topsFrom, bothReach, certain, bothCertain, allReach, lowerOf, loweredTo, bestsOf};
 ghost use Rattle.entries.specs.Entry.{priced, entriesIn, bytesOf, publishedBytes, holds};
 use levels::Levels;
 use quote::Quote;
@@ -79,10 +79,11 @@ pub struct Ranks {
     pub offer: u64,
 }
 
-/// The floors of a walk: a price that ranks lower is passed over, and an odd lot's that is not beyond the national one.
+/// The floors of a walk: a price that ranks lower is passed over, and an odd lot's that is not beyond its floor.
 pub struct Floors {
     pub national: Ranks,
     pub finra: Ranks,
+    pub odd: Ranks,
 }
 
 /// The best of the letters so far: their quotes and their odd-lot levels.
@@ -319,15 +320,17 @@ fn with_first(page: &[u8], letter: usize, side: Side, floor: u64, best: Candidat
 }
 
 // One letter more.
-fn with_letter(page: &[u8], letter: usize, floors: Ranks, tops: Tops) -> Tops
+fn with_letter(page: &[u8], letter: usize, floors: Floors, tops: Tops) -> Tops
     requires { ⌜ length (now page) ≡ 6054 ⌝ }
     requires { ⌜ (65 ≤ letter) × (letter < 91) ⌝ }
     ensures { λ r. ⌜ r ≡ stepTops (now (page .entry)) floors letter tops ⌝ }
 {
-    let bid = with_letter_side(page, letter, Side::Bid, floors.bid, tops.national.bid);
-    let offer = with_letter_side(page, letter, Side::Offer, floors.offer, tops.national.offer);
-    let odd_bid = with_first(page, letter, Side::Bid, floors.bid, tops.odd.bid);
-    let odd_offer = with_first(page, letter, Side::Offer, floors.offer, tops.odd.offer);
+    let quotes = floors.national;
+    let odd = floors.odd;
+    let bid = with_letter_side(page, letter, Side::Bid, quotes.bid, tops.national.bid);
+    let offer = with_letter_side(page, letter, Side::Offer, quotes.offer, tops.national.offer);
+    let odd_bid = with_first(page, letter, Side::Bid, odd.bid, tops.odd.bid);
+    let odd_offer = with_first(page, letter, Side::Offer, odd.offer, tops.odd.offer);
     Tops {
         national: Sides { bid, offer },
         odd: Sides {
@@ -338,7 +341,7 @@ fn with_letter(page: &[u8], letter: usize, floors: Ranks, tops: Tops) -> Tops
 }
 
 // The best of the letters but D, of quotes that reach the floors and levels beyond them.
-fn walk_letters(page: &[u8], floors: Ranks) -> Tops
+fn walk_letters(page: &[u8], floors: Floors) -> Tops
     requires { ⌜ length (now page) ≡ 6054 ⌝ }
     ensures { λ r. ⌜ r ≡ topsFrom (now (page .entry)) floors 65 26 noTops ⌝ }
 {
@@ -365,13 +368,13 @@ fn as_d(c: Candidate) -> Candidate
     }
 }
 
-// The six best of what reaches the floors. They are those of the page if the national and the FINRA ones reach them.
+// The six best of what reaches the floors. They are those of the page if all reach them.
 fn walk_from(page: &[u8], floors: Floors) -> BestEntries
     requires { ⌜ length (now page) ≡ 6054 ⌝ }
     ensures { λ r. ⌜ (allReach floors r ≡ true → r ≡ bestsOf (pageEntries (now (page .entry)))) ⌝ }
 {
     let finra = walk_makers(page, floors.finra);
-    let tops = walk_letters(page, floors.national);
+    let tops = walk_letters(page, floors);
     let national_bid = ranking::choose(Side::Bid, tops.national.bid, as_d(finra.bid));
     let national_offer = ranking::choose(Side::Offer, tops.national.offer, as_d(finra.offer));
     // The best level is beyond the national best if any level is, so one test at the end is enough.
@@ -403,11 +406,32 @@ fn reach(floors: Ranks, best: Sides) -> bool
     true
 }
 
+// Whether an odd lot was found, or none that is beyond the national best was passed over.
+fn is_certain(side: Side, floor: u64, national: Candidate, odd: Candidate) -> bool
+    ensures { λ r. ⌜ r ≡ certain side floor national odd ⌝ }
+{
+    if odd.price == 0 {
+        return floor <= ranking::rank(side, national.price);
+    }
+    true
+}
+
+fn are_certain(floors: Ranks, national: Sides, odd: Sides) -> bool
+    ensures { λ r. ⌜ r ≡ bothCertain floors national odd ⌝ }
+{
+    if is_certain(Side::Bid, floors.bid, national.bid, odd.bid) {
+        return is_certain(Side::Offer, floors.offer, national.offer, odd.offer);
+    }
+    false
+}
+
 fn all_reach(floors: Floors, best: BestEntries) -> bool
     ensures { λ r. ⌜ r ≡ allReach floors best ⌝ }
 {
     if reach(floors.finra, best.finra) {
-        return reach(floors.national, best.national);
+        if reach(floors.national, best.national) {
+            return are_certain(floors.odd, best.national, best.odd);
+        }
     }
     false
 }
@@ -442,6 +466,20 @@ fn standing_ranks(page: &[u8], at: usize) -> Ranks
     Ranks { bid, offer }
 }
 
+// A guess at what the best odd lot will be beyond: at least what stands, if that is beyond the national best.
+fn odd_floor(national: u64, standing: u64) -> u64 {
+    if standing <= national {
+        return national;
+    }
+    standing - 1
+}
+
+fn odd_floors(national: Ranks, standing: Ranks) -> Ranks {
+    let bid = odd_floor(national.bid, standing.bid);
+    let offer = odd_floor(national.offer, standing.offer);
+    Ranks { bid, offer }
+}
+
 /// The six best entries of a page. A message rarely makes a best price worse, so the prices of the entries that stand are tried as floors first:
 /// almost every price is then passed over by one comparison. If they are not reached, lower ones are tried.
 pub fn walk_page(page: &[u8]) -> BestEntries
@@ -450,7 +488,13 @@ pub fn walk_page(page: &[u8]) -> BestEntries
 {
     let national = standing_ranks(page, Page::ENTRIES);
     let finra = standing_ranks(page, Page::ENTRIES + 2 * Entry::LEN);
-    let mut floors = Floors { national, finra };
+    let standing = standing_ranks(page, Page::ENTRIES + 4 * Entry::LEN);
+    let odd = odd_floors(national, standing);
+    let mut floors = Floors {
+        national,
+        finra,
+        odd,
+    };
     loop {
         let best = walk_from(page, floors);
         if all_reach(floors, best) {
@@ -458,7 +502,12 @@ pub fn walk_page(page: &[u8]) -> BestEntries
         }
         let national = lowered(floors.national, best.national);
         let finra = lowered(floors.finra, best.finra);
-        floors = Floors { national, finra };
+        let odd = lowered(floors.odd, best.national);
+        floors = Floors {
+            national,
+            finra,
+            odd,
+        };
     }
 }
 

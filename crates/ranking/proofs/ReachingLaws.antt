@@ -135,3 +135,19 @@ module _ (s : Side) (g : ℕ) where
       go true e =
           let k : rankOf s (x .price) < g = ltb-true (rankOf s (x .price)) g e in
           rw (reach-low x k, le-ltb (rankOf s (n .price)) (rankOf s (x .price)) (omega arith)) (same (ltb (rankOf s (n .price)) (rankOf s 0)))
+
+  -- the same where the floor is higher, if one was found
+  nothing-beyond : (n : Candidate) → beyondOf s n noCandidate .price ≡ 0
+  unfolding beyondOf
+  nothing-beyond n = go (ltb (rankOf s (n .price)) (rankOf s 0))
+    where
+      go : (t : Bool) → cond t noCandidate noCandidate .price ≡ 0
+      go true = refl
+      go false = refl
+
+  pub beyond-found : (n x : Candidate) → (beyondOf s n (reaching s g x) .price ≡ 0 → g ≤ rankOf s (n .price) + 1) → beyondOf s n (reaching s g x) ≡ beyondOf s n x
+  beyond-found n x h = go (ltb (rankOf s (x .price)) g) refl
+    where
+      go : (t : Bool) → ltb (rankOf s (x .price)) g ≡ t → beyondOf s n (reaching s g x) ≡ beyondOf s n x
+      go false e = ap (beyondOf s n) (reach-high x (ltb-false (rankOf s (x .price)) g e))
+      go true e = beyond-reach n x (h (rw (reach-low x (ltb-true (rankOf s (x .price)) g e)) (nothing-beyond n)))

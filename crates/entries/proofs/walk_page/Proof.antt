@@ -19,8 +19,8 @@ returns c = c .before .before .walk-from .ensures (sym (c .before .all-reach .en
 
 loop-less : tie.Need-loop-less Inv-loop μ-loop
 loop-less c =
-    let q = c .before .before in
-    floors-fall _ _ _ _ (c .before .lowered .ensures) (c .lowered2 .ensures) (sym (q .before .all-reach .ensures) ∙ q .if1 .left)
+    let n = c .before .before in
+    floors-fall _ _ _ _ _ (n .lowered .ensures) (c .before .lowered2 .ensures) (c .lowered3 .ensures) (sym (n .before .before .all-reach .ensures) ∙ n .before .if1 .left)
 
 loop-again : tie.Need-loop-again Inv-loop μ-loop
 loop-again c = tt
@@ -35,10 +35,15 @@ walk-page-spec =
     (λ c. search needs)
     (λ c. search needs)
     (λ c κs. search needs)
+    (λ c. search needs)
+    (λ c. search needs)
+    (λ c κs. search needs)
+    (λ c κs. search needs)
     loop-holds
     (λ c κs. search needs)
     (λ c κs. search needs)
     returns
+    (λ c κs. search needs)
     (λ c κs. search needs)
     (λ c κs. search needs)
     loop-less
