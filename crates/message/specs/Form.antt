@@ -1,9 +1,9 @@
 -- The form of symbols and names (document 01, "The book and its calls" and "Messages").
 -- Assumes nothing.
 use Prim.Native.Nat.{ℕ}
-use mathlib.Core.Bool.{Bool, true, false, not, _&&_, cond}
+use mathlib.Core.Bool.{Bool, true, false, not, _&&_, _||_, cond}
 use mathlib.Core.List.{List, [], _∷_}
-use lib.Dec.{eqb}
+use lib.Dec.{eqb, leb}
 use lib.ListN.{length}
 use Rattle.lists.specs.Lists.{at, every, between, upper}
 
@@ -14,6 +14,10 @@ space x = eqb x 32
 unfoldable pub padded : ℕ → ℕ → List ℕ → Bool
 padded low high [] = true
 padded low high (x ∷ xs) = cond (between low high x) (padded low high xs) (every space (x ∷ xs))
+
+-- x may follow `before` in printable bytes and then spaces: it is a space, or it is printable and `before` is above a space
+unfoldable pub follows : ℕ → ℕ → Bool
+follows before x = space x || leb 33 before && between 33 126 x
 
 -- "A symbol is 11 bytes: A to Z first, then printable bytes 33 to 126, then spaces to the end"
 unfoldable pub symbolGood : List ℕ → Bool

@@ -1,11 +1,12 @@
 // The reader of one message. It sees that message's bytes and the letter of its line, and nothing else.
 ghost use mathlib.Core.Path.{_≡_};
-ghost use mathlib.Core.Bool.{cond};
+ghost use mathlib.Core.Bool.{true, cond};
 ghost use Prim.Native.Nat.{_+_, _*_, _≤_, _<_};
+ghost use lib.Dec.{eqb};
 ghost use lib.ListN.{length, drop};
 ghost use Rattle.field.specs.Field.{field};
 ghost use Rattle.lists.specs.Lists.{at, every, member, upper};
-ghost use Rattle.message.specs.Form.{space, padded, symbolGood, makerGood};
+ghost use Rattle.message.specs.Form.{space, padded, follows, symbolGood, makerGood};
 ghost use Rattle.message.specs.Message.{controlKind, quoteKind, kindOf, timeOf, levelAt, quoteAt, makerName, oddAt, roundConditions, makerConditions, sideBad, priceFault, quoteFault, testBytes, readInquiry, readTest, readFinra, readRoundLot, readOddLot, readMaker, messageOf};
 use quote::Level;
 use quote::Quote;
@@ -417,9 +418,38 @@ pub fn is_symbol(s: &[u8]) -> bool
         return false;
     }
     if is_upper(field::byte(s, 0)) {
-        return is_padded(s, 33, 126);
+        return is_text(s);
     }
     false
+}
+
+// Whether printable bytes, then spaces to the end, stand behind the first byte.
+// No branch depends on the bytes: where a symbol ends differs from message to message, and a wrong guess costs more than the rest of the check.
+fn is_text(s: &[u8]) -> bool
+    requires { ⌜ (length (now s) ≡ 11) × (upper (at (now s) 0) ≡ true) ⌝ }
+    ensures { λ r. ⌜ r ≡ padded 33 126 (now (s .entry)) ⌝ }
+{
+    let mut faults = 0u8;
+    for i in 0..10 {
+        faults = faults + fault(s[i], s[i + 1]);
+    }
+    faults == 0
+}
+
+// 0 if x may follow `before`, else how many rules x breaks.
+fn fault(before: u8, x: u8) -> u8
+    ensures { λ r. ⌜ (eqb r 0 ≡ follows before x) × (r ≤ 3) ⌝ }
+{
+    one_unless(x == b' ') * (one_unless(33 <= before) + one_unless(33 <= x) + one_unless(x <= 126))
+}
+
+fn one_unless(t: bool) -> u8
+    ensures { λ r. ⌜ (eqb r 0 ≡ t) × (r ≤ 1) ⌝ }
+{
+    if t {
+        return 0;
+    }
+    1
 }
 
 /// A to Z.

@@ -15,11 +15,11 @@ returns c = rw (ne-eqb _ _ (c .if1 .taken))
 
 returns-2 : tie.Need-returns-2
 unfolding symbolGood
-returns-2 c = rw (eq-eqb _ _ (c .before .before .before .before .if1 .left), first-is (c .before .before) ∙ c .before .if2 .taken) (c .is-padded .ensures)
+returns-2 c = rw (eq-eqb _ _ (c .before .before .before .before .if1 .left), first-is (c .before .before) ∙ c .before .if2 .taken) (c .is-text .ensures)
 
 returns-3 : tie.Need-returns-3
 unfolding symbolGood
 returns-3 c = rw (eq-eqb _ _ (c .before .before .before .if1 .left), first-is (c .before) ∙ c .if2 .left)
 
 pub is-symbol-spec : {M : Type 1} → statement M
-is-symbol-spec = tie.close (tie.spec returns (λ c κs. search needs) (λ c κs. search needs) (λ c κs. search needs) returns-2 returns-3)
+is-symbol-spec = tie.close (tie.spec returns (λ c κs. search needs) (λ c κs. search needs) (λ c κs. (search needs, first-is (c .before) ∙ c .if2 .taken)) returns-2 returns-3)
