@@ -71,7 +71,10 @@ pub fn number(bytes: &[u8]) -> u64 {
 
 /// A number with its lowest byte first: those of quotes and levels.
 pub fn low(bytes: &[u8]) -> u64 {
-    bytes.iter().rev().fold(0, |n, &byte| n << 8 | u64::from(byte))
+    bytes
+        .iter()
+        .rev()
+        .fold(0, |n, &byte| n << 8 | u64::from(byte))
 }
 
 /// Whether memory is a book: its opening is sound and its length right.
