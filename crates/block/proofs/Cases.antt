@@ -3,16 +3,16 @@
 use Prim.Native.Nat.{ℕ, _+_, _/_, _%_, _<_, _≤_}
 use mathlib.Core.Path.{_≡_, refl}
 use mathlib.Core.Bool.{true}
-use mathlib.Core.List.{List, [], _∷_, _++_}
+use mathlib.Core.List.{List, _∷_}
 use lib.ListN.{replicate, length}
 use native.Mathlib.Omega.{arith}
 use borrow.Author.Tests.{le-leb, lt-leb, ne-eqb}
 use Rattle.field.specs.Field.{be, part, field}
 use Rattle.lists.specs.Lists.{member, all, sum}
-use Rattle.block.specs.Block.{checksumOf, startAt, messageAt, messagesFrom, messagesOf, lengthGood, spaced, tableGood, controlAmong, checked, idleBlock}
+use Rattle.block.specs.Block.{checksumOf, startAt, messageAt, lengthGood, spaced, tableGood, controlAmong, checked, idleBlock}
 use Rattle.block.specs.Sequence.{gapOf, nextOf, arrivalOf, arrivalNumber}
 use Rattle.block.specs.declared.Checked.the-variants.{Pass, Refused}
-use Rattle.block.specs.declared.Arrival.the-variants.{Taken, Duplicate}
+use Rattle.block.specs.declared.Arrival.the-variants.{Taken}
 
 -- P10: expected 4,294,967,295, c 2: next 1
 pub P10 : arrivalOf 4294967295 4294967295 2 ≡ Taken 0 1

@@ -1,18 +1,18 @@
 -- Where messages start and end in a block whose messages have at least 20 bytes each.
 -- Assumes nothing.
-use Prim.Native.Nat.{ℕ, zero, suc, _+_, _*_, _-_, _<_, _≤_}
-use mathlib.Core.Path.{_≡_, refl, sym, ap, subst, _∙_}
-use mathlib.Core.Bool.{Bool, true, false}
+use Prim.Native.Nat.{ℕ, zero, suc, _+_, _-_, _<_, _≤_}
+use mathlib.Core.Path.{_≡_, sym, ap, _∙_}
+use mathlib.Core.Bool.{true, false}
 use mathlib.Core.List.{List}
 use native.Mathlib.Omega.{arith}
 use native.Mathlib.Nat.{add-zero}
 use borrow.Author.Tests.{leb-true, le-ltb, eq-eqb, ne-eqb}
 use lib.Dec.{lit<}
-use lib.ListN.{length, getD}
+use lib.ListN.{length}
 use lib.Seq.{getD-take, getD-drop}
 use Rattle.field.specs.Field.{part, field}
 use Rattle.field.proofs.Laws.{field-one}
-use Rattle.lists.specs.Lists.{at, all}
+use Rattle.lists.specs.Lists.{at}
 use Rattle.lists.proofs.Searches.{all-each}
 use Rattle.block.specs.Block.{countIn, startAt, messageAt, spaced, spacedAt, quoteAt}
 

@@ -23,7 +23,7 @@ use Rattle.book.specs.declared.Gate.{Gate}
 use Rattle.book.specs.declared.Gate.the-variants as gate
 use Rattle.book.specs.Opening.{sound, linesIn, restIn}
 use Rattle.book.specs.Call.{arrivalNumberOf, checkedNumberOf, lineNumber, blockNumber, done, gapTold, lineAfter, advanced}
-use Rattle.book.specs.Code.{opened, gateBy, gateOn, gateOf}
+use Rattle.book.specs.Code.{opened, gateBy, gateOf}
 use Rattle.lists.proofs.Tests.{clash}
 
 -- a line that is open, or is not

@@ -20,7 +20,7 @@ use Rattle.message.specs.declared.Kind.the-variants as kind
 use Rattle.message.specs.declared.OddPart.{OddPart}
 use Rattle.message.specs.declared.Message.{Message}
 use Rattle.message.specs.declared.Message.the-variants as says
-use Rattle.message.specs.Message.{kindOf, symbolOf, oddLength, roundLotOdd, oddLotOdd, oddAt, isD, testBytes, readInquiry, readTest, readFinra, readRoundLot, readOddLot, readMaker, readBy, isUnknown, messageOf, partlyBy, partlyTaken}
+use Rattle.message.specs.Message.{kindOf, symbolOf, oddLength, roundLotOdd, oddLotOdd, oddAt, isD, testBytes, readInquiry, readTest, readFinra, readRoundLot, readOddLot, readMaker, readBy, isUnknown, messageOf, partlyTaken}
 use Rattle.page.specs.Page.{finraOn}
 use Rattle.page.specs.Update.{Updated}
 use Rattle.page.proofs.SpokenLaws.{Spoken, refused, idle, finra, round, odd, maker, spoken, partly-no}

@@ -1,16 +1,13 @@
 -- The run over a block's messages: what is still to be worked gives what the whole gives.
 -- Assumes nothing.
-use Prim.Native.Nat.{ℕ, zero, suc, _+_, _*_, _-_, _/_, _%_, _^_, _≤_, _<_}
-use mathlib.Core.Path.{_≡_, refl, sym, ap, ap₂, subst, _∙_}
-use mathlib.Core.Bool.{Bool, true, false, not, _&&_, cond}
-use mathlib.Core.List.{List, [], _∷_, _++_}
-use native.Mathlib.Nat.{sub-zero, add-zero}
+use Prim.Native.Nat.{ℕ, _+_, _*_, _-_, _/_, _%_, _≤_, _<_}
+use mathlib.Core.Path.{_≡_, refl, sym, ap, _∙_}
+use mathlib.Core.Bool.{Bool, true, false, cond}
+use mathlib.Core.List.{List, [], _∷_}
 use native.Mathlib.Omega.{arith}
-use lib.Dec.{eqb}
 use lib.ListN.{length, take, drop}
-use borrow.Author.Tests.{eq-eqb, ne-eqb}
 use Rattle.field.specs.Field.{part, splice, beBytes}
-use Rattle.field.proofs.Laws.{splice-join, splice-part, length-splice}
+use Rattle.field.proofs.Laws.{splice-join, splice-part}
 use Rattle.lists.specs.Lists.{upper}
 use Rattle.lists.proofs.Searches.{less-one}
 use Rattle.block.specs.Block.{countIn, startAt, messageAt, messagesFrom, messagesOf, checked}
@@ -21,7 +18,7 @@ use Rattle.book.specs.declared.Tally.{Tally}
 use Rattle.book.specs.Opening.{sound, symbolsOf}
 use Rattle.book.specs.Call.{Told, quads, tally, isAccepted, isPartly, isRejected, messageOn, messagesOn, toldOn}
 use Rattle.book.specs.Code.{toldOne, quad, tallyWith, tallyOf, Ran, ran}
-use Rattle.book.proofs.OpeningLaws.{Sound, sound-is, sound-of}
+use Rattle.book.proofs.OpeningLaws.{sound-is, sound-of}
 use Rattle.book.proofs.PageLaws.{OpeningKept, kept-sound}
 use Rattle.book.proofs.SoundLaws.{message-kept}
 

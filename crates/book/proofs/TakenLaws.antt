@@ -12,12 +12,11 @@ use Rattle.field.specs.Field.{part, splice}
 use Rattle.field.proofs.Laws.{splice-part}
 use Rattle.block.specs.Block.{messagesOf, countIn, idleBlock, checked}
 use Rattle.book.specs.declared.Line.{Line}
-use Rattle.book.specs.declared.Report.{Report}
 use Rattle.book.specs.declared.Gate.{Gate}
 use Rattle.book.specs.declared.Gate.the-variants as gate
-use Rattle.book.specs.Opening.{sound, lineAt, lineBytes, linesIn, restIn, pagesIn}
-use Rattle.book.specs.Call.{take, Told, Answer, bare, onLine, blockNumber, numberOf, done, letterOf, lineAnswer, answerOf, quads, tally, isAccepted, isPartly, isRejected, gapTold, report, lineAfter, advanced, messagesOn, toldOn, publishedOn, advanceOn, afterCall, listedOf, numberOn, answerOn, call}
-use Rattle.book.specs.Code.{tallyOf, Ran, ran, gateBy, gateOn, gateOf, reportOf, TakenBlock, taken}
+use Rattle.book.specs.Opening.{sound, lineAt, lineBytes, linesIn, restIn}
+use Rattle.book.specs.Call.{Answer, bare, onLine, blockNumber, numberOf, done, letterOf, lineAnswer, answerOf, quads, tally, gapTold, report, lineAfter, advanced, messagesOn, toldOn, advanceOn, afterCall, numberOn, call}
+use Rattle.book.specs.Code.{Ran, ran, gateOn, gateOf, reportOf, TakenBlock, taken}
 use Rattle.lists.specs.Lists.{upper}
 use Rattle.lists.proofs.Tests.{clash}
 use borrow.Author.Tests.{ltb-false}

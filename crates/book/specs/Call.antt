@@ -1,14 +1,14 @@
 -- The seven calls: `call` gives the bytes after a call and its whole answer.
 -- Assumes nothing.
-use Prim.Native.Nat.{ℕ, zero, suc, _+_, _*_, _%_}
+use Prim.Native.Nat.{ℕ, _+_, _%_}
 use mathlib.Core.Bool.{Bool, true, false, not, _&&_, cond}
 use mathlib.Core.List.{List, [], _∷_, _++_, map}
 use mathlib.Core.Option.{Option, none, some}
 use lib.Dec.{ltb, leb, eqb}
 use lib.ListN.{length}
 use lib.Bits.{bitOr}
-use Rattle.field.specs.Field.{be, part, field, splice, beBytes}
-use Rattle.lists.specs.Lists.{at, member, isSome}
+use Rattle.field.specs.Field.{be, splice, beBytes}
+use Rattle.lists.specs.Lists.{member, isSome}
 use Rattle.block.specs.Block.{countIn, sequenceIn, messagesOf, checked, idleBlock}
 use Rattle.block.specs.Sequence.{arrivalOf}
 use Rattle.block.specs.declared.Checked.{Checked}
@@ -16,7 +16,7 @@ use Rattle.block.specs.declared.Checked.the-variants as checks
 use Rattle.block.specs.declared.Arrival.{Arrival}
 use Rattle.block.specs.declared.Arrival.the-variants.{Taken, Duplicate}
 use Rattle.message.specs.Form.{symbolGood, letterGood}
-use Rattle.message.specs.Message.{Known, symbolOf, codeOf, Part, roundPart, oddPart, makerPart, finraPart, partsOf, partlyTaken}
+use Rattle.message.specs.Message.{symbolOf, codeOf, Part, roundPart, oddPart, makerPart, finraPart, partsOf, partlyTaken}
 use Rattle.entries.specs.Publication.{changeFlags}
 use Rattle.page.specs.Page.{Reading, knownOf, roundOn, oddOnPage, makerOn, finraOn, blankPage, emptied}
 use Rattle.book.specs.declared.Line.{Line}

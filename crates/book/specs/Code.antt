@@ -1,12 +1,12 @@
 -- The calls in the pieces that the code has: lines as they stand, one message, a block's run, the checks of a block call, and what the two calls with
 -- buffers leave. Each piece is said by `Call.antt`.
 -- Assumes nothing.
-use Prim.Native.Nat.{ℕ, zero, suc, _+_, _*_}
-use mathlib.Core.Bool.{Bool, true, false, cond}
-use mathlib.Core.List.{List, [], _∷_, _++_}
+use Prim.Native.Nat.{ℕ, zero, suc, _+_}
+use mathlib.Core.Bool.{Bool, cond}
+use mathlib.Core.List.{List, [], _∷_}
 use mathlib.Core.Option.{Option, none, some}
 use lib.Bits.{bitOr}
-use lib.Dec.{ltb, eqb}
+use lib.Dec.{ltb}
 use lib.ListN.{length}
 use Rattle.field.specs.Field.{part, splice}
 use Rattle.block.specs.Block.{countIn, messagesOf}

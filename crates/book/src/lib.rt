@@ -1,17 +1,17 @@
 // The book: an opening, then a page for each symbol. The seven calls.
 ghost use mathlib.Core.Path.{_≡_};
 ghost use mathlib.Core.Bool.{true, cond};
-ghost use Prim.Native.Nat.{_+_, _*_, _-_, _%_, _≤_, _<_};
+ghost use Prim.Native.Nat.{_+_, _*_, _-_, _≤_, _<_};
 ghost use lib.Dec.{eqb};
 ghost use lib.ListN.{length};
 ghost use Rattle.field.specs.Field.{be, field, part, splice};
 ghost use Rattle.lists.specs.Lists.{upper, member};
-ghost use Rattle.block.specs.Block.{checked, messagesOf};
+ghost use Rattle.block.specs.Block.{checked};
 ghost use Rattle.block.specs.Sequence.{nextOf};
 ghost use Rattle.message.specs.Form.{letterGood};
 ghost use Rattle.message.specs.Message.{messageOf};
 ghost use Rattle.page.specs.Page.{emptied, finraOn};
-ghost use Rattle.book.specs.Opening.{symbolsOf, countOf, sound, lineAt, lineBytes, linesIn, restIn, pageStart, pagePlace, eachPage, restarted, restartLines};
+ghost use Rattle.book.specs.Opening.{symbolsOf, sound, lineAt, lineBytes, linesIn, pagePlace, eachPage, restarted, restartLines};
 ghost use Rattle.book.specs.Call.{Told, isRejected, Outcome, bare, call, make, add, openLine, startDay, endDay, lots, blockNumber, lineAfter, numberOn, messageOn};
 ghost use Rattle.book.specs.Code.{opened, orFrom, pageFlags, finraFlags, toldOne, quad, tallyWith, gateBy, gateOf, Ran, ran, TakenBlock, taken, ReadOut, readOut};
 use block::Arrival;

@@ -1,7 +1,7 @@
 -- The walk gives the page's six entries: makers and letters one after another, one level for each letter and side.
 -- Assumes nothing.
 use Prim.Native.Nat.{ℕ, _+_, _^_, _≤_, _<_}
-use mathlib.Core.Path.{_≡_, refl, sym, ap, ap₂, _∙_}
+use mathlib.Core.Path.{_≡_, refl, sym, ap, _∙_}
 use mathlib.Core.Bool.{Bool, true, false, _&&_, cond}
 use mathlib.Core.List.{List, [], _∷_, map}
 use mathlib.Core.Option.{Option, none, some}
@@ -22,7 +22,7 @@ use Rattle.ranking.specs.declared.Side.the-variants.{Bid, Offer}
 use Rattle.ranking.specs.declared.Candidate.{Candidate}
 use Rattle.ranking.specs.declared.Sides.{Sides}
 use Rattle.ranking.specs.Ranking.{better, best}
-use Rattle.ranking.specs.Choice.{rankOf, noCandidate, orNone, ofSide, choose, reaching, bestFrom, bothSides, noSides, sidesFrom, beyondOf}
+use Rattle.ranking.specs.Choice.{rankOf, noCandidate, orNone, ofSide, choose, reaching, bestFrom, noSides, sidesFrom, beyondOf}
 use Rattle.ranking.proofs.OrderLaws.{keep, either}
 use Rattle.ranking.proofs.ReachingLaws.{reach-none, reach-choose, reach-from, reach-twice, reach-all, reach-best, beyond-found}
 use Rattle.ranking.proofs.Bridge.{OrCounting, live-counts, live-back, fits-or, side-best, best-counts, choose-either}

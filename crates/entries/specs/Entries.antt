@@ -1,7 +1,7 @@
 -- The six best entries of a symbol (document 01, "Best entries"), from its letters' quotes, the makers that stand and its letters' levels.
 -- Assumes nothing.
 use Prim.Native.Nat.{ℕ}
-use mathlib.Core.Bool.{Bool, true, false, cond}
+use mathlib.Core.Bool.{Bool, true, cond}
 use mathlib.Core.List.{List, []}
 use mathlib.Core.Option.{Option, none, some}
 use lib.Dec.{eqb}

@@ -6,11 +6,10 @@ use native.Mathlib.Nat.{mul-add, mul-assoc, mul-comm, pow-suc, pow-succ', mod-eq
 use native.Mathlib.Omega.{arith}
 use native.Mathlib.Numerals.{add-one}
 use lib.Dec.{lit<}
-use lib.ListN.{length, take, drop, getD}
-use lib.Seq.{drop-cons}
+use lib.ListN.{length, take, drop}
 use Rattle.field.specs.Field.{Bytes, be, beBytes, part, field, splice}
 use Rattle.field.specs.Low.{le, leBytes, low, swapped}
-use Rattle.field.proofs.Laws.{pow256-pos, be-append, length-beBytes, bytes-beBytes, beBytes-join, beBytes-one, beBytes-mod, part-join, part-part, length-part, bytes-part, splice-join}
+use Rattle.field.proofs.Laws.{be-append, length-beBytes, bytes-beBytes, beBytes-join, part-join, part-part, length-part, bytes-part, splice-join}
 
 -- ---- le
 

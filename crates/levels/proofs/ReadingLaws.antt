@@ -21,7 +21,7 @@ use Rattle.levels.specs.declared.Item.{Item}
 use Rattle.levels.specs.declared.Pair.{Pair}
 use Rattle.levels.specs.declared.Changed.{Changed}
 use Rattle.levels.specs.declared.Judged.the-variants.{Refused}
-use Rattle.levels.specs.Levels.{without, insert, itemOn, itemsOn, clearedBy, emptyCell, behind, ranked}
+use Rattle.levels.specs.Levels.{without, insert, itemOn, itemsOn, clearedBy, emptyCell, ranked}
 use Rattle.levels.specs.Cells.{padded, cellsOf, leads, standing, standingBehind, orderedOf, keptOf, overOf, headOr, withoutOf, holdsOf, replacedOf, passed, levelOf, withItem, withItems, onPass, clears, noCells, withPart}
 use Rattle.levels.proofs.LevelLaws.{Behind, Ranked, Lacks, cell-priced, behind-lacks, without-none, without-short, insert-front, item-short, item-ranked, cleared-elim}
 

@@ -1,7 +1,7 @@
 -- The odd-lot levels of one letter, and what an odd part does to them (document 01, "Odd part" and numbers 60 to 64).
 -- Assumes nothing.
 use Prim.Native.Nat.{ℕ, zero, suc, _+_, _*_}
-use mathlib.Core.Bool.{Bool, true, false, not, _&&_, cond}
+use mathlib.Core.Bool.{Bool, true, _&&_, cond}
 use mathlib.Core.List.{List, [], _∷_, _++_}
 use mathlib.Core.Option.{Option, none, some}
 use lib.Dec.{ltb, leb, eqb}
@@ -13,7 +13,7 @@ use Rattle.ranking.specs.declared.Side.the-variants.{Bid, Offer}
 use Rattle.ranking.specs.Ranking.{ahead}
 use Rattle.quote.specs.declared.Level.{Level}
 use Rattle.levels.specs.declared.Item.{Item}
-use Rattle.quote.specs.Quote.{noLevel, levelIn, levelBytes}
+use Rattle.quote.specs.Quote.{levelIn, levelBytes}
 
 -- what stands of one letter, each side best first, no price twice
 pub record Standing : Type 0 where

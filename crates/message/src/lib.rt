@@ -7,7 +7,7 @@ ghost use lib.ListN.{length, drop};
 ghost use Rattle.field.specs.Field.{field};
 ghost use Rattle.lists.specs.Lists.{at, every, member, upper};
 ghost use Rattle.message.specs.Form.{space, padded, follows, symbolGood, makerGood};
-ghost use Rattle.message.specs.Message.{controlKind, quoteKind, kindOf, timeOf, levelAt, quoteAt, makerName, oddAt, roundConditions, makerConditions, sideBad, priceFault, quoteFault, testBytes, readInquiry, readTest, readFinra, readRoundLot, readOddLot, readMaker, messageOf};
+ghost use Rattle.message.specs.Message.{controlKind, quoteKind, kindOf, levelAt, quoteAt, oddAt, roundConditions, makerConditions, sideBad, priceFault, quoteFault, testBytes, readInquiry, readTest, readFinra, readRoundLot, readOddLot, readMaker, messageOf};
 use quote::Level;
 use quote::Quote;
 

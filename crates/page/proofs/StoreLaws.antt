@@ -1,18 +1,16 @@
 -- What the functions on a page owe, over plain values.
 -- Assumes nothing.
-use Prim.Native.Nat.{ℕ, zero, suc, _+_, _*_, _-_, _≤_, _<_}
+use Prim.Native.Nat.{ℕ, suc, _+_, _-_, _≤_, _<_}
 use mathlib.Core.Path.{_≡_, refl, sym, ap, ap₂, _∙_}
-use mathlib.Core.Bool.{Bool, true, false, not, cond}
+use mathlib.Core.Bool.{Bool, true, false, cond}
 use mathlib.Core.List.{List, [], _∷_, _++_, append-nil}
-use mathlib.Core.Option.{Option, none, some}
+use mathlib.Core.Option.{none, some}
 use native.Mathlib.Omega.{arith}
-use native.Mathlib.Numerals.{add-one}
 use lib.Dec.{eqb, lit≤}
 use lib.ListN.{length, take, drop, set, replicate, length-append, length-replicate, drop-of-length-le}
 use lib.Seq.{take-add, take-all}
-use borrow.Author.Tests.{eq-eqb, ne-eqb}
 use Rattle.field.specs.Field.{Bytes, part, field, splice, beBytes}
-use Rattle.field.proofs.Laws.{field-part, field-part-0, splice-part, splice-join, splice-inside, splice-one, length-splice, length-beBytes, length-part, beBytes-field, beBytes-one, part-put}
+use Rattle.field.proofs.Laws.{field-part, field-part-0, splice-part, splice-join, splice-inside, splice-one, length-beBytes, beBytes-field, beBytes-one, part-put}
 use Rattle.lists.specs.Lists.{isSome, member}
 use Rattle.lists.proofs.Searches.{less-one}
 use Rattle.quote.specs.declared.Quote.{Quote}

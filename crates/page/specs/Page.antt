@@ -8,7 +8,7 @@ use mathlib.Core.Option.{Option, none, some}
 use lib.Dec.{eqb}
 use lib.ListN.{length, replicate}
 use Rattle.field.specs.Field.{part, field, splice, beBytes}
-use Rattle.lists.specs.Lists.{isSome, orElse, firstFrom, member}
+use Rattle.lists.specs.Lists.{isSome, orElse, firstFrom}
 use Rattle.lists.specs.declared.Found.{Found}
 use Rattle.lists.specs.declared.Found.the-variants.{At, Nothing}
 use Rattle.quote.specs.declared.Quote.{Quote}

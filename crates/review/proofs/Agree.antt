@@ -9,12 +9,12 @@ use lib.Dec.{eqb}
 use lib.ListN.{length}
 use Rattle.lists.specs.Lists.{isSome}
 use Rattle.lists.proofs.Tests.{Cut, equal, apart, cut}
-use Rattle.message.specs.Message.{Known, Part}
+use Rattle.message.specs.Message.{Part}
 use Rattle.entries.specs.Entries.{entriesOf, entriesBy, finraBest}
 use Rattle.entries.specs.Publication.{publication}
 use Rattle.entries.specs.Page.{occupied}
 use Rattle.page.specs.Page.{Reading, findMaker, knownBy, knownOf}
-use Rattle.book.specs.Call.{Listed, isListed, lotOf, findReading, listing, listedOf}
+use Rattle.book.specs.Call.{Listed, isListed, lotOf, findReading, listedOf}
 use Rattle.review.specs.Reviewer.{quoteOf, makerOf, makersOf, levelsOf, reviewedBy, knownTo}
 use Rattle.review.proofs.CellLaws.{Sole}
 use Rattle.review.proofs.HistoryLaws.{same-count, same-finra}

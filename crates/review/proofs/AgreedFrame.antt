@@ -3,7 +3,7 @@
 use Prim.Native.Nat.{ℕ}
 use mathlib.Core.Path.{_≡_, refl, sym, ap, _∙_}
 use mathlib.Core.Bool.{Bool, true, false, cond}
-use mathlib.Core.List.{List, [], _∷_}
+use mathlib.Core.List.{List, []}
 use mathlib.Core.Option.{Option, none, some}
 use Rattle.field.specs.Field.{Bytes, field}
 use Rattle.lists.specs.declared.Found.{Found}
@@ -12,7 +12,7 @@ use Rattle.page.proofs.EntryLaws.{bytes-every}
 use Rattle.block.specs.Block.{messagesOf}
 use Rattle.book.specs.declared.Line.{Line}
 use Rattle.book.specs.Opening.{linesIn, restIn, pageAt, pagesIn, pagePlace}
-use Rattle.book.specs.Call.{Call, take, listedOf, numberOf, done, letterOf, toldOn, numberOn, call}
+use Rattle.book.specs.Call.{take, listedOf, numberOf, done, letterOf, toldOn, call}
 use Rattle.book.proofs.OpeningLaws.{Sound}
 use Rattle.book.proofs.PageLaws.{place-hit}
 use Rattle.book.proofs.NumberLaws.{number-same, take-done}

@@ -3,7 +3,7 @@
 use Prim.Native.Nat.{ℕ}
 use mathlib.Core.Path.{_≡_, refl, sym, ap, _∙_}
 use mathlib.Core.Bool.{Bool, true, false, cond}
-use mathlib.Core.List.{List, [], _∷_}
+use mathlib.Core.List.{List}
 use mathlib.Core.Option.{Option, none, some}
 use lib.Dec.{eqb}
 use Rattle.field.specs.Field.{Bytes, be}
@@ -11,8 +11,8 @@ use Rattle.lists.proofs.Tests.{clash}
 use Rattle.block.specs.Block.{messagesOf}
 use Rattle.page.proofs.EntryLaws.{bytes-every}
 use Rattle.book.specs.declared.Line.{Line}
-use Rattle.book.specs.Opening.{linesIn, Rest, restIn, pagesIn}
-use Rattle.book.specs.Call.{Call, make, add, openLine, startDay, endDay, take, read, Listed, isListed, findReading, listedOf, numberOf, done, Told, bare, lineAnswer, published, letterOf, answerOf, toldOn, entriesIn, publishedOn, numberOn, answerOn, call}
+use Rattle.book.specs.Opening.{linesIn, restIn, pagesIn}
+use Rattle.book.specs.Call.{Call, make, add, openLine, startDay, endDay, take, read, Listed, isListed, findReading, listedOf, numberOf, done, bare, lineAnswer, published, letterOf, answerOf, toldOn, entriesIn, publishedOn, numberOn, answerOn, call}
 use Rattle.book.proofs.OpeningLaws.{Sound, sound-is}
 use Rattle.book.proofs.LineLaws.{line-upper, line-open}
 use Rattle.book.proofs.NumberLaws.{number-same, read-done}
@@ -21,7 +21,7 @@ use Rattle.review.specs.Lists.{blockIsBytes}
 use Rattle.review.proofs.Agree.{good-reviewed, Core, ReadingOf, missing, found, reading-of}
 use Rattle.review.proofs.WorkLaws.{told-same}
 use Rattle.review.proofs.BytesLaws.{messages-bytes, told-done}
-use Rattle.review.proofs.CallLaws.{Held, Agrees, viewOf, view-is}
+use Rattle.review.proofs.CallLaws.{Agrees, viewOf, view-is}
 
 module _ (n : ℕ) (b : List ℕ) (h : List (List ℕ)) (sd : Sound n b) (y : Bytes b) (c : Core (parts h) (pagesIn b)) where
   abbrev ls : List Listed

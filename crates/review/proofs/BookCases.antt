@@ -1,13 +1,13 @@
 -- The tables of cases hold of the book, from memory of any bytes in which make has just answered 0: computed on the reviewer, carried over by demand 3.
 -- Assumes nothing.
 use Prim.Native.Nat.{ℕ}
-use mathlib.Core.Path.{_≡_, refl, sym, ap, _∙_}
-use mathlib.Core.Bool.{Bool, true, false, _&&_}
+use mathlib.Core.Path.{_≡_, refl, ap, _∙_}
+use mathlib.Core.Bool.{Bool, true, _&&_}
 use mathlib.Core.List.{List, [], _∷_}
 use Rattle.field.specs.Field.{beBytes}
 use Rattle.lists.specs.Lists.{every}
 use Rattle.lists.proofs.Tests.{and-true}
-use Rattle.book.specs.Call.{make, Answer, call, answers}
+use Rattle.book.specs.Call.{make, call, answers}
 use Rattle.review.specs.Lists.{blocksAreBytes}
 use Rattle.review.proofs.Demand3.{demand3}
 use Rattle.review.proofs.Rows.{allTold, Row, answered, Answered, end, _▹_}

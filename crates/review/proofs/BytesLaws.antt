@@ -1,13 +1,12 @@
 -- The messages of a block on a book's bytes are those on its readings.
 -- Assumes nothing.
-use Prim.Native.Nat.{ℕ, zero, suc, _+_, _*_, _≤_, _<_}
-use mathlib.Core.Path.{_≡_, refl, sym, ap, _∙_}
+use Prim.Native.Nat.{ℕ, zero, suc, _+_}
+use mathlib.Core.Path.{_≡_, refl, ap, _∙_}
 use mathlib.Core.Bool.{Bool, true, false, cond}
 use mathlib.Core.List.{List, [], _∷_}
 use native.Mathlib.Omega.{arith}
 use lib.Dec.{eqb}
-use lib.ListN.{length}
-use Rattle.field.specs.Field.{Bytes, part}
+use Rattle.field.specs.Field.{Bytes}
 use Rattle.field.proofs.Laws.{bytes-part}
 use Rattle.lists.specs.Lists.{at, member, upper}
 use Rattle.lists.proofs.Tests.{Cut, equal, apart, cut}
@@ -16,9 +15,8 @@ use Rattle.message.specs.declared.Kind.the-variants as kind
 use Rattle.message.specs.Message.{kindOf, symbolOf, oddAt, Known, codeOf, Part, roundOf, wholeBy, partlyTaken, partsOf, roundLotOdd, oddLotOdd}
 use Rattle.block.specs.Block.{countIn, messageAt, messagesFrom, messagesOf}
 use Rattle.page.specs.Page.{Reading, knownOf}
-use Rattle.page.proofs.Model.{partReading}
 use Rattle.book.specs.Opening.{pagesIn}
-use Rattle.book.specs.Call.{findReading, partOn, partsOn, codeOn, messageOn, messagesOn, Told, flagsOf, publications, toldOn}
+use Rattle.book.specs.Call.{findReading, partOn, partsOn, codeOn, messageOn, messagesOn, flagsOf, publications, toldOn}
 use Rattle.book.proofs.OpeningLaws.{Sound}
 use Rattle.book.proofs.PageLaws.{OpeningKept, opening-none, opening-then, kept-sound}
 use Rattle.book.proofs.PartLaws.{PartGood, PartDone, part-done}

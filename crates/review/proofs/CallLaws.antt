@@ -1,6 +1,6 @@
 -- Each call keeps the book and the reviewer together, and its answer is the reviewer's.
 -- Assumes nothing.
-use Prim.Native.Nat.{ℕ, _+_, _*_, _^_, _%_, _≤_, _<_}
+use Prim.Native.Nat.{ℕ, _+_, _^_, _%_, _≤_, _<_}
 use mathlib.Core.Path.{_≡_, refl, sym, ap, _∙_}
 use mathlib.Core.Bool.{Bool, true, false, cond}
 use mathlib.Core.List.{List, [], _∷_, _++_, map}
@@ -8,37 +8,35 @@ use mathlib.Core.Option.{Option, none, some}
 use native.Mathlib.Omega.{arith}
 use lib.Dec.{ltb, leb, eqb, lit<, lit≤}
 use lib.ListN.{length}
-use borrow.Author.Tests.{ltb-true}
 use Rattle.field.specs.Field.{Bytes, be, part, field, splice}
 use Rattle.field.proofs.Laws.{field-lt, length-part, bytes-part}
-use Rattle.lists.specs.Lists.{upper, mapOption}
+use Rattle.lists.specs.Lists.{mapOption}
 use Rattle.lists.proofs.Tests.{clash}
 use Rattle.message.specs.Form.{letterGood}
 use Rattle.block.specs.Block.{countIn, sequenceIn, messagesOf, idleBlock}
 use Rattle.block.specs.Sequence.{gapOf, nextOf, arrivalOf}
-use Rattle.block.specs.declared.Arrival.{Arrival}
 use Rattle.block.specs.declared.Arrival.the-variants.{Taken, Duplicate}
 use Rattle.page.specs.Page.{emptied}
 use Rattle.page.proofs.Model.{blankReading, blanked}
 use Rattle.page.proofs.EntryLaws.{bytes-every}
 use Rattle.page.proofs.BlankLaws.{emptied-kept, emptied-reads}
 use Rattle.book.specs.declared.Line.{Line}
-use Rattle.book.specs.Opening.{symbolsOf, countOf, lineAt, lineIn, linesIn, Rest, restIn, pagesIn, eachPage, freshBytes, restartLines}
-use Rattle.book.specs.Call.{Call, make, add, openLine, startDay, endDay, take, read, Listed, isListed, findReading, listedOf, numberOf, done, bare, lineAnswer, published, nextBy, advanced, letterOf, Answer, answerOf, messagesOn, toldOn, entriesIn, publishedOn, advanceOn, afterCall, isMake, numberOn, answerOn, call}
-use Rattle.book.proofs.OpeningLaws.{Sound, sound-is, rest-by}
+use Rattle.book.specs.Opening.{symbolsOf, countOf, lineAt, lineIn, linesIn, restIn, pagesIn, eachPage, restartLines}
+use Rattle.book.specs.Call.{Call, make, add, openLine, startDay, endDay, take, read, Listed, listedOf, numberOf, done, nextBy, advanced, letterOf, messagesOn, advanceOn, afterCall, call}
+use Rattle.book.proofs.OpeningLaws.{Sound, rest-by}
 use Rattle.book.proofs.PageLaws.{OpeningKept, kept-sound, each-kept, each-reads}
 use Rattle.book.proofs.LineLaws.{LineFits, line-upper, line-open, lined, lined-pages, lined-rest}
-use Rattle.book.proofs.DayLaws.{dayed-pages, dayed-rest, restartedLine, relined-sound, relined-pages, relined-rest}
+use Rattle.book.proofs.DayLaws.{dayed-pages, dayed-rest, relined-sound, relined-pages, relined-rest}
 use Rattle.book.proofs.FreshLaws.{fresh-rest, fresh-pages}
 use Rattle.book.proofs.AddLaws.{added, added-rest, added-pages}
-use Rattle.book.proofs.NumberLaws.{number-same, make-done, page-free, AddDone, add-done, open-done, take-done, read-done, symbol-eleven, lot-fits}
+use Rattle.book.proofs.NumberLaws.{number-same, page-free, AddDone, add-done, open-done, take-done, symbol-eleven}
 use Rattle.book.proofs.SoundLaws.{Stays, call-stays}
-use Rattle.review.specs.Reviewer.{parts, reviewed, messagesR, toldR, Review, setLine, restart, restAfter, symbolsAfter, historyAfter, reviewCall, reviewAnswer}
+use Rattle.review.specs.Reviewer.{parts, messagesR, Review, setLine, restart, restAfter, symbolsAfter, historyAfter, reviewCall}
 use Rattle.review.specs.Lists.{blockIsBytes}
-use Rattle.review.proofs.Agree.{Good, good-reviewed, Core, ReadingOf, missing, found, reading-of}
+use Rattle.review.proofs.Agree.{Core}
 use Rattle.review.proofs.ListLaws.{core-none, emptied-listed, core-emptied, added-listed, core-added}
-use Rattle.review.proofs.WorkLaws.{messagesReading, messages-core, messages-listed, told-same}
-use Rattle.review.proofs.BytesLaws.{Done, messages-bytes, messages-done, told-done}
+use Rattle.review.proofs.WorkLaws.{messagesReading, messages-core, messages-listed}
+use Rattle.review.proofs.BytesLaws.{Done, messages-bytes, messages-done}
 
 -- what the book's bytes and the reviewer share
 pub record Held (b : List ℕ) (v : Review) : Type 0 where

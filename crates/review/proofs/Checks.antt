@@ -6,8 +6,8 @@ use mathlib.Core.List.{List, [], _∷_, _++_}
 use lib.ListN.{replicate, set}
 use Rattle.field.specs.Field.{beBytes}
 use Rattle.lists.specs.Lists.{range}
-use Rattle.book.specs.Call.{Call, make, add, openLine, startDay, endDay, take, read}
-use Rattle.review.proofs.Rows.{header, quoted, odds, item, roundLot, oddLot, maker, control, framed, sealed, block, only, refused, accepted, partly, rejected, nothing, shown, zt, roundOf, noOdd, plain, unknown, onN, onP, onD, look, Row, inDay, fromMake, answered, Answered, end, _▹_}
+use Rattle.book.specs.Call.{make, add, openLine, startDay, endDay, take, read}
+use Rattle.review.proofs.Rows.{header, quoted, odds, item, oddLot, maker, control, framed, sealed, block, only, refused, accepted, partly, rejected, nothing, shown, zt, roundOf, noOdd, plain, unknown, onN, onP, onD, look, Row, inDay, fromMake, answered, Answered, end, _▹_}
 
 -- this many bytes, then spaces to eleven
 abbrev symbol : List ℕ → ℕ → List ℕ

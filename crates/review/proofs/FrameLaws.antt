@@ -22,9 +22,9 @@ use Rattle.page.proofs.MakerLaws.{maker-kept}
 use Rattle.page.proofs.SpokenLaws.{Shaped, AllShaped, shaped}
 use Rattle.book.specs.declared.Line.{Line}
 use Rattle.book.specs.Opening.{symbolsOf, sound, linesIn, restIn, pageAt, pagesIn, onPage}
-use Rattle.book.specs.Call.{Call, take, listedOf, findReading, done, advanced, letterOf, Told, partOn, partsOn, codeOn, messageOn, messagesOn, toldOn, advanceOn, afterCall, numberOn, call}
+use Rattle.book.specs.Call.{take, listedOf, findReading, done, advanced, letterOf, partOn, partsOn, codeOn, messageOn, messagesOn, toldOn, advanceOn, afterCall, numberOn, call}
 use Rattle.book.proofs.OpeningLaws.{Sound, sound-of}
-use Rattle.book.proofs.PageLaws.{OpeningKept, kept-sound, place-hit, on-other}
+use Rattle.book.proofs.PageLaws.{kept-sound, place-hit, on-other}
 use Rattle.book.proofs.PartLaws.{part-kept}
 use Rattle.book.proofs.LineLaws.{line-upper, line-open, lined-page}
 use Rattle.book.proofs.NumberLaws.{number-same, unsound, take-done}

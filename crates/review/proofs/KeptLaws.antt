@@ -1,21 +1,20 @@
 -- What the history keeps of a message are the parts that the book works.
 -- Assumes nothing.
-use Prim.Native.Nat.{ℕ, _+_, _≤_, _<_}
+use Prim.Native.Nat.{ℕ, _+_, _≤_}
 use mathlib.Core.Path.{_≡_, refl, sym, ap, _∙_}
 use mathlib.Core.Bool.{Bool, true, false, cond}
 use mathlib.Core.List.{List, [], _∷_, _++_}
 use native.Mathlib.Omega.{arith}
-use lib.Dec.{leb, eqb}
+use lib.Dec.{eqb}
 use lib.ListN.{length, take}
 use lib.Seq.{getD-take, length-take-le}
 use borrow.Author.Tests.{leb-true, eq-eqb, ne-eqb}
 use Rattle.field.specs.Field.{part, field}
 use Rattle.field.proofs.Laws.{field-part}
-use Rattle.lists.specs.Lists.{at}
 use Rattle.lists.proofs.Tests.{clash, Cut, equal, apart, cut}
 use Rattle.message.specs.declared.Kind.{Kind}
 use Rattle.message.specs.declared.Kind.the-variants as kind
-use Rattle.message.specs.Message.{kindOf, timeOf, symbolOf, levelAt, quoteAt, roundLotOdd, oddLotOdd, Part, roundPart, roundOf, oddPartOf, partlyBy, partlyTaken, wholeBy, partsOf}
+use Rattle.message.specs.Message.{kindOf, timeOf, symbolOf, levelAt, quoteAt, Part, roundPart, roundOf, partlyBy, partlyTaken, wholeBy, partsOf}
 use Rattle.review.specs.Reviewer.{partsBy, parts, kept}
 use Rattle.review.proofs.CodeLaws.{Takes, takes-whole, takes-partly}
 

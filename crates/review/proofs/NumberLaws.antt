@@ -1,8 +1,8 @@
 -- Every number is one of document 01's, and every code; on any bytes.
 -- Assumes nothing.
 use Prim.Native.Nat.{ℕ}
-use mathlib.Core.Path.{_≡_, refl, sym, ap, _∙_}
-use mathlib.Core.Bool.{Bool, true, false, not, _&&_, cond}
+use mathlib.Core.Path.{_≡_, refl}
+use mathlib.Core.Bool.{Bool, true, false, _&&_, cond}
 use mathlib.Core.List.{List, [], _∷_, _++_}
 use mathlib.Core.Option.{Option, none, some}
 use lib.Dec.{ltb, leb, eqb}
@@ -19,13 +19,13 @@ use Rattle.message.specs.declared.Message.{Message}
 use Rattle.message.specs.declared.Message.the-variants as says
 use Rattle.message.specs.Message.{kindOf, quoteAt, makerName, roundLotOdd, oddLotOdd, oddOf, oddLength, sideBad, roundConditions, makerConditions, priceFault, quoteFault, isD, testBytes, readInquiry, readTest, readFinra, readRoundLot, readOddLot, readMaker, readBy, isUnknown, messageOf, Known, makerCode, codeBy, codeOf}
 use Rattle.block.specs.Block.{countIn, sequenceIn, checksumOf, lengthGood, tableGood, controlAmong, checked, idleBlock}
-use Rattle.block.specs.Sequence.{gapOf, nextOf, arrivalOf}
+use Rattle.block.specs.Sequence.{arrivalOf}
 use Rattle.block.specs.declared.Checked.{Checked}
 use Rattle.block.specs.declared.Checked.the-variants as checks
 use Rattle.block.specs.declared.Arrival.{Arrival}
 use Rattle.block.specs.declared.Arrival.the-variants.{Taken, Duplicate}
 use Rattle.book.specs.declared.Line.{Line}
-use Rattle.book.specs.Opening.{sound, linesIn, Rest, restIn, pagesIn}
+use Rattle.book.specs.Opening.{sound, Rest, restIn, pagesIn}
 use Rattle.book.specs.Call.{Call, make, add, openLine, startDay, endDay, take, read, Listed, isListed, listedOf, lots, arrivalNumberOf, lineNumber, checkedNumberOf, blockNumber, onLine, numberOf, makeGood, isMake, numberOn}
 use Rattle.review.specs.Numbers.{numbersOf, codes}
 

@@ -1,6 +1,6 @@
 -- The place of a symbol's page is that of the symbol in the list.
 -- Assumes nothing.
-use Prim.Native.Nat.{ℕ, zero, suc, _+_, _*_, _≤_, _<_}
+use Prim.Native.Nat.{ℕ, zero, suc}
 use mathlib.Core.Path.{_≡_, refl, sym, ap, _∙_}
 use mathlib.Core.Bool.{Bool, true, false, cond}
 use mathlib.Core.Logic.{inl, inr}
@@ -17,7 +17,7 @@ use Rattle.lists.proofs.Tests.{clash}
 use Rattle.lists.proofs.Members.{In}
 use Rattle.page.specs.Page.{Reading, readingOf}
 use Rattle.book.specs.Opening.{countOf, pageAt, pagesIn, pagePlace}
-use Rattle.book.specs.Call.{Listed, isListed, listing, listedOf}
+use Rattle.book.specs.Call.{Listed, isListed, listedOf}
 use Rattle.book.proofs.OpeningLaws.{Sound, length-page}
 use Rattle.page.proofs.SearchLaws.{isAt}
 use Rattle.book.proofs.PageLaws.{place-hit}

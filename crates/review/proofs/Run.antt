@@ -2,7 +2,7 @@
 -- `book` say, then every list of calls is answered as the reviewer answers it.
 -- Assumes nothing.
 use Prim.Native.Nat.{ℕ}
-use mathlib.Core.Path.{_≡_, refl, ap, ap₂, _∙_}
+use mathlib.Core.Path.{_≡_, refl, ap, _∙_}
 use mathlib.Core.Bool.{true}
 use mathlib.Core.List.{List, [], _∷_}
 use Rattle.book.specs.Call.{Call, Answer, Outcome, make, call, answers}

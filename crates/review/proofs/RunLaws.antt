@@ -1,6 +1,6 @@
 -- Lists of calls: the book and the reviewer stay together from a make that answers 0 on, and every symbol held is a well-formed one.
 -- Assumes nothing.
-use Prim.Native.Nat.{ℕ, _≤_}
+use Prim.Native.Nat.{ℕ}
 use mathlib.Core.Path.{_≡_, refl, sym, ap, _∙_}
 use mathlib.Core.Bool.{Bool, true, false, _&&_, cond}
 use mathlib.Core.Logic.{inl, inr}
@@ -8,15 +8,15 @@ use mathlib.Core.List.{List, [], _∷_, _++_}
 use native.Mathlib.Omega.{arith}
 use lib.Dec.{leb, eqb}
 use lib.ListN.{length}
-use borrow.Author.Tests.{leb-true, eqb-true, eq-eqb}
+use borrow.Author.Tests.{leb-true, eq-eqb}
 use Rattle.field.specs.Field.{be, beBytes}
-use Rattle.lists.proofs.Tests.{clash, and-true}
+use Rattle.lists.proofs.Tests.{and-true}
 use Rattle.lists.proofs.Members.{In}
 use Rattle.message.specs.Form.{symbolGood}
-use Rattle.book.specs.Opening.{bookLength, freshBytes, pagesIn}
+use Rattle.book.specs.Opening.{bookLength, freshBytes}
 use Rattle.book.specs.Call.{Call, make, add, openLine, startDay, endDay, take, read, Listed, isListed, listedOf, numberOf, done, Answer, answerOf, makeGood, numberOn, afterCall, call, bytesAfter, answers}
 use Rattle.book.proofs.FreshLaws.{fresh-sound, fresh-bytes, fresh-rest, fresh-pages}
-use Rattle.book.proofs.NumberLaws.{AddDone, add-done, symbol-back}
+use Rattle.book.proofs.NumberLaws.{add-done, symbol-back}
 use Rattle.review.specs.Reviewer.{parts, reviewed, Review, freshReview, restAfter, symbolsAfter, historyAfter, reviewCall, reviewAnswer, reviewAfter, reviewAnswers}
 use Rattle.review.specs.Lists.{blockIsBytes, blocksAreBytes}
 use Rattle.review.proofs.ListLaws.{core-none}

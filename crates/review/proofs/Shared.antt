@@ -5,8 +5,8 @@ use Prim.Native.Nat.{ℕ, _+_}
 use mathlib.Core.Path.{refl}
 use mathlib.Core.List.{List, [], _∷_, _++_}
 use lib.ListN.{replicate}
-use Rattle.book.specs.Call.{Call, make, add, openLine, startDay, endDay, take, read}
-use Rattle.review.proofs.Rows.{quoted, odds, item, roundLot, oddLot, maker, control, block, only, refused, accepted, partly, rejected, entry, national, odd, nothing, shown, zt, roundOf, noOdd, plain, onN, onP, onD, look, Row, inDay, fromMake, answered, Answered, end, _▹_}
+use Rattle.book.specs.Call.{make, add, openLine, startDay, endDay, take, read}
+use Rattle.review.proofs.Rows.{quoted, odds, item, oddLot, maker, control, block, only, refused, accepted, partly, rejected, entry, national, odd, nothing, shown, zt, roundOf, noOdd, plain, onN, onP, onD, look, Row, inDay, fromMake, answered, Answered, end, _▹_}
 
 -- ---- conditions: a Q K by N with this condition, its flags, the national bid and offer
 

@@ -9,22 +9,21 @@ use native.Mathlib.Omega.{arith}
 use lib.Bits.{or-lt}
 use lib.Dec.{ltb, eqb, lit<}
 use lib.ListN.{length}
-use Rattle.field.specs.Field.{Bytes, field}
+use Rattle.field.specs.Field.{Bytes}
 use Rattle.lists.specs.Lists.{at, member, every}
 use Rattle.lists.proofs.Tests.{clash, Cut, equal, apart, cut}
 use Rattle.entries.specs.Publication.{sameEntry, flag, changeFlags}
 use Rattle.message.specs.declared.Kind.{Kind}
 use Rattle.message.specs.declared.Kind.the-variants as kind
 use Rattle.message.specs.Message.{kindOf, symbolOf, partlyBy, partlyTaken}
-use Rattle.block.specs.Block.{countIn, messagesFrom, messagesOf, checksumOf, lengthGood, tableGood, controlAmong, checked}
-use Rattle.block.specs.declared.Checked.{Checked}
+use Rattle.block.specs.Block.{countIn, messagesFrom, messagesOf}
 use Rattle.block.specs.declared.Checked.the-variants as checks
-use Rattle.block.proofs.CheckLaws.{Table, Passed, passed}
+use Rattle.block.proofs.CheckLaws.{Passed, passed}
 use Rattle.page.specs.Page.{knownOf}
 use Rattle.page.proofs.CellLaws.{member-below}
 use Rattle.book.specs.declared.Line.{Line}
-use Rattle.book.specs.Opening.{sound, linesIn, Rest, restIn, pagesIn}
-use Rattle.book.specs.Call.{Call, take, Listed, findReading, listedOf, checkedNumberOf, blockNumber, onLine, numberOf, done, Told, Answer, bare, quads, tally, isAccepted, isPartly, isRejected, report, gapTold, advanced, lineAnswer, letterOf, answerOf, flagsOf, publications, codeOn, messageOn, toldOn, publishedOn, numberOn, call}
+use Rattle.book.specs.Opening.{sound, Rest, restIn, pagesIn}
+use Rattle.book.specs.Call.{take, Listed, findReading, listedOf, blockNumber, onLine, numberOf, done, Told, Answer, bare, quads, tally, isAccepted, isPartly, isRejected, lineAnswer, letterOf, answerOf, flagsOf, publications, codeOn, messageOn, toldOn, publishedOn, numberOn, call}
 use Rattle.book.proofs.NumberLaws.{unsound}
 use Rattle.book.proofs.TakenLaws.{taken-passes}
 use Rattle.review.specs.Numbers.{codes}

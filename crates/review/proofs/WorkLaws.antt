@@ -1,11 +1,10 @@
 -- The messages of a block, on readings: they stay as the history has them, and codes and flags are the reviewer's.
 -- Assumes nothing.
-use Prim.Native.Nat.{ℕ, _+_, _≤_, _<_}
+use Prim.Native.Nat.{ℕ, _≤_, _<_}
 use mathlib.Core.Path.{_≡_, refl, sym, ap, _∙_}
 use mathlib.Core.Bool.{Bool, true, false, cond}
 use mathlib.Core.Logic.{_⊎_, inl, inr}
 use mathlib.Core.List.{List, [], _∷_}
-use mathlib.Core.Option.{Option, none, some}
 use native.Mathlib.Omega.{arith}
 use lib.Dec.{ltb, eqb}
 use lib.ListN.{length}
@@ -14,12 +13,12 @@ use Rattle.lists.specs.Lists.{isSome}
 use Rattle.lists.proofs.Tests.{clash, Cut, equal, apart, cut}
 use Rattle.message.specs.declared.Kind.{Kind}
 use Rattle.message.specs.declared.Kind.the-variants as kind
-use Rattle.message.specs.Message.{kindOf, symbolOf, makerName, oddAt, Known, makerCode, codeOf, Part, roundPart, oddPart, makerPart, finraPart, roundOf, wholeBy, partlyTaken, partsOf, roundLotOdd}
+use Rattle.message.specs.Message.{kindOf, symbolOf, makerName, oddAt, Known, makerCode, codeOf, Part, roundOf, wholeBy, partlyTaken, partsOf, roundLotOdd}
 use Rattle.entries.specs.Page.{occupied}
 use Rattle.page.specs.Page.{Reading, findMaker, knownBy, knownOf}
 use Rattle.page.proofs.Model.{partReading}
 use Rattle.book.specs.Call.{Listed, isListed, findReading, listedOf, Told, flagsOf, publications}
-use Rattle.review.specs.Reviewer.{parts, kept, reviewed, codeR, messageR, messagesR, entriesR, toldR}
+use Rattle.review.specs.Reviewer.{parts, reviewed, codeR, messageR, messagesR, entriesR, toldR}
 use Rattle.review.proofs.CellLaws.{Room}
 use Rattle.review.proofs.SilentLaws.{names}
 use Rattle.review.proofs.Agree.{Good, good-reviewed, AllGood, Core, ReadingOf, missing, found, reading-of, known-same}

@@ -1,6 +1,5 @@
-use Prim.Native.Nat.{_+_, _*_}
-use mathlib.Core.Path.{_≡_, sym, ap, _∙_}
-use mathlib.Core.Bool.{true, false}
+use mathlib.Core.Path.{_≡_, sym, _∙_}
+use mathlib.Core.Bool.{true}
 use native.Mathlib.Omega.{arith}
 use lib.Dec.{eqb}
 use borrow.Author.Tests.{lt-leb, le-leb, eq-eqb, ne-eqb}
@@ -8,7 +7,7 @@ use borrow.Author.Needs.{needs}
 use Rattle.field.specs.Field.{field}
 use Rattle.field.proofs.Laws.{field-one}
 use Rattle.lists.specs.Lists.{at}
-use Rattle.block.specs.Block.{lengthGood, checksumOf, tableGood, controlAmong, checked, Readable, countIn, spaced}
+use Rattle.block.specs.Block.{lengthGood, checksumOf, tableGood, checked}
 use Rattle.block.proofs.CheckLaws.{table, table-readable}
 use Rattle.block.proofs.check_block.Statement.{statement}
 use Rattle.block.proofs.check_block.Tie as tie

@@ -1,6 +1,4 @@
-use Prim.Native.Nat.{_+_, _≤_}
 use mathlib.Core.Path.{_∙_}
-use native.Mathlib.Omega.{arith}
 use borrow.Author.Needs.{needs}
 use Rattle.field.proofs.Laws.{field-one}
 use Rattle.block.proofs.count.Statement.{statement}

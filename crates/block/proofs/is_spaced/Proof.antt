@@ -1,10 +1,10 @@
 use Prim.Native.Nat.{_-_, _≤_}
-use mathlib.Core.Path.{_≡_, sym}
+use mathlib.Core.Path.{_≡_}
 use borrow.Author.Tests.{lt-leb, le-leb}
 use borrow.Author.Needs.{needs}
 use Rattle.lists.specs.Lists.{all}
 use Rattle.lists.proofs.Searches.{all-start, all-fails, all-again, all-end}
-use Rattle.block.specs.Block.{countIn, spaced, spacedAt}
+use Rattle.block.specs.Block.{spaced, spacedAt}
 use Rattle.block.proofs.is_spaced.Statement.{statement}
 use Rattle.block.proofs.is_spaced.Tie as tie
 

@@ -1,7 +1,6 @@
-use Prim.Native.Nat.{ℕ, _^_, _≤_, _<_}
-use mathlib.Core.Path.{_≡_, sym, ap, _∙_}
+use Prim.Native.Nat.{_^_, _<_}
+use mathlib.Core.Path.{sym, _∙_}
 use native.Mathlib.Omega.{arith}
-use lib.ListN.{length}
 use Rattle.block.proofs.CheckLaws.{Passed, passed}
 use Rattle.book.proofs.GateLaws.{admit-idle, admit-closed, admit-duplicate, admit-taken}
 use borrow.Author.Needs.{needs}

@@ -1,11 +1,10 @@
-use Prim.Native.Nat.{ℕ, _≤_}
+use Prim.Native.Nat.{ℕ}
 use mathlib.Core.Path.{_≡_, sym, ap, _∙_}
-use mathlib.Core.Bool.{Bool, true}
+use mathlib.Core.Bool.{true}
 use native.Mathlib.Omega.{arith}
 use lib.Dec.{eqb}
-use lib.ListN.{length}
 use Rattle.book.specs.Opening.{sound, restIn}
-use Rattle.book.proofs.OpeningLaws.{Sound, sound-of}
+use Rattle.book.proofs.OpeningLaws.{sound-of}
 use Rattle.book.proofs.GateLaws.{judge-unsound, judge-short, judge-closed, judge-refused, judge-admitted}
 use borrow.Author.Needs.{needs}
 use Rattle.book.proofs.judge.Statement.{statement}

@@ -1,4 +1,3 @@
-use lib.Dec.{lit≤}
 use borrow.Author.Needs.{needs}
 use Rattle.book.proofs.one_if.Statement.{statement}
 use Rattle.book.proofs.one_if.Tie as tie

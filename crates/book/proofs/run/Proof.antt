@@ -1,7 +1,5 @@
-use Prim.Native.Nat.{_-_, _≤_, _<_}
-use mathlib.Core.Path.{_≡_, refl}
+use Prim.Native.Nat.{_-_}
 use native.Mathlib.Omega.{arith}
-use lib.ListN.{length}
 use Rattle.block.proofs.CheckLaws.{passed, passed-readable}
 use Rattle.book.proofs.RunLaws.{Going, going-start, going-again, going-end, message-place, message-is}
 use borrow.Author.Needs.{needs}

@@ -1,4 +1,3 @@
-use mathlib.Core.Path.{_≡_, ap, _∙_}
 use Rattle.field.specs.Field.{beBytes}
 use Rattle.entries.specs.Publication.{noEntry, noEntries}
 use Rattle.entries.specs.Entry.{bytesOf, publishedBytes}

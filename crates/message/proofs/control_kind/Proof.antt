@@ -1,5 +1,4 @@
 use mathlib.Core.List.{[], _∷_}
-use mathlib.Core.Path.{_≡_, sym}
 use borrow.Author.Tests.{ne-eqb}
 use Rattle.lists.specs.Lists.{member}
 use Rattle.lists.proofs.Tables.{one-of, none-of}

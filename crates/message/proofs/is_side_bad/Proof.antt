@@ -1,4 +1,3 @@
-use mathlib.Core.Path.{_≡_}
 use borrow.Author.Tests.{eq-eqb, ne-eqb}
 use Rattle.message.proofs.is_side_bad.Statement.{statement}
 use Rattle.message.proofs.is_side_bad.Tie as tie

@@ -1,5 +1,4 @@
 use mathlib.Core.Path.{_≡_, sym, ap, _∙_}
-use mathlib.Core.Bool.{Bool}
 use Rattle.lists.specs.Lists.{at, upper}
 use Rattle.message.specs.Form.{makerGood}
 use borrow.Author.Needs.{needs}

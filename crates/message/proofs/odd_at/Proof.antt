@@ -1,4 +1,3 @@
-use mathlib.Core.Path.{sym, _∙_}
 use Rattle.message.specs.Message.{oddAt, timeOf}
 use borrow.Author.Needs.{needs}
 use Rattle.message.proofs.odd_at.Statement.{statement}

@@ -1,4 +1,4 @@
-use mathlib.Core.Path.{_≡_, sym, _∙_}
+use mathlib.Core.Path.{sym, _∙_}
 use Rattle.message.specs.Message.{priceFault}
 use borrow.Author.Needs.{needs}
 use Rattle.message.proofs.price_fault.Statement.{statement}

@@ -1,4 +1,3 @@
-use mathlib.Core.Path.{_≡_, sym}
 use borrow.Author.Tests.{ne-eqb}
 use Rattle.message.specs.Message.{quoteKind}
 use Rattle.message.proofs.quote_kind.Statement.{statement}

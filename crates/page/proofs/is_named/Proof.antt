@@ -1,4 +1,4 @@
-use mathlib.Core.Path.{sym, ap, _∙_}
+use mathlib.Core.Path.{sym, _∙_}
 use Rattle.page.proofs.StoreLaws.{named-is, named-not}
 use borrow.Author.Needs.{needs}
 use Rattle.page.proofs.is_named.Statement.{statement}

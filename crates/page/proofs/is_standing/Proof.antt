@@ -1,6 +1,4 @@
-use mathlib.Core.Path.{sym, ap, _∙_}
-use Prim.Native.Nat.{_+_}
-use Rattle.field.specs.Field.{field}
+use mathlib.Core.Path.{sym, _∙_}
 use Rattle.page.proofs.StoreLaws.{standing-is}
 use borrow.Author.Needs.{needs}
 use Rattle.page.proofs.is_standing.Statement.{statement}

@@ -1,9 +1,9 @@
 use Prim.Native.Nat.{_+_}
-use mathlib.Core.Path.{_≡_, ap, _∙_}
+use mathlib.Core.Path.{_≡_, _∙_}
 use mathlib.Core.List.{[], _∷_}
 use Rattle.field.specs.Field.{part}
 use Rattle.levels.specs.Levels.{levelsIn}
-use Rattle.levels.specs.Part.{sidesOf, standingIn, oddAnswer}
+use Rattle.levels.specs.Part.{sidesOf}
 use Rattle.levels.proofs.AnswerLaws.{read-both, read-is-reading}
 use borrow.Author.Needs.{needs}
 use Rattle.page.proofs.judge_odd.Statement.{statement}

@@ -1,4 +1,4 @@
-use mathlib.Core.Path.{_≡_, sym, ap, _∙_}
+use mathlib.Core.Path.{sym, _∙_}
 use borrow.Author.Tests.{ne-eqb}
 use Rattle.page.specs.Update.{makerQuoteOn}
 use Rattle.page.proofs.MakerLaws.{maker-hit, free-hit}

@@ -1,7 +1,6 @@
-use Prim.Native.Nat.{_+_, _-_, _≤_}
+use Prim.Native.Nat.{_-_, _≤_}
 use mathlib.Core.Path.{_≡_, refl, _∙_}
 use native.Mathlib.Nat.{sub-zero}
-use native.Mathlib.Omega.{arith}
 use lib.ListN.{length}
 use Rattle.page.specs.Page.{markCells}
 use Rattle.page.proofs.StoreLaws.{mark-again, mark-end}

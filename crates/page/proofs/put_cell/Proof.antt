@@ -1,4 +1,4 @@
-use mathlib.Core.Path.{_≡_, sym, ap, _∙_}
+use mathlib.Core.Path.{sym, _∙_}
 use Rattle.page.proofs.StoreLaws.{put-maker, free-maker}
 use borrow.Author.Needs.{needs}
 use Rattle.page.proofs.put_cell.Statement.{statement}

@@ -1,8 +1,8 @@
-use Prim.Native.Nat.{_+_, _*_, _-_, _≤_}
+use Prim.Native.Nat.{_-_, _≤_}
 use mathlib.Core.Path.{_≡_}
 use lib.ListN.{length}
 use borrow.Author.Needs.{needs}
-use Rattle.tape.specs.Held.{Held, Buffers}
+use Rattle.tape.specs.Held.{Held}
 use Rattle.tape.proofs.open_each.Statement.{statement}
 use Rattle.tape.proofs.open_each.Tie as tie
 
