@@ -1,19 +1,18 @@
 -- The bytes of levels and quotes: their lengths, that they read back, and that other places stay as they were.
 -- Assumes nothing.
 use Prim.Native.Nat.{ℕ, _+_, _≤_}
-use mathlib.Core.Path.{_≡_, refl, sym, ap, subst, _∙_}
+use mathlib.Core.Path.{_≡_, refl}
 use mathlib.Core.List.{List, _++_}
-use mathlib.Core.Logic.{_⊎_}
 use native.Mathlib.Omega.{arith}
 use lib.Dec.{lit≤}
 use lib.ListN.{length, replicate}
 use Rattle.field.specs.Field.{Bytes, beBytes, part, field, splice}
 use Rattle.field.specs.Low.{le, leBytes, low}
-use Rattle.field.proofs.Laws.{be-beBytes, bytes-append, bytes-beBytes, field-lt, field-part-0, length-part, bytes-part, part-part, part-put, part-other, splice-join}
+use Rattle.field.proofs.Laws.{be-beBytes, bytes-append, bytes-beBytes, field-lt, field-part-0, length-part, bytes-part, part-part, splice-join}
 use Rattle.field.proofs.LowLaws.{le-leBytes, bytes-leBytes, low-lt, low-part, low-part-0}
 use Rattle.quote.specs.declared.Level.{Level}
 use Rattle.quote.specs.declared.Quote.{Quote}
-use Rattle.quote.specs.Quote.{noLevel, noQuote, levelIn, levelBytes, quoteIn, quoteBytes, LevelFits, QuoteFits}
+use Rattle.quote.specs.Quote.{noLevel, levelIn, levelBytes, quoteIn, quoteBytes, LevelFits, QuoteFits}
 
 -- three parts of a record written in a row are the record
 three-written : (p q r u : List ℕ) (at m n : ℕ) (a b c : List ℕ) → length a ≡ m → length (a ++ b) ≡ n → q ≡ splice p at a → r ≡ splice q (at + m) b → u ≡ splice r (at + n) c → u ≡ splice p at (a ++ b ++ c)
@@ -54,14 +53,6 @@ level-back l f = λ k. record {
   size = le-leBytes 4 (l .size) (f .size) k;
   time = le-leBytes 8 (l .time) (f .time) k;
 }
-
--- what was written is read back
-pub level-round : (p : List ℕ) (at : ℕ) (l : Level) → at ≤ length p → LevelFits l → levelIn (part (splice p at (levelBytes l)) at 20) ≡ l
-level-round p at l h f = ap levelIn (part-put p at (levelBytes l) 20 (length-level l) h) ∙ level-back l f
-
--- a level elsewhere in the page is as it was
-pub level-other : (p : List ℕ) (at : ℕ) (l : Level) (i : ℕ) → at ≤ length p → (i + 20 ≤ at) ⊎ (at + 20 ≤ i) → levelIn (part (splice p at (levelBytes l)) i 20) ≡ levelIn (part p i 20)
-level-other p at l i h o = ap levelIn (part-other p at (levelBytes l) i 20 h (subst (λ (n : ℕ). (i + 20 ≤ at) ⊎ (at + n ≤ i)) (sym (length-level l)) o))
 
 -- what stands in 20 bytes fits
 pub level-fits : (b : List ℕ) → length b ≡ 20 → Bytes b → LevelFits (levelIn b)
@@ -113,12 +104,6 @@ quote-back q f = λ k. record {
   offer = level-back (q .offer) (f .offer) k;
 }
 
-pub quote-round : (p : List ℕ) (at : ℕ) (q : Quote) → at ≤ length p → QuoteFits q → quoteIn (part (splice p at (quoteBytes q)) at 41) ≡ q
-quote-round p at q h f = ap quoteIn (part-put p at (quoteBytes q) 41 (length-quote q) h) ∙ quote-back q f
-
-pub quote-other : (p : List ℕ) (at : ℕ) (q : Quote) (i : ℕ) → at ≤ length p → (i + 41 ≤ at) ⊎ (at + 41 ≤ i) → quoteIn (part (splice p at (quoteBytes q)) i 41) ≡ quoteIn (part p i 41)
-quote-other p at q i h o = ap quoteIn (part-other p at (quoteBytes q) i 41 h (subst (λ (n : ℕ). (i + 41 ≤ at) ⊎ (at + n ≤ i)) (sym (length-quote q)) o))
-
 pub quote-fits : (b : List ℕ) → length b ≡ 41 → Bytes b → QuoteFits (quoteIn b)
 unfolding quoteIn
 quote-fits b n k = record {
@@ -126,7 +111,3 @@ quote-fits b n k = record {
   bid = level-fits (part b 1 20) (length-part b 1 20 (omega arith)) (bytes-part b 1 20 k);
   offer = level-fits (part b 21 20) (length-part b 21 20 (omega arith)) (bytes-part b 21 20 k);
 }
-
-pub zero-quote : quoteIn (replicate 41 0) ≡ noQuote
-unfolding quoteIn levelIn field low le part
-zero-quote = refl

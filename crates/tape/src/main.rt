@@ -3,6 +3,7 @@
 ghost use Prim.Native.Nat.{_+_, _*_, _≤_};
 ghost use mathlib.Core.Path.{_≡_};
 ghost use lib.ListN.{length};
+ghost use Rattle.tape.specs.Setup.{setupLength};
 ghost use Rattle.tape.specs.Held.{Held, Buffers};
 
 mod input;
@@ -80,7 +81,7 @@ fn set_up(book: &mut [u8], n: usize, input: &mut [u8], out: &[u8], tape: Tape) -
     ensures { λ r. ⌜ Held (r .tape) ⌝ }
 {
     book::make(book, n as u32);
-    let listed = add_symbols(book, n, input, out, tape);
+    let listed = each(book, Setup::Symbol, n, input, out, tape);
     open_lines(book, input, out, listed)
 }
 
@@ -100,8 +101,30 @@ fn finish(book: &[u8], n: usize, out: &mut [u8], last: Step) -> usize
     }
 }
 
-// The symbols.
-fn add_symbols(book: &mut [u8], n: usize, input: &mut [u8], out: &[u8], tape: Tape) -> Step
+/// What a book is set up with: symbols of 11 bytes and a round lot, then lines of a line and its letter.
+enum Setup {
+    Symbol,
+    Line,
+}
+
+fn setup_len(what: Setup) -> usize
+    ensures { λ r. ⌜ (r ≡ setupLength what) × (r ≤ 12) ⌝ }
+{
+    match what {
+        Setup::Symbol => 12,
+        Setup::Line => 2,
+    }
+}
+
+// All the symbols, or all the lines.
+fn each(
+    book: &mut [u8],
+    what: Setup,
+    count: usize,
+    input: &mut [u8],
+    out: &[u8],
+    tape: Tape,
+) -> Step
     requires { ⌜ Buffers (now input) (now out) ⌝ }
     requires { ⌜ Held tape ⌝ }
     ensures { λ r. ⌜ Held (r .tape) ⌝ }
@@ -110,14 +133,13 @@ fn add_symbols(book: &mut [u8], n: usize, input: &mut [u8], out: &[u8], tape: Ta
         tape,
         stop: Stop::Going,
     };
-    for _ in 0..n {
-        step = add_symbol(book, input, out, step);
+    for _ in 0..count {
+        step = one(book, what, input, out, step);
     }
     step
 }
 
-// One symbol: 11 bytes and its round lot.
-fn add_symbol(book: &mut [u8], input: &mut [u8], out: &[u8], step: Step) -> Step
+fn one(book: &mut [u8], what: Setup, input: &mut [u8], out: &[u8], step: Step) -> Step
     requires { ⌜ Buffers (now input) (now out) ⌝ }
     requires { ⌜ Held (step .tape) ⌝ }
     ensures { λ r. ⌜ Held (r .tape) ⌝ }
@@ -126,18 +148,34 @@ fn add_symbol(book: &mut [u8], input: &mut [u8], out: &[u8], step: Step) -> Step
     let Stop::Going = stop else {
         return step;
     };
-    let held = input::hold(input, out, step.tape, 12);
+    let len = setup_len(what);
+    let held = input::hold(input, out, step.tape, len);
     let from = held.from;
-    let end = from + 11;
-    if held.to <= end {
+    let end = from + len;
+    if held.to < end {
         return Step {
             tape: held,
             stop: Stop::Cut,
         };
     }
-    let lot = field::get8(input, end) as u32;
-    let number = book::add_symbol(book, &input[from..end], lot);
-    after_call(held, 12, number)
+    let number = call(book, what, &input[from..end]);
+    after_call(held, len, number)
+}
+
+// Adds the symbol or opens the line.
+fn call(book: &mut [u8], what: Setup, bytes: &[u8]) -> u8
+    requires { ⌜ length (now bytes) ≡ setupLength what ⌝ }
+{
+    match what {
+        Setup::Symbol => {
+            let lot = field::get8(bytes, 11) as u32;
+            book::add_symbol(book, &bytes[0..11], lot)
+        }
+        Setup::Line => {
+            let line = field::get8(bytes, 0) as u32;
+            book::open_line(book, line, field::get8(bytes, 1))
+        }
+    }
 }
 
 // Behind n bytes whose call gave this number.
@@ -176,48 +214,9 @@ fn open_lines(book: &mut [u8], input: &mut [u8], out: &[u8], listed: Step) -> St
         };
     }
     let count = field::get8(input, from) as usize;
-    let opened = open_each(book, count, input, out, tape.used(1));
+    let opened = each(book, Setup::Line, count, input, out, tape.used(1));
     book::start_day(book);
     opened
-}
-
-fn open_each(book: &mut [u8], count: usize, input: &mut [u8], out: &[u8], tape: Tape) -> Step
-    requires { ⌜ Buffers (now input) (now out) ⌝ }
-    requires { ⌜ Held tape ⌝ }
-    ensures { λ r. ⌜ Held (r .tape) ⌝ }
-{
-    let mut step = Step {
-        tape,
-        stop: Stop::Going,
-    };
-    for _ in 0..count {
-        step = open_line(book, input, out, step);
-    }
-    step
-}
-
-// One line: the line and its letter.
-fn open_line(book: &mut [u8], input: &mut [u8], out: &[u8], step: Step) -> Step
-    requires { ⌜ Buffers (now input) (now out) ⌝ }
-    requires { ⌜ Held (step .tape) ⌝ }
-    ensures { λ r. ⌜ Held (r .tape) ⌝ }
-{
-    let stop = step.stop;
-    let Stop::Going = stop else {
-        return step;
-    };
-    let held = input::hold(input, out, step.tape, 2);
-    let from = held.from;
-    if held.to < from + 2 {
-        return Step {
-            tape: held,
-            stop: Stop::Cut,
-        };
-    }
-    let line = field::get8(input, from) as u32;
-    let letter = field::get8(input, from + 1);
-    let number = book::open_line(book, line, letter);
-    after_call(held, 2, number)
 }
 
 // Every record. Nothing says that a tape ends, so the turns are counted, from a number that no run uses up.
