@@ -15,11 +15,9 @@ use Rattle.levels.specs.Levels.{Odd}
 use Rattle.message.specs.declared.Message.{Message}
 use Rattle.message.specs.declared.Message.the-variants as says
 use Rattle.message.specs.Message.{symbolOf, quoteAt, makerName, roundLotOdd, oddLotOdd, oddOf, messageOf, Known, codeBy, codeOf, Part, roundPart, oddPart, makerOf, partsOf}
-use Rattle.entries.specs.Page.{refreshed}
-use Rattle.page.specs.Page.{knownOf, putRound, roundOn, putOdd, oddOnPage, makerOn, finraOn}
+use Rattle.page.specs.Page.{knownOf, roundOn, oddOnPage, makerOn, finraOn}
 use Rattle.page.proofs.EntryLaws.{Kept}
 use Rattle.page.proofs.SlotLaws.{round-kept, odd-kept}
-use Rattle.page.proofs.RefreshLaws.{one-refresh}
 use Rattle.page.proofs.SpokenLaws.{Spoken, refused, idle, finra, round, odd, maker, spoken, parts-refused, parts-whole, parts-round, parts-odd, parts-maker}
 use Rattle.page.proofs.WorkLaws.{pageCode, pageAfter}
 use Rattle.book.specs.Opening.{symbolsOf, pageAt, setPage, pagesIn, pagePlace, onPage, eachPage}
@@ -72,21 +70,20 @@ module _ (n : ℕ) (b : List ℕ) (sd : Sound n b) (s : ℕ) (code : List ℕ �
   -- a Q K: both parts with code 0, the round part with 60 or more
   both-on : (l : ℕ) → upper l ≡ true → (q : Quote) (o : Odd)
       → partsOn (cond (eqb c 0) (roundPart s l q ∷ oddPart s l o ∷ []) (cond (leb 60 c) (roundPart s l q ∷ []) [])) b
-      ≡ onPage s (λ p. cond (eqb (code p) 0) (refreshed (putOdd l o (putRound l q p))) (cond (leb 60 (code p)) (roundOn l q p) p)) b
+      ≡ onPage s (λ p. cond (eqb (code p) 0) (oddOnPage l o (roundOn l q p)) (cond (leb 60 (code p)) (roundOn l q p) p)) b
   unfolding partsOn partOn
   both-on l u q o =
-      on-by (λ p. cond (eqb (code p) 0) (refreshed (putOdd l o (putRound l q p))) (cond (leb 60 (code p)) (roundOn l q p) p))
+      on-by (λ p. cond (eqb (code p) 0) (oddOnPage l o (roundOn l q p)) (cond (leb 60 (code p)) (roundOn l q p) p))
       (partsOn (cond (eqb c 0) (roundPart s l q ∷ oddPart s l o ∷ []) (cond (leb 60 c) (roundPart s l q ∷ []) [])) b)
       (λ k e. rw (here k e) (found k e (eqb c 0) (leb 60 c))) (λ e. missing e (eqb c 0) (leb 60 c))
     where
       found : (k : ℕ) → pagePlace b s ≡ At k → (t v : Bool)
           → partsOn (cond t (roundPart s l q ∷ oddPart s l o ∷ []) (cond v (roundPart s l q ∷ []) [])) b
-          ≡ setPage b k (cond t (refreshed (putOdd l o (putRound l q (pageAt b k)))) (cond v (roundOn l q (pageAt b k)) (pageAt b k)))
+          ≡ setPage b k (cond t (oddOnPage l o (roundOn l q (pageAt b k))) (cond v (roundOn l q (pageAt b k)) (pageAt b k)))
       found k e true v =
           let w : length (pageAt b k) ≡ 6054 = length-page n b sd k (below k e) in
           let x : Kept (pageAt b k) (roundOn l q (pageAt b k)) = round-kept (pageAt b k) w l u q in
           on-twice n b sd s k e (roundOn l q) (oddOnPage l o) x (odd-kept (roundOn l q (pageAt b k)) (x .size) l u o .size)
-          ∙ ap (setPage b k) (one-refresh (pageAt b k) l q o w u)
       found k e false true = on-at n b sd s k e (roundOn l q)
       found k e false false = stays k e
 
@@ -118,7 +115,7 @@ module _ (n : ℕ) (b : List ℕ) (sd : Sound n b) (letter : ℕ) (u : upper let
   message-by c here x q (maker k) =
       rw (parts-maker c m k) (one-on n b sd (symbolOf m) (pageCode letter m) c here (makerOf m) (makerOn (makerName m) (quoteAt m)) refl)
 
-  -- a message changes the page of its symbol alone, or every page, and each by one refresh
+  -- a message changes the page of its symbol alone, or every page
   pub message-on : messageOn letter m b ≡ saidOn letter m b (messageOf letter m)
   unfolding codeOf
   message-on = message-by (codeOn letter m b) (λ k e. sym (code-at letter m b k e)) (messageOf letter m) refl (spoken letter m)

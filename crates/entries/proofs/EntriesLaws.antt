@@ -60,7 +60,7 @@ pub record SixCount (e : Entries) : Type 0 where
   pub finra : (s : Side) → OrCounting (e .finra s)
   pub odd : (s : Side) → OrCounting (e .odd s)
 
-candidate-counts : (s : Side) (n : ℕ) (q : Quote) → sideOf s q .price < 2 ^ 64 → OrCounting (candidateOf s n q)
+pub candidate-counts : (s : Side) (n : ℕ) (q : Quote) → sideOf s q .price < 2 ^ 64 → OrCounting (candidateOf s n q)
 unfolding candidateOf counts
 candidate-counts s n q h = go (ltb 0 (sideOf s q .price)) refl (ltb 0 (sideOf s q .size)) refl (admits s (q .condition))
   where
@@ -108,7 +108,7 @@ module _ (p : List ℕ) (b : Bytes p) where
   level-counts : (l at : ℕ) → OrCounting (mapOption (levelCandidate l 32) (cond (emptyCell (levelIn (part p at 20))) none (some (levelIn (part p at 20)))))
   level-counts l at = rw (cell-live l (levelIn (part p at 20))) (live-counts (levelCandidate l 32 (levelIn (part p at 20))) (price-below p at b))
 
-  first-counts : (s : Side) (l : ℕ) → OrCounting (firstAt p s l)
+  pub first-counts : (s : Side) (l : ℕ) → OrCounting (firstAt p s l)
   unfolding firstAt letterLevels levelsFor
   first-counts s l = go (eqb l 83) (upper l)
     where

@@ -8,3 +8,5 @@ pub mod PublicationLaws
 pub mod StandingLaws
 pub mod FrameLaws
 pub mod BlankLaws
+pub mod BehindLaws
+pub mod LevelsBehindLaws

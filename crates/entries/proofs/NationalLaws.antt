@@ -53,15 +53,15 @@ best-one s (some c) = refl
 
 -- ---- a candidate has its letter's name
 
-abbrev Named : ℕ → Option Candidate → Type 0
+abbrev pub Named : ℕ → Option Candidate → Type 0
 Named n none = Unit {0}
 Named n (some c) = c .name ≡ n
 
-name-of : (n : ℕ) (o : Option Candidate) (c : Candidate) → Named n o → o ≡ some c → c .name ≡ n
+pub name-of : (n : ℕ) (o : Option Candidate) (c : Candidate) → Named n o → o ≡ some c → c .name ≡ n
 name-of n none c k e = clash (cc)
 name-of n (some x) c k e = ap (λ (o : Option Candidate). elim o [ none ↦ 0 | some y ↦ y .name ]) (sym e) ∙ k
 
-letter-named : (s : Side) (quotes : ℕ → Quote) (fb : Option Candidate) (l : ℕ) → Named l (letterCandidate s quotes fb l)
+pub letter-named : (s : Side) (quotes : ℕ → Quote) (fb : Option Candidate) (l : ℕ) → Named l (letterCandidate s quotes fb l)
 unfolding letterCandidate candidateOf asD
 letter-named s quotes fb l = go (eqb l 68) refl (eqb l 83) (counts s (quotes l))
   where

@@ -1,6 +1,6 @@
 -- A side's levels are read best first, so the odd best is the best of the letters' first levels, and may be tested against the national best once.
 -- Assumes nothing.
-use Prim.Native.Nat.{ℕ, _+_}
+use Prim.Native.Nat.{ℕ, _+_, _^_, _<_}
 use mathlib.Core.Path.{_≡_, refl, sym, ap, _∙_, fun-ext}
 use mathlib.Core.Bool.{Bool, true, false, cond}
 use mathlib.Core.List.{List, [], _∷_, _++_}
@@ -152,15 +152,28 @@ module _ (s : Side) (nb : Option Candidate) where
     first-only (l ∷ ls) =
         one-letter s nb l (levels l) (gather (λ l. collect (oddCandidate s nb l) (levels l)) ls) (collect (λ l. bindOption (firstOf (levels l)) (oddCandidate s nb l)) ls) (f l) (first-only ls)
 
-    -- the best of all levels that are beyond is the best first level, if that is
+    -- the best of all levels that are beyond is the best of the first levels that are
+    pub odd-firsts : (ls : List ℕ)
+        → best (better s) (gather (λ l. collect (oddCandidate s nb l) (levels l)) ls)
+        ≡ best (better s) (collect (λ l. bindOption (mapOption (levelCandidate l 32) (firstOf (levels l))) (keep far)) ls)
+    odd-firsts ls = first-only ls ∙ ap (λ (g : ℕ → Option Candidate). best (better s) (collect g ls)) (fun-ext (λ l. odd-is l (firstOf (levels l))))
+
+    -- and the best first level, if that is
     pub odd-once : (ls : List ℕ)
         → best (better s) (gather (λ l. collect (oddCandidate s nb l) (levels l)) ls)
         ≡ bindOption (best (better s) (collect (λ l. mapOption (levelCandidate l 32) (firstOf (levels l))) ls)) (keep far)
     odd-once ls =
-        first-only ls
-        ∙ ap (λ (g : ℕ → Option Candidate). best (better s) (collect g ls)) (fun-ext (λ l. odd-is l (firstOf (levels l))))
+        odd-firsts ls
         ∙ ap (best (better s)) (sym (collect-bind (λ l. mapOption (levelCandidate l 32) (firstOf (levels l))) (keep far) ls))
         ∙ best-keep (better s) (better-weak s) far far-up (collect (λ l. mapOption (levelCandidate l 32) (firstOf (levels l))) ls)
+
+  -- beyond, by ranks
+  pub beyond-rank : (r : ℕ) → OrCounting nb → (r ≡ 0 → ⊥) → r < 2 ^ 64 → ltb (rankOf s (orNone nb .price)) (rankOf s r) ≡ beyond s nb r
+  beyond-rank r = go nb
+    where
+      go : (nb : Option Candidate) → OrCounting nb → (r ≡ 0 → ⊥) → r < 2 ^ 64 → ltb (rankOf s (orNone nb .price)) (rankOf s r) ≡ beyond s nb r
+      go none h n f = rw (rank-zero s) (lt-ltb 0 (rankOf s r) (rank-some s r n f))
+      go (some d) h n f = rank-ahead s r (d .price) n (h .price) f (h .fits)
 
   pub beyond-is : (o : Option Candidate) → OrCounting nb → OrCounting o → beyondOf s (orNone nb) (orNone o) ≡ orNone (bindOption o (keep far))
   unfolding beyondOf
@@ -169,12 +182,8 @@ module _ (s : Side) (nb : Option Candidate) where
       same : (t : Bool) → cond t noCandidate noCandidate ≡ noCandidate
       same true = refl
       same false = refl
-  beyond-is (some c) h k = go nb h
+  beyond-is (some c) h k = rw (beyond-rank (c .price) h (k .price) (k .fits)) (by (beyond s nb (c .price)))
     where
       by : (t : Bool) → cond t c noCandidate ≡ orNone (cond t (some c) none)
       by true = refl
       by false = refl
-
-      go : (nb : Option Candidate) → OrCounting nb → cond (ltb (rankOf s (orNone nb .price)) (rankOf s (c .price))) c noCandidate ≡ orNone (cond (beyond s nb (c .price)) (some c) none)
-      go none h = rw (rank-zero s, lt-ltb 0 (rankOf s (c .price)) (rank-some s (c .price) (k .price) (k .fits)))
-      go (some d) h = rw (rank-ahead s (c .price) (d .price) (k .price) (h .price) (k .fits) (h .fits)) (by (ahead s (c .price) (d .price)))

@@ -8,7 +8,7 @@ use mathlib.Core.Option.{Option, none, some}
 use types.Run.{OneOf}
 use native.Mathlib.Omega.{arith}
 use lib.Dec.{eqb, leb, ltb}
-use borrow.Author.Tests.{eqb-true, eqb-false, ne-eqb, lt-ltb, le-ltb, ltb-false}
+use borrow.Author.Tests.{eqb-true, eqb-false, eq-eqb, ne-eqb, lt-ltb, le-ltb, ltb-false}
 use Rattle.lists.specs.Lists.{member, bindOption}
 use Rattle.lists.proofs.Searches.{less-one}
 use Rattle.lists.proofs.Tables.{one-of, none-of}
@@ -33,6 +33,7 @@ use Rattle.entries.specs.declared.BestEntries.{BestEntries}
 use Rattle.entries.specs.Entries.{makerCandidate, letterCandidate, letterLevels}
 use Rattle.entries.specs.Page.{slotAt, cellAt, quotesIn, makerIn}
 use Rattle.entries.specs.Walk.{inQuote, inLevels, makerAt, quotedAt, firstAt, reachingAt, past, stepTops, topsFrom, bothReach, certain, bothCertain, allReach, lowerOf, loweredTo}
+use Rattle.entries.specs.Behind.{outranks, quoteBehind, levelBehind, levelsBehind}
 use Rattle.entries.proofs.ReadLaws.{quote-side, quote-condition, maker-at, quotes-at, first-at}
 
 -- ---- a level
@@ -338,3 +339,53 @@ pub lowered-by : (g : Ranks) (t : Sides) (x y b o : ℕ) → x ≡ rankOf Bid (t
     → _≡_ {A = Ranks} (record { bid = b; offer = o }) (loweredTo t g)
 unfolding loweredTo
 lowered-by g t x y b o ex ey eb eo = λ i. record { bid = (eb ∙ ap (lowerOf (g .bid)) ex) i; offer = (eo ∙ ap (lowerOf (g .offer)) ey) i }
+
+-- whether a standing entry goes before a level: its letter, then price, then size
+module _ (s : Side) (p : List ℕ) (at l : ℕ) (v : Level) (n : ℕ) (en : n ≡ field p at 1) where
+  pub outranks-own : n ≡ l → false ≡ outranks s p at l v
+  unfolding outranks
+  outranks-own h = rw (← en, eq-eqb n l h)
+
+  module _ (d : n ≡ l → ⊥) (q x r : ℕ) (eq : q ≡ field p (at + 4) 8) (ex : x ≡ rankOf s q) (er : r ≡ rankOf s (v .price)) where
+    pub outranks-size : (z : ℕ) (b : Bool) → z ≡ field p (at + 12) 4 → r ≡ x → b ≡ ltb (v .size) z → b ≡ outranks s p at l v
+    unfolding outranks
+    outranks-size z b ez h eb = rw (← en, ne-eqb n l d, ← eq, ← ex, ← er, eq-eqb r x h, ← ez) eb
+
+    pub outranks-price : (b : Bool) → (r ≡ x → ⊥) → b ≡ ltb r x → b ≡ outranks s p at l v
+    unfolding outranks
+    outranks-price b h eb = rw (← en, ne-eqb n l d, ← eq, ← ex, ← er, ne-eqb r x h) eb
+
+module _ (l : ℕ) (q : Quote) (p : List ℕ) (t : Bool) (et : t ≡ outranks Bid p 12 l (q .bid)) where
+  pub bid-behind : (u : Bool) → t ≡ true → u ≡ outranks Offer p 28 l (q .offer) → u ≡ quoteBehind l q p
+  unfolding quoteBehind
+  bid-behind u k eu = rw (← et, k) eu
+
+  pub bid-ahead : t ≡ false → false ≡ quoteBehind l q p
+  unfolding quoteBehind
+  bid-ahead k = rw (← et, k)
+
+-- a letter's first level, by the national price
+module _ (s : Side) (p : List ℕ) (at odd l : ℕ) (v : Level) (n : ℕ) (en : n ≡ field p odd 1) where
+  pub level-own : n ≡ l → false ≡ levelBehind s p at odd l v
+  unfolding levelBehind
+  level-own h = rw (← en, eq-eqb n l h)
+
+  module _ (d : n ≡ l → ⊥) (q x r : ℕ) (eq : q ≡ field p (at + 4) 8) (ex : x ≡ rankOf s q) (er : r ≡ rankOf s (v .price)) where
+    pub level-beyond : (b : Bool) → x < r → b ≡ outranks s p odd l v → b ≡ levelBehind s p at odd l v
+    unfolding levelBehind
+    level-beyond b h eb = rw (← en, ne-eqb n l d, ← eq, ← ex, ← er, lt-ltb x r h) eb
+
+    pub level-within : r ≤ x → true ≡ levelBehind s p at odd l v
+    unfolding levelBehind
+    level-within h = rw (← en, ne-eqb n l d, ← eq, ← ex, ← er, le-ltb x r h)
+
+module _ (l : ℕ) (p : List ℕ) (at : ℕ) (b : Level) (t : Bool) (ea : at ≡ slotAt l + 41) (eb : b ≡ levelIn (part p at 20)) (et : t ≡ levelBehind Bid p 12 76 l b) where
+  pub bids-behind : (o : Level) (u : Bool) → o ≡ levelIn (part p (at + 80) 20) → t ≡ true → u ≡ levelBehind Offer p 28 92 l o → u ≡ levelsBehind l p
+  unfolding levelsBehind
+  bids-behind o u eo k eu =
+      let z : slotAt l + 41 + 80 ≡ slotAt l + 121 = omega arith in
+      rw (← z, ← ea, ← eb, ← eo, ← et, k) eu
+
+  pub bids-ahead : t ≡ false → false ≡ levelsBehind l p
+  unfolding levelsBehind
+  bids-ahead k = rw (← ea, ← eb, ← et, k)

@@ -3,3 +3,4 @@ pub mod Publication
 pub mod Page
 pub mod Walk
 pub mod Entry
+pub mod Behind

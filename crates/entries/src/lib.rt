@@ -12,8 +12,10 @@ ghost use Rattle.entries.specs.Entries.{asD};
 ghost use Rattle.entries.specs.Publication.{entryBytes, nationalName, finraName, oddName, publication, changeFlags, noEntries};
 ghost use Rattle.entries.specs.Page.{slotAt, cellAt, pageEntries, refreshed};
 ghost use Rattle.entries.specs.Walk.{inQuote, inLevels, makerAt, quotedAt, firstAt, reachingAt, noTops, stepTops, topsFrom, bothReach, certain, bothCertain, allReach, lowerOf, loweredTo, bestsOf};
+ghost use Rattle.entries.specs.Behind.{outranks, quoteBehind, levelBehind, levelsBehind};
 ghost use Rattle.entries.specs.Entry.{priced, entriesIn, bytesOf, publishedBytes, holds};
 use levels::Levels;
+use quote::Level;
 use quote::Quote;
 use ranking::Candidate;
 use ranking::Side;
@@ -620,6 +622,80 @@ fn put_entries(page: &mut [u8], p: Published)
     put_entry(page, Page::ENTRIES + 3 * Entry::LEN, p.finra.offer);
     put_entry(page, Page::ENTRIES + 4 * Entry::LEN, p.odd.bid);
     put_entry(page, Page::ENTRIES + 5 * Entry::LEN, p.odd.offer);
+}
+
+// Whether the entry at `at` is another letter's, and goes before a level of this one by price or, at the same price, by size.
+fn outranks(page: &[u8], at: usize, side: Side, letter: u8, level: Level) -> bool
+    requires { ⌜ at + 16 ≤ length (now page) ⌝ }
+    ensures { λ r. ⌜ r ≡ outranks side (now (page .entry)) at letter level ⌝ }
+{
+    if field::get8(page, at) == letter {
+        return false;
+    }
+    let standing = ranking::rank(side, field::get64(page, at + Entry::PRICE));
+    let rank = ranking::rank(side, level.price);
+    if rank == standing {
+        return level.size < field::get32(page, at + Entry::SIZE);
+    }
+    rank < standing
+}
+
+/// Whether a letter's new quote is behind both national entries. It then changes no entry of a page that keeps its entries: most quotes do not.
+pub fn is_quote_behind(page: &[u8], letter: u8, quote: Quote) -> bool
+    requires { ⌜ length (now page) ≡ 6054 ⌝ }
+    ensures { λ r. ⌜ r ≡ quoteBehind letter quote (now (page .entry)) ⌝ }
+{
+    if outranks(page, Page::ENTRIES, Side::Bid, letter, quote.bid) {
+        return outranks(
+            page,
+            Page::ENTRIES + Entry::LEN,
+            Side::Offer,
+            letter,
+            quote.offer,
+        );
+    }
+    false
+}
+
+// Whether a letter's first level is behind what stands: the odd entry at `odd` is another letter's, and the level is behind it or not beyond the
+// national entry at `at`.
+fn is_level_behind(page: &[u8], at: usize, odd: usize, side: Side, letter: u8, level: Level) -> bool
+    requires { ⌜ (at + 16 ≤ length (now page)) × (odd + 16 ≤ length (now page)) ⌝ }
+    ensures { λ r. ⌜ r ≡ levelBehind side (now (page .entry)) at odd letter level ⌝ }
+{
+    if field::get8(page, odd) == letter {
+        return false;
+    }
+    let national = ranking::rank(side, field::get64(page, at + Entry::PRICE));
+    let rank = ranking::rank(side, level.price);
+    if national < rank {
+        return outranks(page, odd, side, letter, level);
+    }
+    true
+}
+
+/// Whether the first levels that stand in a letter's slot are behind the entries. They then change no entry of a page that keeps its entries.
+pub fn are_levels_behind(page: &[u8], letter: u8) -> bool
+    requires { ⌜ length (now page) ≡ 6054 ⌝ }
+    requires { ⌜ (65 ≤ letter) × (letter < 91) ⌝ }
+    ensures { λ r. ⌜ r ≡ levelsBehind letter (now (page .entry)) ⌝ }
+{
+    let at = slot_at(letter as usize) + Slot::LEVELS;
+    let national = Page::ENTRIES;
+    let odd = Page::ENTRIES + 4 * Entry::LEN;
+    let bid = Level::get(page, at);
+    if is_level_behind(page, national, odd, Side::Bid, letter, bid) {
+        let offer = Level::get(page, at + Levels::LEN);
+        return is_level_behind(
+            page,
+            national + Entry::LEN,
+            odd + Entry::LEN,
+            Side::Offer,
+            letter,
+            offer,
+        );
+    }
+    false
 }
 
 /// Works out a page's six entries from its quotes, writes them, and gives the flags of those that changed.

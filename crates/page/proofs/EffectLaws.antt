@@ -8,7 +8,7 @@ use native.Mathlib.Omega.{arith}
 use lib.Dec.{eqb}
 use lib.ListN.{length}
 use borrow.Author.Tests.{eq-eqb, ne-eqb}
-use Rattle.field.specs.Field.{part, field, splice}
+use Rattle.field.specs.Field.{Bytes, part, field, splice}
 use Rattle.field.proofs.Laws.{part-put, part-before, length-part, length-splice}
 use Rattle.lists.specs.Lists.{upper, orElse}
 use Rattle.lists.specs.declared.Found.the-variants.{At, Nothing}
@@ -26,12 +26,15 @@ use Rattle.entries.specs.Publication.{publication, changeFlags}
 use Rattle.entries.proofs.PublicationLaws.{length-publication}
 use Rattle.entries.specs.Page.{slotAt, cellAt, levelsFor, pageEntries, refreshed}
 use Rattle.message.specs.Message.{makerCode}
-use Rattle.page.specs.Page.{readingOf, knownBy, putRound, putLevels, putOdd, oddOnPage, putMaker, makerOn, makerPlace, freePlace, cellFor, finraOn, markCell, markCells}
+use Rattle.entries.specs.Behind.{quoteBehind, levelsBehind}
+use Rattle.page.specs.Page.{readingOf, knownBy, putRound, roundOn, putLevels, oddOnPage, putMaker, makerOn, makerPlace, freePlace, cellFor, finraOn, markCell, markCells}
 use Rattle.page.specs.Update.{Updated, rejected, flagged, oddCodeOn, oddTaken, roundLotOn, oddLotOn, makerQuoteOn}
 use Rattle.page.proofs.EntryLaws.{upper-low, kept-lot}
 use Rattle.page.proofs.CellLaws.{mark-length}
 use Rattle.page.proofs.MakerLaws.{maker-hit, free-hit, maker-code}
-use Rattle.page.proofs.SlotLaws.{levels-here, put-round-levels, put-round-kept}
+use Rattle.page.proofs.SlotLaws.{levels-here, put-round-levels, put-round-kept, round-stands, levels-stand}
+use Rattle.page.proofs.RefreshLaws.{one-refresh}
+use Rattle.page.proofs.UpdateLaws.{flags-none}
 
 -- the entries that stand after a refresh are those worked out
 pub refreshed-entries : (p : List ℕ) → length p ≡ 6054 → part (refreshed p) 12 96 ≡ publication (pageEntries p)
@@ -52,6 +55,15 @@ pub renewed-is : (code : ℕ) (p q : List ℕ) (r : ℕ) → length p ≡ 6054 �
     → _≡_ {A = Updated} (record { code = code; flags = r; page = q }) (flagged code p (refreshed p))
 unfolding flagged
 renewed-is code p q r w e f = rw (refreshed-entries p w, ← e, ← f)
+
+-- what `renewed_unless` gives
+module _ (code : ℕ) (p : List ℕ) (t : Bool) where
+  pub unless-behind : t ≡ true → _≡_ {A = Updated} (record { code = code; flags = 0; page = p }) (flagged code p (cond t p (refreshed p)))
+  unfolding flagged
+  unless-behind h = rw (h, flags-none (part p 12 96))
+
+  pub unless-ahead : (r : Updated) → t ≡ false → r ≡ flagged code p (refreshed p) → r ≡ flagged code p (cond t p (refreshed p))
+  unless-ahead r h f = rw h f
 
 -- ---- Q K and Q M
 
@@ -100,51 +112,81 @@ module _ (p : List ℕ) (l : ℕ) (o : Odd) (a : OddAnswer) (e : a ≡ oddAnswer
       (sym z, f ∙ rw (z, y, h) (write-both p (slotAt l + 41) v))
 
 module _ (p : List ℕ) (w : length p ≡ 6054) (l : ℕ) (u : upper l ≡ true) where
-  taken-stands : (o : Odd) → part (oddTaken l o p) 12 96 ≡ part p 12 96
-  unfolding putLevels
-  taken-stands o = go (eqb (oddCodeOn l o p) 0)
-    where
-      go : (t : Bool) → part (cond t (putLevels l o p) p) 12 96 ≡ part p 12 96
-      go true = entries-stand p (slotAt l + 41) (levelsBytes (orElse (oddOn o (levelsFor p l)) (levelsFor p l))) w (omega arith) (omega (arith, upper-low l u .1))
-      go false = refl
-
-module _ (p : List ℕ) (w : length p ≡ 6054) (l : ℕ) (u : upper l ≡ true) where
   -- the round part leaves what the odd part's code is worked out from
   code-same : (q : Quote) (o : Odd) → oddCodeOn l o (putRound l q p) ≡ oddCodeOn l o p
   code-same q o = rw (kept-lot p (putRound l q p) (put-round-kept p w l u q), ap (λ (v : ℕ → Standing). v l) (put-round-levels p w l u q))
 
-  round-stands : (q : Quote) → part (putRound l q p) 12 96 ≡ part p 12 96
-  unfolding putRound
-  round-stands q = entries-stand p (slotAt l) (quoteBytes q) w (omega arith) (omega (arith, upper-low l u .1))
-
-  -- Q K: the round part, then the odd part, idle or not, then the entries
-  module _ (q : Quote) (o : Odd) (at : ℕ) (p′ : List ℕ) (r : Updated) (h : at ≡ slotAt l) (d : p′ ≡ splice p at (quoteBytes q)) where
+  -- Q K: the round part, then the odd part, which is idle, refused or taken
+  module _ (q : Quote) (o : Odd) (at : ℕ) (t : Bool) (p′ : List ℕ) (r : Updated) (e : t ≡ quoteBehind l q p) (h : at ≡ slotAt l) (d : p′ ≡ splice p at (quoteBytes q)) where
     round-put : p′ ≡ putRound l q p
     unfolding putRound
     round-put = d ∙ ap (λ (k : ℕ). splice p k (quoteBytes q)) h
 
-    pub round-idle : idleOdd o ≡ true → r ≡ flagged 0 p′ (refreshed p′) → r ≡ roundLotOn l 0 q o p
-    unfolding roundLotOn putOdd
-    round-idle i f =
-        let z : oddCodeOn l o p ≡ 0 = odd-idle (field p 11 1) (levelsFor p l) o i .0 in
-        f ∙ ap (λ (s : List ℕ). flagged 0 s (refreshed s)) round-put
-        ∙ flagged-from 0 p (putRound l q p) (refreshed (putRound l q p)) (round-stands q)
-        ∙ rw (z, i)
+    -- the round part alone
+    round-alone : (code : ℕ) → r ≡ flagged code p′ (cond t p′ (refreshed p′)) → r ≡ flagged code p (roundOn l q p)
+    unfolding roundOn
+    round-alone code f =
+        f ∙ ap (λ (s : List ℕ). flagged code s (cond t s (refreshed s))) round-put
+        ∙ flagged-from code p (putRound l q p) (cond t (putRound l q p) (refreshed (putRound l q p))) (round-stands p w l u q)
+        ∙ rw (← e)
 
-    pub round-done : (code : ℕ) (p″ : List ℕ) → idleOdd o ≡ false → code ≡ oddCodeOn l o p′ → p″ ≡ oddTaken l o p′ → r ≡ flagged code p″ (refreshed p″) → r ≡ roundLotOn l 0 q o p
-    unfolding roundLotOn putOdd
-    round-done code p″ i c g f =
-        let x : List ℕ = putRound l q p in
-        let n : length x ≡ 6054 = put-round-kept p w l u q .size in
-        f ∙ ap₂ (λ (k : ℕ) (s : List ℕ). flagged k s (refreshed s)) (c ∙ ap (oddCodeOn l o) round-put) (g ∙ ap (oddTaken l o) round-put)
-        ∙ flagged-from (oddCodeOn l o x) p (oddTaken l o x) (refreshed (oddTaken l o x)) (taken-stands x n l u o ∙ round-stands q)
-        ∙ rw (code-same q o, i)
+    pub round-idle : idleOdd o ≡ true → r ≡ flagged 0 p′ (cond t p′ (refreshed p′)) → r ≡ roundLotOn l 0 q o p
+    unfolding roundLotOn oddOnPage
+    round-idle i f = let z : oddCodeOn l o p ≡ 0 = odd-idle (field p 11 1) (levelsFor p l) o i .0 in round-alone 0 f ∙ rw (z, i)
+
+    module _ (code : ℕ) (p″ : List ℕ) (c : code ≡ oddCodeOn l o p′) (g : p″ ≡ oddTaken l o p′) where
+      code-is : code ≡ oddCodeOn l o p
+      code-is = c ∙ ap (oddCodeOn l o) round-put ∙ code-same q o
+
+      page-is : (b : Bool) → eqb (oddCodeOn l o p) 0 ≡ b → p″ ≡ cond b (putLevels l o (putRound l q p)) (putRound l q p)
+      page-is b z = g ∙ ap (oddTaken l o) round-put ∙ rw (code-same q o, z)
+
+      pub round-refused : (code ≡ 0 → ⊥) → r ≡ flagged code p″ (cond t p″ (refreshed p″)) → r ≡ roundLotOn l 0 q o p
+      unfolding roundLotOn
+      round-refused n f =
+          let z : eqb (oddCodeOn l o p) 0 ≡ false = ne-eqb (oddCodeOn l o p) 0 (λ k. n (code-is ∙ k)) in
+          let y : p″ ≡ p′ = page-is false z ∙ sym round-put in
+          round-alone code (f ∙ ap (λ (s : List ℕ). flagged code s (cond t s (refreshed s))) y) ∙ ap (λ (k : ℕ). flagged k p (roundOn l q p)) code-is ∙ rw z
+
+      module _ (i : idleOdd o ≡ false) (n : code ≡ 0) where
+        code-none : oddCodeOn l o p ≡ 0
+        code-none = sym code-is ∙ n
+
+        abbrev x : List ℕ
+        x = putRound l q p
+
+        abbrev y : List ℕ
+        y = putLevels l o (putRound l q p)
+
+        written-is : p″ ≡ y
+        written-is = page-is true (eq-eqb (oddCodeOn l o p) 0 code-none)
+
+        both-stand : part y 12 96 ≡ part p 12 96
+        both-stand = levels-stand x (put-round-kept p w l u q .size) l u o ∙ round-stands p w l u q
+
+        -- both parts, the quote behind the entries
+        pub round-behind : (v : Bool) → t ≡ true → v ≡ levelsBehind l p″ → r ≡ flagged 0 p″ (cond v p″ (refreshed p″)) → r ≡ roundLotOn l 0 q o p
+        unfolding roundLotOn oddOnPage roundOn
+        round-behind v h ev f =
+            let z : v ≡ levelsBehind l y = ev ∙ ap (levelsBehind l) written-is in
+            f ∙ ap (λ (s : List ℕ). flagged 0 s (cond v s (refreshed s))) written-is
+            ∙ flagged-from 0 p y (cond v y (refreshed y)) both-stand
+            ∙ rw (code-none, i, ← e, h, z)
+
+        -- or not
+        pub round-ahead : Bytes p → t ≡ false → r ≡ flagged 0 p″ (refreshed p″) → r ≡ roundLotOn l 0 q o p
+        unfolding roundLotOn roundOn
+        round-ahead b h f =
+            f ∙ ap (λ (s : List ℕ). flagged 0 s (refreshed s)) written-is
+            ∙ flagged-from 0 p y (refreshed y) both-stand
+            ∙ ap (flagged 0 p) (sym (one-refresh p l q o w u b i))
+            ∙ rw (code-none, ← e, h)
 
 -- Q M: idle, refused, or taken
 module _ (p : List ℕ) (w : length p ≡ 6054) (l : ℕ) (u : upper l ≡ true) (o : Odd) where
-  pub odd-nothing : (r : Updated) → idleOdd o ≡ true → r ≡ flagged 0 p (refreshed p) → r ≡ oddLotOn l o p
-  unfolding oddLotOn oddOnPage putOdd
-  odd-nothing r i f = let z : oddCodeOn l o p ≡ 0 = odd-idle (field p 11 1) (levelsFor p l) o i .0 in f ∙ rw (z, i)
+  pub odd-nothing : idleOdd o ≡ true → _≡_ {A = Updated} (record { code = 0; flags = 0; page = p }) (oddLotOn l o p)
+  unfolding oddLotOn oddOnPage flagged
+  odd-nothing i = let z : oddCodeOn l o p ≡ 0 = odd-idle (field p 11 1) (levelsFor p l) o i .0 in rw (z, i, flags-none (part p 12 96))
 
   module _ (code : ℕ) (p′ : List ℕ) (c : code ≡ oddCodeOn l o p) (g : p′ ≡ oddTaken l o p) where
     pub odd-refused : (code ≡ 0 → ⊥) → _≡_ {A = Updated} (record { code = code; flags = 0; page = p′ }) (oddLotOn l o p)
@@ -154,14 +196,15 @@ module _ (p : List ℕ) (w : length p ≡ 6054) (l : ℕ) (u : upper l ≡ true)
         let y : p′ ≡ p = rw z at g in
         rw (z, y, c)
 
-    pub odd-taken : (r : Updated) → idleOdd o ≡ false → code ≡ 0 → r ≡ flagged 0 p′ (refreshed p′) → r ≡ oddLotOn l o p
-    unfolding oddLotOn oddOnPage putOdd
-    odd-taken r i n f =
+    pub odd-taken : (r : Updated) (v : Bool) → idleOdd o ≡ false → code ≡ 0 → v ≡ levelsBehind l p′ → r ≡ flagged 0 p′ (cond v p′ (refreshed p′)) → r ≡ oddLotOn l o p
+    unfolding oddLotOn oddOnPage
+    odd-taken r v i n ev f =
         let z : oddCodeOn l o p ≡ 0 = sym c ∙ n in
         let y : p′ ≡ putLevels l o p = rw z at g in
-        f ∙ ap (λ (s : List ℕ). flagged 0 s (refreshed s)) y
-        ∙ flagged-from 0 p (putLevels l o p) (refreshed (putLevels l o p)) (ap (λ (s : List ℕ). part s 12 96) (sym y ∙ g) ∙ taken-stands p w l u o)
-        ∙ rw (z, i)
+        let k : v ≡ levelsBehind l (putLevels l o p) = ev ∙ ap (levelsBehind l) y in
+        f ∙ ap (λ (s : List ℕ). flagged 0 s (cond v s (refreshed s))) y
+        ∙ flagged-from 0 p (putLevels l o p) (cond v (putLevels l o p) (refreshed (putLevels l o p))) (levels-stand p w l u o)
+        ∙ rw (z, i, k)
 
 -- ---- Q U
 

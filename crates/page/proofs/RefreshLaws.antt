@@ -7,7 +7,7 @@ use mathlib.Core.List.{List, _++_, append-assoc}
 use native.Mathlib.Omega.{arith}
 use lib.ListN.{length, take, drop, length-append, take-append-drop}
 use lib.Seq.{take-append-add, drop-append-add, take-append-le, take-take, take-at, drop-at, length-take-le}
-use Rattle.field.specs.Field.{splice}
+use Rattle.field.specs.Field.{Bytes, splice}
 use Rattle.field.proofs.Laws.{length-splice}
 use Rattle.lists.specs.Lists.{upper}
 use Rattle.quote.specs.declared.Quote.{Quote}
@@ -16,11 +16,11 @@ use Rattle.levels.proofs.SideLaws.{length-levels}
 use Rattle.entries.specs.Entries.{Entries}
 use Rattle.entries.specs.Publication.{publication}
 use Rattle.entries.specs.Page.{slotAt, levelsFor, pageEntries, refreshed}
-use Rattle.page.specs.Page.{putRound, roundOn, putLevels, putOdd, oddOnPage}
+use Rattle.page.specs.Page.{putRound, putLevels, oddOnPage}
 use Rattle.entries.proofs.PublicationLaws.{length-publication}
-use Rattle.entries.proofs.FrameLaws.{levels-kept, entries-kept}
-use Rattle.page.proofs.EntryLaws.{upper-low}
-use Rattle.page.proofs.SlotLaws.{afterOdd, put-round-kept}
+use Rattle.entries.proofs.FrameLaws.{levels-kept, entries-kept, refreshed-entries, refreshed-part}
+use Rattle.page.proofs.EntryLaws.{upper-low, Kept, refreshed-kept}
+use Rattle.page.proofs.SlotLaws.{afterOdd, put-round-kept, levels-done}
 
 -- ---- two writes
 
@@ -90,14 +90,6 @@ refreshed-levels : (p : List ℕ) → levelsFor (refreshed p) ≡ levelsFor p
 unfolding refreshed
 refreshed-levels p = levels-kept p (publication (pageEntries p)) (length-publication (pageEntries p))
 
--- a second refresh changes nothing
-refreshed-again : (p : List ℕ) → length p ≡ 6054 → refreshed (refreshed p) ≡ refreshed p
-unfolding refreshed
-refreshed-again p w =
-    let E : List ℕ = publication (pageEntries p) in
-    let n : length E ≡ 96 = length-publication (pageEntries p) in
-    ap (λ (e : Entries). splice (splice p 12 E) 12 (publication e)) (entries-kept p E n) ∙ splice-over p 12 E E (omega arith) refl
-
 module _ (p : List ℕ) (l : ℕ) (q : Quote) (o : Odd) (w : length p ≡ 6054) (u : upper l ≡ true) where
   levels-refresh : refreshed (putLevels l o (refreshed (putRound l q p))) ≡ refreshed (putLevels l o (putRound l q p))
   unfolding putLevels
@@ -112,11 +104,14 @@ module _ (p : List ℕ) (l : ℕ) (q : Quote) (o : Odd) (w : length p ≡ 6054) 
       ∙ late-refresh x ((l - 65) * 201 + 41) (after (levelsFor x l)) (omega (arith, n, length-levels (afterOdd o (levelsFor x l)), upper-low l u .0, upper-low l u .1))
       ∙ ap (λ (a : ℕ). r a x) (sym k)
 
--- an accepted Q K with an odd part: both parts written, then the entries worked out once
-pub one-refresh : (p : List ℕ) (l : ℕ) (q : Quote) (o : Odd) → length p ≡ 6054 → upper l ≡ true → oddOnPage l o (roundOn l q p) ≡ refreshed (putOdd l o (putRound l q p))
-unfolding oddOnPage roundOn putOdd
-one-refresh p l q o w u = go (idleOdd o)
-  where
-    go : (t : Bool) → refreshed (cond t (refreshed (putRound l q p)) (putLevels l o (refreshed (putRound l q p)))) ≡ refreshed (cond t (putRound l q p) (putLevels l o (putRound l q p)))
-    go true = refreshed-again (putRound l q p) (put-round-kept p w l u q .size)
-    go false = levels-refresh p l q o w u
+-- an odd part on a page whose entries are worked out: written without them, then worked out once
+pub one-refresh : (p : List ℕ) (l : ℕ) (q : Quote) (o : Odd) → length p ≡ 6054 → upper l ≡ true → Bytes p → idleOdd o ≡ false
+    → oddOnPage l o (refreshed (putRound l q p)) ≡ refreshed (putLevels l o (putRound l q p))
+unfolding oddOnPage
+one-refresh p l q o w u y i =
+    let x : List ℕ = putRound l q p in
+    let k : Kept p x = put-round-kept p w l u q in
+    let r : Kept x (refreshed x) = refreshed-kept x (k .size) in
+    rw i
+    (levels-done (refreshed x) (r .size) l u o (r .bytes (k .bytes y)) (refreshed-part x (omega (arith, k .size)) ∙ sym (ap publication (refreshed-entries x)))
+    ∙ levels-refresh p l q o w u)

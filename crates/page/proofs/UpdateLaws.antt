@@ -21,8 +21,8 @@ use Rattle.message.specs.declared.Message.{Message}
 use Rattle.message.specs.declared.Message.the-variants as says
 use Rattle.message.specs.Message.{quoteAt, makerName, roundLotOdd, oddLotOdd, oddOf, roundConditions, makerConditions, sideBad, priceFault, quoteFault, messageOf, makerCode, codeBy, codeOf}
 use Rattle.entries.specs.Publication.{sameEntry, changeFlags}
-use Rattle.entries.specs.Page.{levelsFor, refreshed}
-use Rattle.page.specs.Page.{readingOf, putRound, roundOn, putOdd, oddOnPage, makerOn, knownBy}
+use Rattle.entries.specs.Page.{levelsFor}
+use Rattle.page.specs.Page.{readingOf, roundOn, oddOnPage, makerOn, knownBy}
 use Rattle.page.specs.Update.{Updated, rejected, flagged, oddCodeOn, roundLotOn, oddLotOn, makerQuoteOn}
 use Rattle.page.proofs.SpokenLaws.{Spoken, refused, idle, finra, round, odd, maker, spoken}
 use Rattle.page.proofs.WorkLaws.{pageCode, saidPage, pageAfter}
@@ -93,20 +93,20 @@ module _ (p : List ℕ) where
   round-told : (l f : ℕ) (q : Quote) (o : Odd) → f < 60
       → roundLotOn l f q o p
       ≡ told (cond (eqb f 0) (oddCodeOn l o p) f) p
-      (cond (eqb (cond (eqb f 0) (oddCodeOn l o p) f) 0) (refreshed (putOdd l o (putRound l q p))) (cond (leb 60 (cond (eqb f 0) (oddCodeOn l o p) f)) (roundOn l q p) p))
-  unfolding roundLotOn flagged roundOn
+      (cond (eqb (cond (eqb f 0) (oddCodeOn l o p) f) 0) (oddOnPage l o (roundOn l q p)) (cond (leb 60 (cond (eqb f 0) (oddCodeOn l o p) f)) (roundOn l q p) p))
+  unfolding roundLotOn flagged
   round-told l f q o h = go (cut f 0)
     where
       part-told : (t : Bool) → eqb (oddCodeOn l o p) 0 ≡ t
-          → told (oddCodeOn l o p) p (refreshed (cond t (putOdd l o (putRound l q p)) (putRound l q p)))
-          ≡ told (oddCodeOn l o p) p (cond t (refreshed (putOdd l o (putRound l q p))) (cond (leb 60 (oddCodeOn l o p)) (refreshed (putRound l q p)) p))
+          → told (oddCodeOn l o p) p (cond t (oddOnPage l o (roundOn l q p)) (roundOn l q p))
+          ≡ told (oddCodeOn l o p) p (cond t (oddOnPage l o (roundOn l q p)) (cond (leb 60 (oddCodeOn l o p)) (roundOn l q p) p))
       part-told true e = refl
       part-told false e = rw (odd-sixty (field p 11 1) (levelsFor p l) o e)
 
       go : Cut f 0
-          → cond (eqb f 0) (told (oddCodeOn l o p) p (refreshed (cond (eqb (oddCodeOn l o p) 0) (putOdd l o (putRound l q p)) (putRound l q p)))) (rejected f p)
+          → cond (eqb f 0) (told (oddCodeOn l o p) p (cond (eqb (oddCodeOn l o p) 0) (oddOnPage l o (roundOn l q p)) (roundOn l q p))) (rejected f p)
           ≡ told (cond (eqb f 0) (oddCodeOn l o p) f) p
-          (cond (eqb (cond (eqb f 0) (oddCodeOn l o p) f) 0) (refreshed (putOdd l o (putRound l q p))) (cond (leb 60 (cond (eqb f 0) (oddCodeOn l o p) f)) (refreshed (putRound l q p)) p))
+          (cond (eqb (cond (eqb f 0) (oddCodeOn l o p) f) 0) (oddOnPage l o (roundOn l q p)) (cond (leb 60 (cond (eqb f 0) (oddCodeOn l o p) f)) (roundOn l q p) p))
       go (equal t e) = rw t (part-told (eqb (oddCodeOn l o p) 0) refl)
       go (apart t e) = rw (t, t, lt-leb 60 f h) (told-none f p)
 

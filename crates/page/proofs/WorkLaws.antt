@@ -11,10 +11,10 @@ use Rattle.lists.specs.Lists.{upper, isSome}
 use Rattle.message.specs.declared.Message.{Message}
 use Rattle.message.specs.declared.Message.the-variants as says
 use Rattle.message.specs.Message.{oddOf, codeOf}
-use Rattle.entries.specs.Page.{levelsFor, makersIn, occupied, refreshed}
-use Rattle.page.specs.Page.{readingOf, findMaker, putRound, roundOn, putOdd, oddOnPage, makerOn, knownBy}
-use Rattle.page.proofs.EntryLaws.{Kept, kept-none, kept-then, refreshed-kept}
-use Rattle.page.proofs.SlotLaws.{put-round-kept, round-kept, put-odd-kept, odd-kept}
+use Rattle.entries.specs.Page.{levelsFor, makersIn, occupied}
+use Rattle.page.specs.Page.{readingOf, findMaker, roundOn, oddOnPage, makerOn, knownBy}
+use Rattle.page.proofs.EntryLaws.{Kept, kept-none, kept-then}
+use Rattle.page.proofs.SlotLaws.{round-kept, odd-kept}
 use Rattle.page.proofs.MakerLaws.{maker-kept}
 
 -- what a page gives for the code of a message that names its symbol
@@ -27,12 +27,12 @@ known-page p = refl
 abbrev pub pageCode : ℕ → List ℕ → List ℕ → ℕ
 pageCode letter m p = codeOf (knownBy (readingOf p)) letter m
 
--- the page after it: an accepted Q K writes both parts and works the entries out once; one with 60 or more writes its round part
+-- the page after it: an accepted Q K has both its parts on it; one with 60 or more its round part
 abbrev pub saidPage : ℕ → ℕ → List ℕ → List ℕ → Message → List ℕ
 saidPage c letter m p (says.Refused k) = p
 saidPage c letter m p says.Idle = p
 saidPage c letter m p (says.Finra k) = p
-saidPage c letter m p (says.RoundLot f q o) = cond (eqb c 0) (refreshed (putOdd letter (oddOf m o) (putRound letter q p))) (cond (leb 60 c) (roundOn letter q p) p)
+saidPage c letter m p (says.RoundLot f q o) = cond (eqb c 0) (oddOnPage letter (oddOf m o) (roundOn letter q p)) (cond (leb 60 c) (roundOn letter q p) p)
 saidPage c letter m p (says.OddLot o) = cond (eqb c 0) (oddOnPage letter (oddOf m o) p) p
 saidPage c letter m p (says.Maker f name q) = cond (eqb c 0) (makerOn name q p) p
 
@@ -47,13 +47,10 @@ module _ (letter : ℕ) (u : upper letter ≡ true) (m : List ℕ) (p : List ℕ
   said-kept c (says.Finra k) = kept-none p w
   said-kept c (says.RoundLot f q o) = go (eqb c 0) (leb 60 c)
     where
-      go : (s t : Bool) → Kept p (cond s (refreshed (putOdd letter (oddOf m o) (putRound letter q p))) (cond t (roundOn letter q p) p))
+      go : (s t : Bool) → Kept p (cond s (oddOnPage letter (oddOf m o) (roundOn letter q p)) (cond t (roundOn letter q p) p))
       go true t =
-          let a : Kept p (putRound letter q p) = put-round-kept p w letter u q in
-          let b : Kept (putRound letter q p) (putOdd letter (oddOf m o) (putRound letter q p)) = put-odd-kept (putRound letter q p) (a .size) letter u (oddOf m o) in
-          kept-then p (putRound letter q p) (refreshed (putOdd letter (oddOf m o) (putRound letter q p))) a
-          (kept-then (putRound letter q p) (putOdd letter (oddOf m o) (putRound letter q p)) (refreshed (putOdd letter (oddOf m o) (putRound letter q p))) b
-          (refreshed-kept (putOdd letter (oddOf m o) (putRound letter q p)) (b .size)))
+          let a : Kept p (roundOn letter q p) = round-kept p w letter u q in
+          kept-then p (roundOn letter q p) (oddOnPage letter (oddOf m o) (roundOn letter q p)) a (odd-kept (roundOn letter q p) (a .size) letter u (oddOf m o))
       go false true = round-kept p w letter u q
       go false false = kept-none p w
   said-kept c (says.OddLot o) = go (eqb c 0)

@@ -9,8 +9,8 @@ use Rattle.quote.specs.declared.Quote.{Quote}
 use Rattle.levels.specs.Levels.{Odd, oddCode}
 use Rattle.message.specs.Message.{makerCode}
 use Rattle.entries.specs.Publication.{changeFlags}
-use Rattle.entries.specs.Page.{levelsFor, refreshed}
-use Rattle.page.specs.Page.{readingOf, knownBy, putRound, putLevels, putOdd, oddOnPage, makerOn}
+use Rattle.entries.specs.Page.{levelsFor}
+use Rattle.page.specs.Page.{readingOf, knownBy, roundOn, putLevels, oddOnPage, makerOn}
 
 pub record Updated : Type 0 where
   pub code : ℕ
@@ -33,11 +33,11 @@ oddCodeOn l o p = oddCode (field p 11 1) (levelsFor p l) o
 abbrev pub oddTaken : ℕ → Odd → List ℕ → List ℕ
 oddTaken l o p = cond (eqb (oddCodeOn l o p) 0) (putLevels l o p) p
 
--- Q K: a fault rejects it; with 60 to 64 the round part alone is in force. Both parts are written before the entries are worked out
+-- Q K: a fault rejects it; with 60 to 64 the round part alone is in force
 unfoldable pub roundLotOn : ℕ → ℕ → Quote → Odd → List ℕ → Updated
 roundLotOn l fault q o p =
     cond (eqb fault 0)
-    (flagged (oddCodeOn l o p) p (refreshed (cond (eqb (oddCodeOn l o p) 0) (putOdd l o (putRound l q p)) (putRound l q p))))
+    (flagged (oddCodeOn l o p) p (cond (eqb (oddCodeOn l o p) 0) (oddOnPage l o (roundOn l q p)) (roundOn l q p)))
     (rejected fault p)
 
 -- Q M: with 60 to 64 rejected

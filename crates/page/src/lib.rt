@@ -1,6 +1,6 @@
 // What a message does to the page of the symbol that it names.
 ghost use mathlib.Core.Path.{_≡_};
-ghost use mathlib.Core.Bool.{true, not};
+ghost use mathlib.Core.Bool.{true, not, cond};
 ghost use mathlib.Core.List.{[], _∷_, _++_};
 ghost use Prim.Native.Nat.{_+_, _*_, _-_, _≤_, _<_};
 ghost use lib.ListN.{length, replicate};
@@ -161,6 +161,17 @@ fn renewed(page: &mut [u8], code: u8) -> Effect
     Effect { code, flags }
 }
 
+// The same, unless what was written is behind the entries and so changes none.
+fn renewed_unless(page: &mut [u8], behind: bool, code: u8) -> Effect
+    requires { ⌜ length (now page) ≡ 6054 ⌝ }
+    ensures { λ r. ⌜ record { code = r .code; flags = r .flags; page = now (page .exit) } ≡ flagged code (now (page .entry)) (cond behind (now (page .entry)) (refreshed (now (page .entry)))) ⌝ }
+{
+    if behind {
+        return Effect { code, flags: 0 };
+    }
+    renewed(page, code)
+}
+
 // What the odd part makes of the levels of the slot at `at`.
 fn judge_odd(page: &[u8], at: usize, odd: OddPart, items: &[u8]) -> OddAnswer
     requires { ⌜ (length (now page) ≡ 6054) × (at + 201 ≤ 6054) ⌝ }
@@ -231,12 +242,19 @@ pub fn round_lot(
             flags: 0,
         };
     }
+    let behind = entries::is_quote_behind(page, letter, quote);
     quote.put(page, entries::slot_at(letter as usize));
     if is_idle(odd, items) {
-        return renewed(page, 0);
+        return renewed_unless(page, behind, 0);
     }
     let code = put_odd(page, letter, odd, items);
-    renewed(page, code)
+    if code != 0 {
+        return renewed_unless(page, behind, code);
+    }
+    if behind {
+        return renewed_unless(page, entries::are_levels_behind(page, letter), 0);
+    }
+    renewed(page, 0)
 }
 
 /// A Q M on the page of its symbol. A refused odd part does nothing.
@@ -246,13 +264,13 @@ pub fn odd_lot(page: &mut [u8], letter: u8, odd: OddPart, items: &[u8]) -> Effec
     ensures { λ r. ⌜ record { code = r .code; flags = r .flags; page = now (page .exit) } ≡ oddLotOn letter (oddIn (odd .mark) (odd .bids) (odd .offers) (odd .time) (now (items .entry))) (now (page .entry)) ⌝ }
 {
     if is_idle(odd, items) {
-        return renewed(page, 0);
+        return Effect { code: 0, flags: 0 };
     }
     let code = put_odd(page, letter, odd, items);
     if code != 0 {
         return Effect { code, flags: 0 };
     }
-    renewed(page, 0)
+    renewed_unless(page, entries::are_levels_behind(page, letter), 0)
 }
 
 /// A Q U on the page of its symbol.
