@@ -51,7 +51,7 @@ pub record PartDone (r : Part) (b b′ : List ℕ) : Type 0 where
   pub kept : OpeningKept b b′
 
 -- the page at k keeps its entries
-page-keeps : (b : List ℕ) → AllKeep (pagesIn b) → (k : ℕ) → k < countOf b → Keeps (pageAt b k)
+pub page-keeps : (b : List ℕ) → AllKeep (pagesIn b) → (k : ℕ) → k < countOf b → Keeps (pageAt b k)
 unfolding pagesIn readingOf pageEntries
 page-keeps b a k h = keep-at (λ (j : ℕ). readingOf (pageAt b j)) (countOf b) 0 a k (omega arith) (omega arith)
 

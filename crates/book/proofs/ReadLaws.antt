@@ -12,13 +12,13 @@ use Rattle.field.specs.Field.{Bytes, be, part, field, beBytes}
 use Rattle.field.proofs.Laws.{field-join, field-lt, field-part, field-part-0, beBytes-field, part-all}
 use Rattle.lists.specs.Lists.{firstFrom}
 use Rattle.lists.specs.declared.Found.{Found}
-use Rattle.lists.specs.declared.Found.the-variants.{At}
+use Rattle.lists.specs.declared.Found.the-variants.{At, Nothing}
 use Rattle.lists.proofs.Searches.{first-start}
 use Rattle.lists.proofs.Tests.{Cut, equal, apart, cut}
 use Rattle.message.specs.Form.{letterGood}
 use Rattle.page.proofs.TableLaws.{cell-order}
 use Rattle.book.specs.declared.LineState.the-variants.{Open, Closed}
-use Rattle.book.specs.Opening.{mark, symbolsOf, countOf, sound, lineAt, lineIn, linesIn, pageStart, pageAt, pagePlace}
+use Rattle.book.specs.Opening.{mark, symbolsOf, countOf, sound, lineAt, lineIn, linesIn, pageStart, pageAt, pagePlace, below}
 use Rattle.book.specs.Code.{opened}
 use Rattle.book.proofs.OpeningLaws.{Sound, sound-is, sound-of}
 use Rattle.book.proofs.PageLaws.{place-hit}
@@ -132,6 +132,20 @@ hasSymbol b v k = eqb (field (pageAt b k) 0 11) v
 pub find-start : (b : List ℕ) (v c : ℕ) → c ≡ field b 9 1 → firstFrom (hasSymbol b v) 0 (c - 0) ≡ pagePlace b v
 unfolding pagePlace countOf
 find-start b v c e = first-start (hasSymbol b v) c ∙ ap (firstFrom (hasSymbol b v) 0) e
+
+-- a place that was found, and none
+pub below-none : (n : ℕ) (w : Found) → Nothing ≡ w → below n n ≡ w
+below-none n w e = rw (le-ltb n n (omega arith)) e
+
+module _ (n k : ℕ) (w : Found) where
+  pub below-found : k < n → At k ≡ w → below n k ≡ w
+  below-found h e = rw (lt-ltb k n h) e
+
+  pub found-below : k < n → below n k ≡ w → At k ≡ w
+  found-below h e = rw (lt-ltb k n h) at e
+
+  pub none-below : n ≤ k → below n k ≡ w → Nothing ≡ w
+  none-below h e = rw (le-ltb k n h) at e
 
 pub pages-room : (b : List ℕ) (n : ℕ) → sound b ≡ true → n ≡ field b 8 1 → (n ≤ 64) × (length b ≡ 847 + n * 6054)
 unfolding symbolsOf

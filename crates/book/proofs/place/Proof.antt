@@ -1,0 +1,66 @@
+use denote.Ref.{now}
+use Prim.Native.Nat.{_+_, _*_, _-_, _≤_, _<_}
+use mathlib.Core.Path.{_≡_, refl}
+use mathlib.Core.Bool.{Bool}
+use native.Mathlib.Omega.{arith}
+use lib.ListN.{length}
+use Rattle.lists.specs.Lists.{firstFrom}
+use Rattle.lists.proofs.Searches.{first-found, first-again, first-end}
+use Rattle.book.specs.Opening.{pagePlace}
+use Rattle.book.proofs.ReadLaws.{counted-room, page-symbol, hasSymbol, find-start, below-found, below-none}
+use borrow.Author.Needs.{needs}
+use Rattle.book.proofs.place.Statement.{statement}
+use Rattle.book.proofs.place.Tie as tie
+
+abbrev Inv-loop : tie.InvT-loop
+Inv-loop book count high middle low k₀ k =
+    (k ≤ count) × (firstFrom (hasSymbol book (high * 16777216 + (middle * 256 + low))) k (count - k) ≡ pagePlace book (high * 16777216 + (middle * 256 + low)))
+
+abbrev μ-loop : tie.MeasureT-loop
+μ-loop book count high middle low k₀ k = count - k
+
+loop-holds : tie.Need-loop-holds Inv-loop μ-loop
+loop-holds c = (search needs, find-start _ _ _ (c .before .pre .1))
+
+room : (c : tie.In-loop Inv-loop μ-loop) → (847 + c .before .loop .k * 6054 + 6054 ≤ length (c .before .before .before .args .book .now)) × (c .before .loop .k < 64)
+room c = let s = c .before .before .before in counted-room _ _ _ (s .pre .0) (s .pre .1) (c .loop-test .taken)
+
+mul-has-symbol : tie.Need-mul-has-symbol Inv-loop μ-loop
+mul-has-symbol c = omega (arith, room c .1)
+
+add-has-symbol : tie.Need-add-has-symbol Inv-loop μ-loop
+add-has-symbol c = omega (arith, room c .1)
+
+has-symbol-requires : tie.Need-has-symbol-requires Inv-loop μ-loop
+has-symbol-requires c κs = omega (arith, room c .0)
+
+returns : tie.Need-returns Inv-loop μ-loop
+returns c =
+    let h = c .before in
+    let l = h .before in
+    below-found _ _ _ (l .loop-test .taken) (first-found _ _ _ _ (l .loop-test .taken) (l .before .loop .inv .1) (page-symbol _ _ _ _ _ _ refl (h .has-symbol .ensures) (c .if1 .taken)))
+
+loop-again : tie.Need-loop-again Inv-loop μ-loop
+loop-again c =
+    let h = c .before in
+    let l = h .before in
+    (search needs, first-again _ _ _ _ (l .loop-test .taken) (l .before .loop .inv .1) (page-symbol _ _ _ _ _ _ refl (h .has-symbol .ensures) (c .if1 .left)))
+
+returns-2 : tie.Need-returns-2 Inv-loop μ-loop
+returns-2 c = below-none (c .before .before .before .args .count) _ (first-end _ _ _ _ (c .loop-test .left) (c .before .loop .inv .1))
+
+pub place-spec : {M : Type 1} → statement M
+place-spec =
+    tie.close
+    (tie.spec
+    Inv-loop
+    μ-loop
+    loop-holds
+    mul-has-symbol
+    add-has-symbol
+    has-symbol-requires
+    returns
+    (λ c. search needs)
+    (λ c. search needs)
+    loop-again
+    returns-2)
