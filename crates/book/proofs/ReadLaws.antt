@@ -18,7 +18,7 @@ use Rattle.lists.proofs.Tests.{Cut, equal, apart, cut}
 use Rattle.message.specs.Form.{letterGood}
 use Rattle.page.proofs.TableLaws.{cell-order}
 use Rattle.book.specs.declared.LineState.the-variants.{Open, Closed}
-use Rattle.book.specs.Opening.{mark, symbolsOf, countOf, sound, lineAt, lineIn, linesIn, pageStart, pageAt, pagePlace, below}
+use Rattle.book.specs.Opening.{mark, symbolsOf, countOf, sound, lineAt, lineIn, linesIn, pageStart, pageAt, pagePlace, placeIf}
 use Rattle.book.specs.Code.{opened}
 use Rattle.book.proofs.OpeningLaws.{Sound, sound-is, sound-of}
 use Rattle.book.proofs.PageLaws.{place-hit}
@@ -133,19 +133,26 @@ pub find-start : (b : List ℕ) (v c : ℕ) → c ≡ field b 9 1 → firstFrom 
 unfolding pagePlace countOf
 find-start b v c e = first-start (hasSymbol b v) c ∙ ap (firstFrom (hasSymbol b v) 0) e
 
--- a place that was found, and none
-pub below-none : (n : ℕ) (w : Found) → Nothing ≡ w → below n n ≡ w
-below-none n w e = rw (le-ltb n n (omega arith)) e
+-- no page is counted
+pub none-counted : (b : List ℕ) (v c : ℕ) → c ≡ field b 9 1 → c ≡ 0 → Nothing ≡ pagePlace b v
+unfolding pagePlace countOf firstFrom
+none-counted b v c e z = rw (← e, z)
 
-module _ (n k : ℕ) (w : Found) where
-  pub below-found : k < n → At k ≡ w → below n k ≡ w
-  below-found h e = rw (lt-ltb k n h) e
+-- the last page that is left
+pub last-place : (b : List ℕ) (v m : ℕ) (w : Found) → firstFrom (hasSymbol b v) m (m + 1 - m) ≡ w → placeIf b v m ≡ w
+unfolding firstFrom
+last-place b v m w e = let n : m + 1 - m ≡ 1 = omega arith in rw n at e
 
-  pub found-below : k < n → below n k ≡ w → At k ≡ w
-  found-below h e = rw (lt-ltb k n h) at e
+-- a page that has the symbol, and one that has not
+module _ (b : List ℕ) (v k : ℕ) (w : Found) where
+  pub place-has : hasSymbol b v k ≡ true → At k ≡ w → placeIf b v k ≡ w
+  place-has h e = rw h e
 
-  pub none-below : n ≤ k → below n k ≡ w → Nothing ≡ w
-  none-below h e = rw (le-ltb k n h) at e
+  pub has-place : hasSymbol b v k ≡ true → placeIf b v k ≡ w → At k ≡ w
+  has-place h e = rw h at e
+
+  pub lacks-place : hasSymbol b v k ≡ false → placeIf b v k ≡ w → Nothing ≡ w
+  lacks-place h e = rw h at e
 
 pub pages-room : (b : List ℕ) (n : ℕ) → sound b ≡ true → n ≡ field b 8 1 → (n ≤ 64) × (length b ≡ 847 + n * 6054)
 unfolding symbolsOf

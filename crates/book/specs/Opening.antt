@@ -87,9 +87,9 @@ pagesIn b = map (λ k. readingOf (pageAt b k)) (range (countOf b) 0)
 unfoldable pub pagePlace : List ℕ → ℕ → Found
 pagePlace b s = firstFrom (λ k. eqb (field (pageAt b k) 0 11) s) 0 (countOf b)
 
--- k as a place below n
-abbrev pub below : ℕ → ℕ → Found
-below n k = cond (ltb k n) (At k) Nothing
+-- page k, if it has the symbol s
+abbrev pub placeIf : List ℕ → ℕ → ℕ → Found
+placeIf b s k = cond (eqb (field (pageAt b k) 0 11) s) (At k) Nothing
 
 -- the book with a page changed
 abbrev pub onPlace : (List ℕ → List ℕ) → List ℕ → Found → List ℕ

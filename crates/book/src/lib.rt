@@ -11,7 +11,7 @@ ghost use Rattle.block.specs.Sequence.{nextOf};
 ghost use Rattle.message.specs.Form.{letterGood};
 ghost use Rattle.message.specs.Message.{messageOf};
 ghost use Rattle.page.specs.Page.{emptied, finraOn};
-ghost use Rattle.book.specs.Opening.{symbolsOf, sound, lineAt, lineBytes, linesIn, pagePlace, below, eachPage, restarted, restartLines};
+ghost use Rattle.book.specs.Opening.{symbolsOf, sound, lineAt, lineBytes, linesIn, pagePlace, placeIf, eachPage, restarted, restartLines};
 ghost use Rattle.book.specs.Call.{Told, isRejected, Outcome, bare, call, make, add, openLine, startDay, endDay, lots, blockNumber, lineAfter, numberOn, messageOn};
 ghost use Rattle.book.specs.Code.{opened, orFrom, pageFlags, finraFlags, toldOne, quad, tallyWith, gateBy, gateOf, Ran, ran, TakenBlock, taken, ReadOut, readOut};
 use block::Arrival;
@@ -167,22 +167,32 @@ fn find(book: &[u8], symbol: &[u8]) -> Found
     ensures { λ r. ⌜ r ≡ pagePlace (now (book .entry)) (be (now (symbol .entry))) ⌝ }
 {
     let count = field::get8(book, Book::COUNT) as usize;
+    if count == 0 {
+        return Found::Nothing;
+    }
     let high = field::get64(symbol, 0);
     let middle = field::get16(symbol, 8);
     let low = field::get8(symbol, 10);
-    let k = place(book, count, high, middle, low);
-    if k < count {
+    let k = place(book, count - 1, high, middle, low);
+    if has_symbol(
+        book,
+        Book::OPENING_LEN + k * Book::PAGE_LEN,
+        high,
+        middle,
+        low,
+    ) {
         return Found::At(k);
     }
     Found::Nothing
 }
 
-// The first of the count pages with the symbol of these 8, 2 and 1 bytes; count if there is none. A number: the loop would write a Found each time.
-fn place(book: &[u8], count: usize, high: u64, middle: u16, low: u8) -> usize
-    requires { ⌜ (sound (now book) ≡ true) × (count ≡ field (now book) 9 1) ⌝ }
-    ensures { λ r. ⌜ below count r ≡ pagePlace (now (book .entry)) (high * 16777216 + (middle * 256 + low)) ⌝ }
+// The first page before the last one with the symbol of these 8, 2 and 1 bytes, else the last. Whether that has it is asked behind the loop, which so
+// stays one comparison a page.
+fn place(book: &[u8], last: usize, high: u64, middle: u16, low: u8) -> usize
+    requires { ⌜ (sound (now book) ≡ true) × (last + 1 ≡ field (now book) 9 1) ⌝ }
+    ensures { λ r. ⌜ (r ≤ last) × (placeIf (now (book .entry)) (high * 16777216 + (middle * 256 + low)) r ≡ pagePlace (now (book .entry)) (high * 16777216 + (middle * 256 + low))) ⌝ }
 {
-    for k in 0..count {
+    for k in 0..last {
         if has_symbol(
             book,
             Book::OPENING_LEN + k * Book::PAGE_LEN,
@@ -193,7 +203,7 @@ fn place(book: &[u8], count: usize, high: u64, middle: u16, low: u8) -> usize
             return k;
         }
     }
-    count
+    last
 }
 
 // Whether the 11 bytes at `at` are these 8, 2 and 1.

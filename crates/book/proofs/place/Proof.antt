@@ -5,25 +5,25 @@ use mathlib.Core.Bool.{Bool}
 use native.Mathlib.Omega.{arith}
 use lib.ListN.{length}
 use Rattle.lists.specs.Lists.{firstFrom}
-use Rattle.lists.proofs.Searches.{first-found, first-again, first-end}
+use Rattle.lists.proofs.Searches.{first-found, first-again}
 use Rattle.book.specs.Opening.{pagePlace}
-use Rattle.book.proofs.ReadLaws.{counted-room, page-symbol, hasSymbol, find-start, below-found, below-none}
+use Rattle.book.proofs.ReadLaws.{counted-room, page-symbol, hasSymbol, find-start, last-place, place-has}
 use borrow.Author.Needs.{needs}
 use Rattle.book.proofs.place.Statement.{statement}
 use Rattle.book.proofs.place.Tie as tie
 
 abbrev Inv-loop : tie.InvT-loop
-Inv-loop book count high middle low k₀ k =
-    (k ≤ count) × (firstFrom (hasSymbol book (high * 16777216 + (middle * 256 + low))) k (count - k) ≡ pagePlace book (high * 16777216 + (middle * 256 + low)))
+Inv-loop book last high middle low k₀ k =
+    (k ≤ last) × (firstFrom (hasSymbol book (high * 16777216 + (middle * 256 + low))) k (last + 1 - k) ≡ pagePlace book (high * 16777216 + (middle * 256 + low)))
 
 abbrev μ-loop : tie.MeasureT-loop
-μ-loop book count high middle low k₀ k = count - k
+μ-loop book last high middle low k₀ k = last - k
 
 loop-holds : tie.Need-loop-holds Inv-loop μ-loop
 loop-holds c = (search needs, find-start _ _ _ (c .before .pre .1))
 
 room : (c : tie.In-loop Inv-loop μ-loop) → (847 + c .before .loop .k * 6054 + 6054 ≤ length (c .before .before .before .args .book .now)) × (c .before .loop .k < 64)
-room c = let s = c .before .before .before in counted-room _ _ _ (s .pre .0) (s .pre .1) (c .loop-test .taken)
+room c = let s = c .before .before .before in counted-room _ _ _ (s .pre .0) (s .pre .1) (omega (arith, c .loop-test .taken))
 
 mul-has-symbol : tie.Need-mul-has-symbol Inv-loop μ-loop
 mul-has-symbol c = omega (arith, room c .1)
@@ -34,20 +34,26 @@ add-has-symbol c = omega (arith, room c .1)
 has-symbol-requires : tie.Need-has-symbol-requires Inv-loop μ-loop
 has-symbol-requires c κs = omega (arith, room c .0)
 
+has : (c : tie.After-has-symbol Inv-loop μ-loop) (t : Bool) → c .has-symbol .result ≡ t
+    → hasSymbol (c .before .before .before .before .args .book .now) (c .before .before .before .before .args .high * 16777216 + (c .before .before .before .before .args .middle * 256 + c .before .before .before .before .args .low)) (c .before .before .loop .k) ≡ t
+has c t e = page-symbol _ _ _ _ _ _ refl (c .has-symbol .ensures) e
+
 returns : tie.Need-returns Inv-loop μ-loop
 returns c =
-    let h = c .before in
-    let l = h .before in
-    below-found _ _ _ (l .loop-test .taken) (first-found _ _ _ _ (l .loop-test .taken) (l .before .loop .inv .1) (page-symbol _ _ _ _ _ _ refl (h .has-symbol .ensures) (c .if1 .taken)))
+    let l = c .before .before in
+    let t = has (c .before) _ (c .if1 .taken) in
+    (search needs, place-has _ _ _ _ t (first-found _ _ _ _ (omega (arith, l .loop-test .taken)) (l .before .loop .inv .1) t))
 
 loop-again : tie.Need-loop-again Inv-loop μ-loop
 loop-again c =
-    let h = c .before in
-    let l = h .before in
-    (search needs, first-again _ _ _ _ (l .loop-test .taken) (l .before .loop .inv .1) (page-symbol _ _ _ _ _ _ refl (h .has-symbol .ensures) (c .if1 .left)))
+    let l = c .before .before in
+    (search needs, first-again _ _ _ _ (omega (arith, l .loop-test .taken)) (l .before .loop .inv .1) (has (c .before) _ (c .if1 .left)))
 
 returns-2 : tie.Need-returns-2 Inv-loop μ-loop
-returns-2 c = below-none (c .before .before .before .args .count) _ (first-end _ _ _ _ (c .loop-test .left) (c .before .loop .inv .1))
+returns-2 c =
+    let s = c .before .before .before in
+    let e : c .before .loop .k ≡ s .args .last = omega (arith, c .loop-test .left, c .before .loop .inv .0) in
+    (search needs, last-place _ _ _ _ (rw e at (c .before .loop .inv .1)))
 
 pub place-spec : {M : Type 1} → statement M
 place-spec =
