@@ -640,7 +640,7 @@ fn outranks(page: &[u8], at: usize, side: Side, letter: u8, level: Level) -> boo
     rank < standing
 }
 
-/// Whether a letter's new quote is behind both national entries. It then changes no entry of a page that keeps its entries: most quotes do not.
+/// Whether a letter's new quote is behind both national entries, as most are. In a page that keeps its entries it then changes none.
 pub fn is_quote_behind(page: &[u8], letter: u8, quote: Quote) -> bool
     requires { ⌜ length (now page) ≡ 6054 ⌝ }
     ensures { λ r. ⌜ r ≡ quoteBehind letter quote (now (page .entry)) ⌝ }
@@ -674,7 +674,7 @@ fn is_level_behind(page: &[u8], at: usize, odd: usize, side: Side, letter: u8, l
     true
 }
 
-/// Whether the first levels that stand in a letter's slot are behind the entries. They then change no entry of a page that keeps its entries.
+/// Whether the first levels that stand in a letter's slot are behind the entries. In a page that keeps its entries they then change none.
 pub fn are_levels_behind(page: &[u8], letter: u8) -> bool
     requires { ⌜ length (now page) ≡ 6054 ⌝ }
     requires { ⌜ (65 ≤ letter) × (letter < 91) ⌝ }

@@ -258,7 +258,10 @@ impl Pages<'_> {
             if code != 0 && kind != b"QK" {
                 continue;
             }
-            let old = std::mem::replace(entries, reading.entries());
+            let old = *entries;
+            if !reading.leaves(message, code, entries) {
+                *entries = reading.entries();
+            }
             // The flags go by listed symbols.
             if at < usize::from(self.before[COUNT]) {
                 changed |= changes(&old, entries);
