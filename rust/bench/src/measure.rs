@@ -1,7 +1,7 @@
 //! Interleaved rounds on the three books, and what they give.
 
 use crate::library::Library;
-use crate::replay::{checked, clock_cost, timed, timed_calls, Outcome};
+use crate::replay::{checked, clock_cost, timed, timed_calls, told_calls, Outcome, KINDS};
 use crate::stream::Stream;
 use second::{Engine, Incremental, QuoteBook};
 
@@ -137,6 +137,32 @@ impl Latency {
             books: seen.map(|parts| parts.map(median)),
         })
     }
+}
+
+/// For each of [`KINDS`], accepted messages that change no entry and those that change one: how many
+/// there are, and the library's nanoseconds a call, each call in its fastest round, the clock's own
+/// cost subtracted.
+pub fn by_kind(stream: &Stream, rounds: usize) -> [[(usize, f64); 2]; KINDS.len()] {
+    let mut library = Books::new(stream).library;
+    let told = told_calls(&mut library, stream);
+    let clock = clock_cost();
+    let mut fastest = vec![u64::MAX; told.len()];
+    let mut calls = Vec::new();
+    for _ in 0..rounds {
+        timed_calls(&mut library, stream, &mut calls);
+        for (best, &call) in fastest.iter_mut().zip(&calls) {
+            *best = call.min(*best);
+        }
+    }
+    let mut sums = [[(0, 0.0); 2]; KINDS.len()];
+    for (&call, told) in fastest.iter().zip(told) {
+        if let Some((kind, changes)) = told {
+            let (count, sum) = &mut sums[kind][usize::from(changes)];
+            *count += 1;
+            *sum += call.saturating_sub(clock) as f64;
+        }
+    }
+    sums.map(|kind| kind.map(|(count, sum)| (count, sum / count as f64)))
 }
 
 /// Replays a stream on one book alone, for a profiler, and gives its nanoseconds a message.

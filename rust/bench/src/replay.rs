@@ -133,6 +133,31 @@ pub fn timed_calls(book: &mut impl QuoteBook, stream: &Stream, calls: &mut Vec<u
     outcome
 }
 
+/// What a measured call of one message is: its place in [`KINDS`], and whether it changes an entry.
+pub type Told = (usize, bool);
+
+/// The kinds of messages that calls are told apart by.
+pub const KINDS: [&str; 4] = ["Q K without odd lots", "Q K with odd lots", "Q M", "Q U"];
+
+/// What each measured call of a stream of single messages is; none for a spoiled message.
+pub fn told_calls(book: &mut impl QuoteBook, stream: &Stream) -> Vec<Option<Told>> {
+    warm(book, stream);
+    let mut answer = [0; ANSWER_LEN];
+    let calls = stream.measured().map(|(line, block)| {
+        book.take_block(line, block, &mut answer);
+        let message = &block[12..];
+        let kind = match (&message[..2], message.len()) {
+            (b"QK", 60) => 0,
+            (b"QK", _) => 1,
+            (b"QM", _) => 2,
+            (b"QU", _) => 3,
+            _ => return None,
+        };
+        (answer[1] == 0).then_some((kind, answer[2] != 0))
+    });
+    calls.collect()
+}
+
 /// What [`timed_calls`] sees of a call that does nothing: the middle of many.
 pub fn clock_cost() -> u64 {
     let mut pairs: Vec<u64> = (0..100_001)

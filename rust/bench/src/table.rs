@@ -3,8 +3,8 @@
 use std::fs;
 
 use crate::library::Library;
-use crate::measure::{Latency, Throughput, NAMES};
-use crate::replay::Outcome;
+use crate::measure::{self, Latency, Throughput, NAMES};
+use crate::replay::{Outcome, KINDS};
 use crate::stream::{Kind, Size, Stream};
 use second::{Engine, Incremental};
 
@@ -48,6 +48,8 @@ pub fn print_all(messages: usize, rounds: usize) -> Result<(), String> {
     print_throughput(&FIXED, messages, rounds)?;
     println!();
     print_latency(messages, rounds)?;
+    println!();
+    print_kinds(messages, rounds);
     println!();
     print_memory();
     Ok(())
@@ -120,6 +122,17 @@ fn print_latency(messages: usize, rounds: usize) -> Result<(), String> {
     Ok(())
 }
 
+/// Single messages of 64 symbols on the library, by kind.
+fn print_kinds(messages: usize, rounds: usize) {
+    println!("| library, n = 64, ns a call | changes no entry | changes one |");
+    println!("|---|---|---|");
+    let stream = Stream::new(64, Kind::Mixed, Size::Fixed(1), messages);
+    for (name, sums) in KINDS.iter().zip(measure::by_kind(&stream, rounds)) {
+        let [same, changed] = sums.map(|(count, mean)| format!("{mean:.0} ({count} calls)"));
+        println!("| {name} | {same} | {changed} |");
+    }
+}
+
 fn print_memory() {
     println!("| bytes of a book | n = 1 | n = 8 | n = 64 |");
     println!("|---|---|---|---|");
@@ -162,6 +175,15 @@ mod tests {
             let stream = Stream::new(n, kind, size, 2_000);
             assert_eq!(stream.messages(), count * stream.blocks(), "{name}");
         }
+    }
+
+    #[test]
+    fn every_accepted_message_is_of_a_kind() {
+        let stream = Stream::new(8, Kind::Mixed, Size::Fixed(1), 2_000);
+        let (_, outcome) = Throughput::measure(&stream, 1).expect("all books agree");
+        let counts = measure::by_kind(&stream, 1).map(|kind| kind.map(|(count, _)| count as u64));
+        assert!(counts.iter().flatten().all(|&count| count > 0));
+        assert_eq!(counts.iter().flatten().sum::<u64>(), outcome.messages[0]);
     }
 
     #[test]
