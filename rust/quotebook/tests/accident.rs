@@ -70,14 +70,7 @@ fn a_partly_accepted_quote_changes_its_quote_and_the_national_entries_alone() {
     for (code, part) in refused_parts() {
         let mut book = book();
         let before = book.clone();
-        let round = Round {
-            letter: b'N',
-            time: 8,
-            symbol: build::symbol("ZT"),
-            condition: b'R',
-            bid: (TEN, 3),
-            offer: (TEN + 20 * CENT, 2),
-        };
+        let round = Round::regular(b'N', 8, "ZT", (TEN, 3), (TEN + 20 * CENT, 2));
         assert_eq!(send(&mut book, 2, build::round_lot(&round, &part)), code);
         let slot = SLOTS.start + SLOT_LEN * usize::from(b'N' - b'A');
         let national = ENTRIES.start..ENTRIES.start + 32;

@@ -20,14 +20,7 @@ fn book() -> Guarded {
 
 /// N quotes ZT.
 fn take(book: &mut Guarded) -> u8 {
-    let round = Round {
-        letter: b'N',
-        time: 7,
-        symbol: build::symbol("ZT"),
-        condition: b'R',
-        bid: (10_000_000, 3),
-        offer: (10_020_000, 2),
-    };
+    let round = Round::regular(b'N', 7, "ZT", (10_000_000, 3), (10_020_000, 2));
     let block = build::block(1, &[build::round_lot(&round, &Odd::IDLE)]);
     book.take_block(5, &block, &mut [0; 180]).number
 }

@@ -89,14 +89,7 @@ fn prices_have_two_to_six_decimals() {
 }
 
 fn quote(sequence: u32, bid: (u64, u32), odd: &Odd) -> Vec<u8> {
-    let round = Round {
-        letter: b'N',
-        time: 7,
-        symbol: build::symbol("ZT"),
-        condition: b'R',
-        bid,
-        offer: (10_020_000, 2),
-    };
+    let round = Round::regular(b'N', 7, "ZT", bid, (10_020_000, 2));
     build::block(
         sequence,
         &[
@@ -181,14 +174,7 @@ fn a_publication_is_decoded() -> Result<(), Refusal> {
         offers: vec![],
     };
     book.take_block(5, &quote(1, (10_000_000, 3), &odd))?;
-    let round = Round {
-        letter: b'D',
-        time: 7,
-        symbol: build::symbol("ZT"),
-        condition: b'R',
-        bid: (9_990_000, 1),
-        offer: (10_015_000, 9),
-    };
+    let round = Round::regular(b'D', 7, "ZT", (9_990_000, 1), (10_015_000, 9));
     let maker = build::maker_quote(&round, build::maker("AB"));
     book.take_block(7, &build::block(1, &[maker]))?;
     let publication = book.read("ZT")?;

@@ -67,6 +67,18 @@ pub struct Round {
 }
 
 impl Round {
+    /// A regular quote: condition R, which admits both sides.
+    pub fn regular(letter: u8, time: u64, symbol: &str, bid: Shown, offer: Shown) -> Round {
+        Round {
+            letter,
+            time,
+            symbol: self::symbol(symbol),
+            condition: b'R',
+            bid,
+            offer,
+        }
+    }
+
     fn write(&self, message_type: u8) -> Vec<u8> {
         let mut message = header(b'Q', message_type, self.letter, self.time);
         message.extend(self.symbol);

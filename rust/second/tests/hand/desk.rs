@@ -142,14 +142,7 @@ fn letter(line: u32) -> u8 {
 
 /// A round part for ZT at time 7 under condition R.
 pub fn round(line: u32, bid: Shown, offer: Shown) -> Round {
-    Round {
-        letter: letter(line),
-        time: 7,
-        symbol: build::symbol("ZT"),
-        condition: b'R',
-        bid,
-        offer,
-    }
+    Round::regular(letter(line), 7, "ZT", bid, offer)
 }
 
 /// Q K without an odd part.

@@ -100,14 +100,7 @@ pub const CENT: u64 = 10_000;
 
 /// A round part for ZT at time 7 under condition R.
 pub fn round(letter: u8, bid: Shown, offer: Shown) -> Round {
-    Round {
-        letter,
-        time: 7,
-        symbol: build::symbol("ZT"),
-        condition: b'R',
-        bid,
-        offer,
-    }
+    Round::regular(letter, 7, "ZT", bid, offer)
 }
 
 /// Q K for ZT without an odd part: 10.00 for 3, 10.02 for 2.
