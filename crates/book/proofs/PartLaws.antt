@@ -11,12 +11,11 @@ use Rattle.lists.specs.Lists.{upper}
 use Rattle.quote.specs.Quote.{QuoteFits}
 use Rattle.levels.proofs.LevelLaws.{OddGood}
 use Rattle.message.specs.Message.{Part, roundPart, oddPart, makerPart, finraPart}
-use Rattle.entries.specs.Page.{pageEntries}
-use Rattle.page.specs.Page.{readingOf, roundOn, oddOnPage, makerOn, finraOn}
-use Rattle.page.proofs.Model.{AllKeep, keep-at, roundReading, oddReading, makerReading, finraReading, partReading}
+use Rattle.page.specs.Page.{roundOn, oddOnPage, makerOn, finraOn}
+use Rattle.page.proofs.Model.{roundReading, oddReading, makerReading, finraReading, partReading}
 use Rattle.page.proofs.CellLaws.{Stands}
 use Rattle.page.proofs.SpokenLaws.{Shaped, AllShaped}
-use Rattle.page.proofs.EntryLaws.{Kept, Keeps}
+use Rattle.page.proofs.EntryLaws.{Kept}
 use Rattle.page.proofs.SlotLaws.{round-kept, round-reads, levels-for-good, odd-kept, odd-reads}
 use Rattle.page.proofs.MakerLaws.{maker-kept, maker-reads, finra-kept, finra-reads}
 use Rattle.book.specs.Opening.{countOf, pageAt, pagesIn}
@@ -50,35 +49,30 @@ pub record PartDone (r : Part) (b b′ : List ℕ) : Type 0 where
   pub pages : pagesIn b′ ≡ partReading r (pagesIn b)
   pub kept : OpeningKept b b′
 
--- the page at k keeps its entries
-pub page-keeps : (b : List ℕ) → AllKeep (pagesIn b) → (k : ℕ) → k < countOf b → Keeps (pageAt b k)
-unfolding pagesIn readingOf pageEntries
-page-keeps b a k h = keep-at (λ (j : ℕ). readingOf (pageAt b j)) (countOf b) 0 a k (omega arith) (omega arith)
-
--- in a sound book of bytes whose pages keep their entries
-pub part-done : (n : ℕ) (r : Part) (b : List ℕ) → Sound n b → Bytes b → AllKeep (pagesIn b) → PartGood r → PartDone r b (partOn r b)
+-- in a sound book of bytes
+pub part-done : (n : ℕ) (r : Part) (b : List ℕ) → Sound n b → Bytes b → PartGood r → PartDone r b (partOn r b)
 unfolding partOn partReading
-part-done n (roundPart s l q) b sd y a (u, f) =
+part-done n (roundPart s l q) b sd y (u, f) =
     let keeps : (p : List ℕ) → length p ≡ 6054 → Kept p (roundOn l q p) = λ p w. round-kept p w l u q in
     record {
-      pages = on-reads n b sd s (roundOn l q) keeps (roundReading l q) (λ k x. round-reads (pageAt b k) (length-page n b sd k (omega (arith, sd .count))) l u q f (bytes-page b k y) (page-keeps b a k x));
+      pages = on-reads n b sd s (roundOn l q) keeps (roundReading l q) (λ k x. round-reads (pageAt b k) (length-page n b sd k (omega (arith, sd .count))) l u q f);
       kept = on-kept n b sd s (roundOn l q) keeps;
     }
-part-done n (oddPart s l o) b sd y a (u, f) =
+part-done n (oddPart s l o) b sd y (u, f) =
     let keeps : (p : List ℕ) → length p ≡ 6054 → Kept p (oddOnPage l o p) = λ p w. odd-kept p w l u o in
     let wide : (k : ℕ) → k < countOf b → length (pageAt b k) ≡ 6054 = λ k x. length-page n b sd k (omega (arith, sd .count)) in
     record {
       pages = on-reads n b sd s (oddOnPage l o) keeps (oddReading l o)
-          (λ k x. odd-reads (pageAt b k) (wide k x) l u o f (levels-for-good (pageAt b k) (wide k x) (bytes-page b k y) l) (bytes-page b k y) (page-keeps b a k x));
+          (λ k x. odd-reads (pageAt b k) (wide k x) l u o f (levels-for-good (pageAt b k) (wide k x) (bytes-page b k y) l));
       kept = on-kept n b sd s (oddOnPage l o) keeps;
     }
-part-done n (makerPart s m q) b sd y a (i, f, c) =
+part-done n (makerPart s m q) b sd y (i, f, c) =
     let keeps : (p : List ℕ) → length p ≡ 6054 → Kept p (makerOn m q p) = λ p w. maker-kept m q p w in
     record {
       pages = on-reads n b sd s (makerOn m q) keeps (makerReading m q) (λ k x. maker-reads m q (pageAt b k) (length-page n b sd k (omega (arith, sd .count))) i f c);
       kept = on-kept n b sd s (makerOn m q) keeps;
     }
-part-done n (finraPart c) b sd y a s =
+part-done n (finraPart c) b sd y s =
     record {
       pages = each-reads n (finraOn c) (λ p w. finra-kept c p w) b sd (finraReading c) (λ p w. finra-reads c p w s);
       kept = each-kept n (finraOn c) (λ p w. finra-kept c p w) b sd;

@@ -8,14 +8,14 @@ use native.Mathlib.Omega.{arith}
 use lib.Dec.{eqb}
 use lib.ListN.{length}
 use borrow.Author.Tests.{eq-eqb, ne-eqb}
-use Rattle.field.specs.Field.{Bytes, part, field, splice}
+use Rattle.field.specs.Field.{part, field, splice}
 use Rattle.field.proofs.Laws.{part-put, part-before, length-part, length-splice}
 use Rattle.lists.specs.Lists.{upper, orElse}
 use Rattle.lists.specs.declared.Found.the-variants.{At, Nothing}
 use Rattle.lists.proofs.Tests.{Cut, equal, apart, cut}
 use Rattle.quote.specs.declared.Quote.{Quote}
 use Rattle.quote.specs.Quote.{emptyQuote, quoteBytes}
-use Rattle.levels.specs.Levels.{Standing, Odd, oddOn, idleOdd, oddIn, levelsBytes, levelsIn}
+use Rattle.levels.specs.Levels.{Standing, Odd, oddOn, idleOdd, oddIn, levelsIn}
 use Rattle.levels.specs.Cells.{bytesOf}
 use Rattle.levels.specs.Part.{oddAnswer, judgedNumber, sidesOf, answerOf}
 use Rattle.levels.specs.declared.OddAnswer.{OddAnswer}
@@ -26,15 +26,13 @@ use Rattle.entries.specs.Publication.{publication, changeFlags}
 use Rattle.entries.proofs.PublicationLaws.{length-publication}
 use Rattle.entries.specs.Page.{slotAt, cellAt, levelsFor, pageEntries, refreshed}
 use Rattle.message.specs.Message.{makerCode}
-use Rattle.entries.specs.Behind.{quoteBehind, levelsBehind}
-use Rattle.page.specs.Page.{readingOf, knownBy, putRound, roundOn, putLevels, oddOnPage, putMaker, makerOn, makerPlace, freePlace, cellFor, finraOn, markCell, markCells}
+use Rattle.page.specs.Page.{readingOf, knownBy, putRound, roundOn, putLevels, putOdd, oddOnPage, putMaker, makerOn, makerPlace, freePlace, cellFor, finraOn, markCell, markCells}
 use Rattle.page.specs.Update.{Updated, rejected, flagged, oddCodeOn, oddTaken, roundLotOn, oddLotOn, makerQuoteOn}
 use Rattle.page.proofs.EntryLaws.{upper-low, kept-lot}
 use Rattle.page.proofs.CellLaws.{mark-length}
 use Rattle.page.proofs.MakerLaws.{maker-hit, free-hit, maker-code}
-use Rattle.page.proofs.SlotLaws.{levels-here, put-round-levels, put-round-kept, round-stands, levels-stand}
+use Rattle.page.proofs.SlotLaws.{levels-here, put-round-levels, put-round-kept, round-stands, odd-stands}
 use Rattle.page.proofs.RefreshLaws.{one-refresh}
-use Rattle.page.proofs.UpdateLaws.{flags-none}
 
 -- the entries that stand after a refresh are those worked out
 pub refreshed-entries : (p : List ℕ) → length p ≡ 6054 → part (refreshed p) 12 96 ≡ publication (pageEntries p)
@@ -55,15 +53,6 @@ pub renewed-is : (code : ℕ) (p q : List ℕ) (r : ℕ) → length p ≡ 6054 �
     → _≡_ {A = Updated} (record { code = code; flags = r; page = q }) (flagged code p (refreshed p))
 unfolding flagged
 renewed-is code p q r w e f = rw (refreshed-entries p w, ← e, ← f)
-
--- what `renewed_unless` gives
-module _ (code : ℕ) (p : List ℕ) (t : Bool) where
-  pub unless-behind : t ≡ true → _≡_ {A = Updated} (record { code = code; flags = 0; page = p }) (flagged code p (cond t p (refreshed p)))
-  unfolding flagged
-  unless-behind h = rw (h, flags-none (part p 12 96))
-
-  pub unless-ahead : (r : Updated) → t ≡ false → r ≡ flagged code p (refreshed p) → r ≡ flagged code p (cond t p (refreshed p))
-  unless-ahead r h f = rw h f
 
 -- ---- Q K and Q M
 
@@ -90,7 +79,11 @@ module _ (mark bids offers t : ℕ) (b : List ℕ) (h : length b ≡ 12 * (bids 
   pub idle-marked : (mark ≡ 32 → ⊥) → false ≡ idleOdd (oddIn mark bids offers t b)
   idle-marked n = sym (idle-in mark bids offers t b ∙ rw (ne-eqb mark 32 n))
 
--- an odd part on its letter's levels, refused or taken
+-- an odd part on its letter's levels: idle, refused or taken
+pub levels-idle : (p : List ℕ) (l : ℕ) (o : Odd) → idleOdd o ≡ true → (_≡_ {A = ℕ} 0 (oddCodeOn l o p)) × (p ≡ oddTaken l o p)
+unfolding putOdd
+levels-idle p l o i = let z : oddCodeOn l o p ≡ 0 = odd-idle (field p 11 1) (levelsFor p l) o i .0 in (sym z, rw (z, i))
+
 module _ (p : List ℕ) (l : ℕ) (o : Odd) (a : OddAnswer) (e : a ≡ oddAnswer (field p 11 1) (levelsFor p l) o) where
   told : (j : Judged) → a .judged ≡ j → oddAnswer (field p 11 1) (levelsFor p l) o .judged ≡ j
   told j f = sym (ap (λ (x : OddAnswer). x .judged) e) ∙ f
@@ -102,92 +95,44 @@ module _ (p : List ℕ) (l : ℕ) (o : Odd) (a : OddAnswer) (e : a ≡ oddAnswer
   )
 
   -- both sides written
-  pub levels-written : (at : ℕ) (p′ : List ℕ) → a .judged ≡ Pass → at ≡ slotAt l
+  pub levels-written : (at : ℕ) (p′ : List ℕ) → idleOdd o ≡ false → a .judged ≡ Pass → at ≡ slotAt l
       → p′ ≡ splice (splice p (at + 41) (bytesOf (a .bids .cells))) (at + 41 + 80) (bytesOf (a .offers .cells)) → (_≡_ {A = ℕ} 0 (oddCodeOn l o p)) × (p′ ≡ oddTaken l o p)
-  unfolding putLevels sidesOf
-  levels-written at p′ j h f =
+  unfolding putOdd putLevels sidesOf
+  levels-written at p′ i j h f =
       let v : Standing = orElse (oddOn o (levelsFor p l)) (levelsFor p l) in
       let (z, k) = answer-pass (field p 11 1) (levelsFor p l) o (told Pass j) in
       let y : a ≡ answerOf Pass (sidesOf v) = e ∙ k in
-      (sym z, f ∙ rw (z, y, h) (write-both p (slotAt l + 41) v))
+      (sym z, f ∙ rw (z, i, y, h) (write-both p (slotAt l + 41) v))
 
-module _ (p : List ℕ) (w : length p ≡ 6054) (l : ℕ) (u : upper l ≡ true) where
-  -- the round part leaves what the odd part's code is worked out from
-  code-same : (q : Quote) (o : Odd) → oddCodeOn l o (putRound l q p) ≡ oddCodeOn l o p
-  code-same q o = rw (kept-lot p (putRound l q p) (put-round-kept p w l u q), ap (λ (v : ℕ → Standing). v l) (put-round-levels p w l u q))
-
-  -- Q K: the round part, then the odd part, which is idle, refused or taken
-  module _ (q : Quote) (o : Odd) (at : ℕ) (t : Bool) (p′ : List ℕ) (r : Updated) (e : t ≡ quoteBehind l q p) (h : at ≡ slotAt l) (d : p′ ≡ splice p at (quoteBytes q)) where
-    round-put : p′ ≡ putRound l q p
-    unfolding putRound
-    round-put = d ∙ ap (λ (k : ℕ). splice p k (quoteBytes q)) h
-
-    -- the round part alone
-    round-alone : (code : ℕ) → r ≡ flagged code p′ (cond t p′ (refreshed p′)) → r ≡ flagged code p (roundOn l q p)
-    unfolding roundOn
-    round-alone code f =
-        f ∙ ap (λ (s : List ℕ). flagged code s (cond t s (refreshed s))) round-put
-        ∙ flagged-from code p (putRound l q p) (cond t (putRound l q p) (refreshed (putRound l q p))) (round-stands p w l u q)
-        ∙ rw (← e)
-
-    pub round-idle : idleOdd o ≡ true → r ≡ flagged 0 p′ (cond t p′ (refreshed p′)) → r ≡ roundLotOn l 0 q o p
-    unfolding roundLotOn oddOnPage
-    round-idle i f = let z : oddCodeOn l o p ≡ 0 = odd-idle (field p 11 1) (levelsFor p l) o i .0 in round-alone 0 f ∙ rw (z, i)
-
-    module _ (code : ℕ) (p″ : List ℕ) (c : code ≡ oddCodeOn l o p′) (g : p″ ≡ oddTaken l o p′) where
-      code-is : code ≡ oddCodeOn l o p
-      code-is = c ∙ ap (oddCodeOn l o) round-put ∙ code-same q o
-
-      page-is : (b : Bool) → eqb (oddCodeOn l o p) 0 ≡ b → p″ ≡ cond b (putLevels l o (putRound l q p)) (putRound l q p)
-      page-is b z = g ∙ ap (oddTaken l o) round-put ∙ rw (code-same q o, z)
-
-      pub round-refused : (code ≡ 0 → ⊥) → r ≡ flagged code p″ (cond t p″ (refreshed p″)) → r ≡ roundLotOn l 0 q o p
-      unfolding roundLotOn
-      round-refused n f =
-          let z : eqb (oddCodeOn l o p) 0 ≡ false = ne-eqb (oddCodeOn l o p) 0 (λ k. n (code-is ∙ k)) in
-          let y : p″ ≡ p′ = page-is false z ∙ sym round-put in
-          round-alone code (f ∙ ap (λ (s : List ℕ). flagged code s (cond t s (refreshed s))) y) ∙ ap (λ (k : ℕ). flagged k p (roundOn l q p)) code-is ∙ rw z
-
-      module _ (i : idleOdd o ≡ false) (n : code ≡ 0) where
-        code-none : oddCodeOn l o p ≡ 0
-        code-none = sym code-is ∙ n
-
-        abbrev x : List ℕ
-        x = putRound l q p
-
-        abbrev y : List ℕ
-        y = putLevels l o (putRound l q p)
-
-        written-is : p″ ≡ y
-        written-is = page-is true (eq-eqb (oddCodeOn l o p) 0 code-none)
-
-        both-stand : part y 12 96 ≡ part p 12 96
-        both-stand = levels-stand x (put-round-kept p w l u q .size) l u o ∙ round-stands p w l u q
-
-        -- both parts, the quote behind the entries
-        pub round-behind : (v : Bool) → t ≡ true → v ≡ levelsBehind l p″ → r ≡ flagged 0 p″ (cond v p″ (refreshed p″)) → r ≡ roundLotOn l 0 q o p
-        unfolding roundLotOn oddOnPage roundOn
-        round-behind v h ev f =
-            let z : v ≡ levelsBehind l y = ev ∙ ap (levelsBehind l) written-is in
-            f ∙ ap (λ (s : List ℕ). flagged 0 s (cond v s (refreshed s))) written-is
-            ∙ flagged-from 0 p y (cond v y (refreshed y)) both-stand
-            ∙ rw (code-none, i, ← e, h, z)
-
-        -- or not
-        pub round-ahead : Bytes p → t ≡ false → r ≡ flagged 0 p″ (refreshed p″) → r ≡ roundLotOn l 0 q o p
-        unfolding roundLotOn roundOn
-        round-ahead b h f =
-            f ∙ ap (λ (s : List ℕ). flagged 0 s (refreshed s)) written-is
-            ∙ flagged-from 0 p y (refreshed y) both-stand
-            ∙ ap (flagged 0 p) (sym (one-refresh p l q o w u b i))
-            ∙ rw (code-none, ← e, h)
-
--- Q M: idle, refused, or taken
 module _ (p : List ℕ) (w : length p ≡ 6054) (l : ℕ) (u : upper l ≡ true) (o : Odd) where
-  pub odd-nothing : idleOdd o ≡ true → _≡_ {A = Updated} (record { code = 0; flags = 0; page = p }) (oddLotOn l o p)
-  unfolding oddLotOn oddOnPage flagged
-  odd-nothing i = let z : oddCodeOn l o p ≡ 0 = odd-idle (field p 11 1) (levelsFor p l) o i .0 in rw (z, i, flags-none (part p 12 96))
+  -- Q K: the round part is written, then the odd part, and the entries are worked out once
+  module _ (q : Quote) where
+    abbrev x : List ℕ
+    x = putRound l q p
 
+    size : length x ≡ 6054
+    size = put-round-kept p w l u q .size
+
+    -- the round part leaves what the odd part's code is worked out from
+    code-same : oddCodeOn l o x ≡ oddCodeOn l o p
+    code-same = rw (kept-lot p x (put-round-kept p w l u q), ap (λ (v : ℕ → Standing). v l) (put-round-levels p w l u q))
+
+    once : (code : ℕ) (t : Bool) → flagged code (cond t (putOdd l o x) x) (refreshed (cond t (putOdd l o x) x)) ≡ flagged code p (cond t (oddOnPage l o (roundOn l q p)) (roundOn l q p))
+    unfolding oddOnPage roundOn
+    once code true =
+        flagged-from code p (putOdd l o x) (refreshed (putOdd l o x)) (odd-stands x size l u o ∙ round-stands p w l u q) ∙ ap (flagged code p) (sym (one-refresh x size l u o))
+    once code false = flagged-from code p x (refreshed x) (round-stands p w l u q)
+
+    pub round-taken : (at : ℕ) (p′ : List ℕ) (code : ℕ) (p″ : List ℕ) (r : Updated) → at ≡ slotAt l → p′ ≡ splice p at (quoteBytes q)
+        → code ≡ oddCodeOn l o p′ → p″ ≡ oddTaken l o p′ → r ≡ flagged code p″ (refreshed p″) → r ≡ roundLotOn l 0 q o p
+    unfolding roundLotOn putRound
+    round-taken at p′ code p″ r h d c g f =
+        let e : p′ ≡ x = d ∙ ap (λ (k : ℕ). splice p k (quoteBytes q)) h in
+        let k : code ≡ oddCodeOn l o p = c ∙ ap (oddCodeOn l o) e ∙ code-same in
+        let y : p″ ≡ cond (eqb (oddCodeOn l o p) 0) (putOdd l o x) x = g ∙ ap (oddTaken l o) e ∙ rw code-same in
+        f ∙ (λ i. flagged (k i) (y i) (refreshed (y i))) ∙ once (oddCodeOn l o p) (eqb (oddCodeOn l o p) 0)
+
+  -- Q M: refused or taken
   module _ (code : ℕ) (p′ : List ℕ) (c : code ≡ oddCodeOn l o p) (g : p′ ≡ oddTaken l o p) where
     pub odd-refused : (code ≡ 0 → ⊥) → _≡_ {A = Updated} (record { code = code; flags = 0; page = p′ }) (oddLotOn l o p)
     unfolding oddLotOn
@@ -196,15 +141,12 @@ module _ (p : List ℕ) (w : length p ≡ 6054) (l : ℕ) (u : upper l ≡ true)
         let y : p′ ≡ p = rw z at g in
         rw (z, y, c)
 
-    pub odd-taken : (r : Updated) (v : Bool) → idleOdd o ≡ false → code ≡ 0 → v ≡ levelsBehind l p′ → r ≡ flagged 0 p′ (cond v p′ (refreshed p′)) → r ≡ oddLotOn l o p
+    pub odd-taken : (r : Updated) → code ≡ 0 → r ≡ flagged 0 p′ (refreshed p′) → r ≡ oddLotOn l o p
     unfolding oddLotOn oddOnPage
-    odd-taken r v i n ev f =
+    odd-taken r n f =
         let z : oddCodeOn l o p ≡ 0 = sym c ∙ n in
-        let y : p′ ≡ putLevels l o p = rw z at g in
-        let k : v ≡ levelsBehind l (putLevels l o p) = ev ∙ ap (levelsBehind l) y in
-        f ∙ ap (λ (s : List ℕ). flagged 0 s (cond v s (refreshed s))) y
-        ∙ flagged-from 0 p (putLevels l o p) (cond v (putLevels l o p) (refreshed (putLevels l o p))) (levels-stand p w l u o)
-        ∙ rw (z, i, k)
+        let y : p′ ≡ putOdd l o p = rw z at g in
+        f ∙ ap (λ (s : List ℕ). flagged 0 s (refreshed s)) y ∙ flagged-from 0 p (putOdd l o p) (refreshed (putOdd l o p)) (odd-stands p w l u o) ∙ rw z
 
 -- ---- Q U
 

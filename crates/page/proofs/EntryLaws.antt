@@ -98,14 +98,6 @@ refreshed-kept p w =
 abbrev pub again : Reading → Reading
 again r = worked (r .symbol) (r .lot) (r .quotes) (r .cells) (r .levels)
 
--- a page that keeps its entries: those worked out from its quotes stand
-abbrev pub Keeps : List ℕ → Type 0
-Keeps p = part p 12 96 ≡ publication (pageEntries p)
-
-pub keeps-reads : (p : List ℕ) → Keeps p → readingOf p ≡ again (readingOf p)
-unfolding worked readingOf pageEntries
-keeps-reads p k = λ i. record { symbol = field p 0 11; lot = field p 11 1; quotes = quotesIn p; cells = makersIn p; levels = levelsFor p; entries = k i }
-
 pub refreshed-reads : (p : List ℕ) → length p ≡ 6054 → readingOf (refreshed p) ≡ again (readingOf p)
 unfolding refreshed worked readingOf pageEntries
 refreshed-reads p w =

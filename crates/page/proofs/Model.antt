@@ -1,15 +1,12 @@
 -- A page's reading, changed part by part: what each function on a page's bytes is proved to do.
 -- Assumes nothing.
-use mathlib.Core.Path.{_≡_, refl, sym}
-use mathlib.Core.Bool.{Bool, true, false, cond}
+use mathlib.Core.Bool.{cond}
 use mathlib.Core.List.{List, [], _∷_, map}
 use mathlib.Core.Option.{Option, none, some}
-use Prim.Native.Nat.{ℕ, zero, suc, _+_, _≤_, _<_}
-use native.Mathlib.Omega.{arith}
+use Prim.Native.Nat.{ℕ}
 use lib.Dec.{eqb}
 use lib.ListN.{replicate}
-use Rattle.lists.specs.Lists.{isSome, orElse, mapOption, range}
-use Rattle.lists.proofs.Tests.{Cut, equal, apart, cut}
+use Rattle.lists.specs.Lists.{isSome, orElse, mapOption}
 use Rattle.quote.specs.declared.Quote.{Quote}
 use Rattle.quote.specs.Quote.{noQuote, emptyQuote, withCondition}
 use Rattle.levels.specs.Levels.{Standing, noLevels, Odd, oddOn}
@@ -58,14 +55,6 @@ unfoldable pub worked : ℕ → ℕ → (ℕ → Quote) → List (Option Maker) 
 worked s k quotes cells levels =
     record { symbol = s; lot = k; quotes = quotes; cells = cells; levels = levels; entries = publication (entriesOf quotes (occupied cells) levels) }
 
--- a reading that keeps its entries: those worked out from its quotes
-abbrev pub KeepsReading : Reading → Type 0
-KeepsReading r = r .entries ≡ publication (entriesOf (r .quotes) (occupied (r .cells)) (r .levels))
-
-abbrev pub AllKeep : List Reading → Type 0
-AllKeep [] = Unit {0}
-AllKeep (r ∷ rs) = KeepsReading r × AllKeep rs
-
 -- a symbol with nothing
 unfoldable pub blankReading : ℕ → ℕ → Reading
 blankReading s k = worked s k (λ l. noQuote) (replicate 16 none) (λ l. noLevels)
@@ -98,33 +87,3 @@ partReading (roundPart s l q) rs = onReading s (roundReading l q) rs
 partReading (oddPart s l o) rs = onReading s (oddReading l o) rs
 partReading (makerPart s m q) rs = onReading s (makerReading m q) rs
 partReading (finraPart c) rs = map (finraReading c) rs
-
--- ---- each part leaves every reading keeping its entries
-
-on-keep : (s : ℕ) (g : Reading → Reading) → ((r : Reading) → KeepsReading (g r)) → (rs : List Reading) → AllKeep rs → AllKeep (onReading s g rs)
-on-keep s g f [] k = tt
-on-keep s g f (r ∷ rs) k = go (eqb (r .symbol) s) (on-keep s g f rs (k .1))
-  where
-    go : (t : Bool) → AllKeep (onReading s g rs) → AllKeep (cond t (g r ∷ rs) (r ∷ onReading s g rs))
-    go true h = (f r, k .1)
-    go false h = (k .0, h)
-
-map-keep : (g : Reading → Reading) → ((r : Reading) → KeepsReading (g r)) → (rs : List Reading) → AllKeep (map g rs)
-map-keep g f [] = tt
-map-keep g f (r ∷ rs) = (f r, map-keep g f rs)
-
-pub part-keep : (p : Part) (rs : List Reading) → AllKeep rs → AllKeep (partReading p rs)
-unfolding partReading roundReading oddReading makerReading finraReading worked
-part-keep (roundPart s l q) rs k = on-keep s (roundReading l q) (λ r. refl) rs k
-part-keep (oddPart s l o) rs k = on-keep s (oddReading l o) (λ r. refl) rs k
-part-keep (makerPart s m q) rs k = on-keep s (makerReading m q) (λ r. refl) rs k
-part-keep (finraPart c) rs k = map-keep (finraReading c) (λ r. refl) rs
-
--- of readings by their places
-pub keep-at : (f : ℕ → Reading) (n i : ℕ) → AllKeep (map f (range n i)) → (k : ℕ) → i ≤ k → k < i + n → KeepsReading (f k)
-keep-at f zero i a k lo hi = absurd (omega arith)
-keep-at f (suc n) i a k lo hi = go (cut i k) (keep-at f n (suc i) (a .1) k)
-  where
-    go : Cut i k → (suc i ≤ k → k < suc i + n → KeepsReading (f k)) → KeepsReading (f k)
-    go (equal t e) down = rw (sym e) (a .0)
-    go (apart t e) down = down (omega (arith, e)) (omega arith)

@@ -1,26 +1,25 @@
 -- A page that is written twice needs its entries worked out once: no update reads them.
 -- Assumes nothing.
 use Prim.Native.Nat.{ℕ, _+_, _*_, _-_, _≤_}
-use mathlib.Core.Path.{_≡_, refl, sym, ap, _∙_}
+use mathlib.Core.Path.{_≡_, sym, ap, _∙_}
 use mathlib.Core.Bool.{Bool, true, false, cond}
 use mathlib.Core.List.{List, _++_, append-assoc}
 use native.Mathlib.Omega.{arith}
 use lib.ListN.{length, take, drop, length-append, take-append-drop}
 use lib.Seq.{take-append-add, drop-append-add, take-append-le, take-take, take-at, drop-at, length-take-le}
-use Rattle.field.specs.Field.{Bytes, splice}
+use Rattle.field.specs.Field.{splice}
 use Rattle.field.proofs.Laws.{length-splice}
 use Rattle.lists.specs.Lists.{upper}
-use Rattle.quote.specs.declared.Quote.{Quote}
 use Rattle.levels.specs.Levels.{Standing, Odd, idleOdd, levelsBytes}
 use Rattle.levels.proofs.SideLaws.{length-levels}
 use Rattle.entries.specs.Entries.{Entries}
 use Rattle.entries.specs.Publication.{publication}
 use Rattle.entries.specs.Page.{slotAt, levelsFor, pageEntries, refreshed}
-use Rattle.page.specs.Page.{putRound, putLevels, oddOnPage}
+use Rattle.page.specs.Page.{putLevels, putOdd}
 use Rattle.entries.proofs.PublicationLaws.{length-publication}
-use Rattle.entries.proofs.FrameLaws.{levels-kept, entries-kept, refreshed-entries, refreshed-part}
-use Rattle.page.proofs.EntryLaws.{upper-low, Kept, refreshed-kept}
-use Rattle.page.proofs.SlotLaws.{afterOdd, put-round-kept, levels-done}
+use Rattle.entries.proofs.FrameLaws.{levels-kept, entries-kept, refreshed-twice}
+use Rattle.page.proofs.EntryLaws.{upper-low}
+use Rattle.page.proofs.SlotLaws.{afterOdd}
 
 -- ---- two writes
 
@@ -90,28 +89,23 @@ refreshed-levels : (p : List ℕ) → levelsFor (refreshed p) ≡ levelsFor p
 unfolding refreshed
 refreshed-levels p = levels-kept p (publication (pageEntries p)) (length-publication (pageEntries p))
 
-module _ (p : List ℕ) (l : ℕ) (q : Quote) (o : Odd) (w : length p ≡ 6054) (u : upper l ≡ true) where
-  levels-refresh : refreshed (putLevels l o (refreshed (putRound l q p))) ≡ refreshed (putLevels l o (putRound l q p))
+module _ (x : List ℕ) (w : length x ≡ 6054) (l : ℕ) (u : upper l ≡ true) (o : Odd) where
+  levels-refresh : refreshed (putLevels l o (refreshed x)) ≡ refreshed (putLevels l o x)
   unfolding putLevels
   levels-refresh =
-      let x : List ℕ = putRound l q p in
-      let n : length x ≡ 6054 = put-round-kept p w l u q .size in
       let after : Standing → List ℕ = λ v. levelsBytes (afterOdd o v) in
       let k : slotAt l + 41 ≡ 108 + ((l - 65) * 201 + 41) = omega arith in
       let r : ℕ → List ℕ → List ℕ = λ a z. refreshed (splice z a (after (levelsFor x l))) in
       ap (λ (v : ℕ → Standing). refreshed (splice (refreshed x) (slotAt l + 41) (after (v l)))) (refreshed-levels x)
       ∙ ap (λ (a : ℕ). r a (refreshed x)) k
-      ∙ late-refresh x ((l - 65) * 201 + 41) (after (levelsFor x l)) (omega (arith, n, length-levels (afterOdd o (levelsFor x l)), upper-low l u .0, upper-low l u .1))
+      ∙ late-refresh x ((l - 65) * 201 + 41) (after (levelsFor x l)) (omega (arith, length-levels (afterOdd o (levelsFor x l)), upper-low l u .0, upper-low l u .1))
       ∙ ap (λ (a : ℕ). r a x) (sym k)
 
--- an odd part on a page whose entries are worked out: written without them, then worked out once
-pub one-refresh : (p : List ℕ) (l : ℕ) (q : Quote) (o : Odd) → length p ≡ 6054 → upper l ≡ true → Bytes p → idleOdd o ≡ false
-    → oddOnPage l o (refreshed (putRound l q p)) ≡ refreshed (putLevels l o (putRound l q p))
-unfolding oddOnPage
-one-refresh p l q o w u y i =
-    let x : List ℕ = putRound l q p in
-    let k : Kept p x = put-round-kept p w l u q in
-    let r : Kept x (refreshed x) = refreshed-kept x (k .size) in
-    rw i
-    (levels-done (refreshed x) (r .size) l u o (r .bytes (k .bytes y)) (refreshed-part x (omega (arith, k .size)) ∙ sym (ap publication (refreshed-entries x)))
-    ∙ levels-refresh p l q o w u)
+  -- an odd part on a page whose entries are worked out: written without them, then worked out once
+  pub one-refresh : refreshed (putOdd l o (refreshed x)) ≡ refreshed (putOdd l o x)
+  unfolding putOdd
+  one-refresh = go (idleOdd o)
+    where
+      go : (t : Bool) → refreshed (cond t (refreshed x) (putLevels l o (refreshed x))) ≡ refreshed (cond t x (putLevels l o x))
+      go true = refreshed-twice x (omega arith)
+      go false = levels-refresh

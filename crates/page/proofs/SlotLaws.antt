@@ -19,16 +19,10 @@ use Rattle.levels.specs.Levels.{Standing, noLevels, Odd, oddOn, idleOdd, levels
 use Rattle.levels.proofs.LevelLaws.{LevelsGood, OddGood, none-good, odd-good-levels}
 use Rattle.levels.proofs.AnswerLaws.{odd-idle}
 use Rattle.levels.proofs.SideLaws.{length-levels, bytes-levels, levels-back, levels-good}
-use Rattle.entries.specs.Entries.{entriesOf}
-use Rattle.entries.specs.Publication.{publication}
-use Rattle.entries.specs.Page.{slotAt, cellAt, quotesIn, levelsFor, makersIn, occupied, pageEntries, refreshed}
-use Rattle.entries.specs.Behind.{quoteBehind, levelsBehind}
-use Rattle.entries.proofs.FrameLaws.{refreshed-same}
-use Rattle.entries.proofs.BehindLaws.{behind-same}
-use Rattle.entries.proofs.LevelsBehindLaws.{levels-behind-same}
-use Rattle.page.specs.Page.{readingOf, putRound, roundOn, putLevels, oddOnPage}
+use Rattle.entries.specs.Page.{slotAt, cellAt, quotesIn, levelsFor, makersIn, refreshed}
+use Rattle.page.specs.Page.{readingOf, putRound, roundOn, putLevels, putOdd, oddOnPage}
 use Rattle.page.proofs.Model.{setAt, worked, roundReading, oddReading}
-use Rattle.page.proofs.EntryLaws.{upper-low, makers-same, Kept, kept-none, kept-then, kept-splice, refreshed-kept, Keeps, keeps-reads, reads-by}
+use Rattle.page.proofs.EntryLaws.{upper-low, makers-same, Kept, kept-none, kept-then, kept-splice, refreshed-kept, reads-by}
 
 -- ---- a write in a letter's slot
 
@@ -132,35 +126,12 @@ module _ (p : List ℕ) (w : length p ≡ 6054) (l : ℕ) (u : upper l ≡ true)
 
   pub round-kept : Kept p (roundOn l q p)
   unfolding roundOn
-  round-kept = go (quoteBehind l q p)
-    where
-      go : (t : Bool) → Kept p (cond t (putRound l q p) (refreshed (putRound l q p)))
-      go true = put-round-kept
-      go false = kept-then p (putRound l q p) (refreshed (putRound l q p)) put-round-kept (refreshed-kept (putRound l q p) (put-round-kept .size))
+  round-kept = kept-then p (putRound l q p) (refreshed (putRound l q p)) put-round-kept (refreshed-kept (putRound l q p) (put-round-kept .size))
 
-  module _ (f : QuoteFits q) where
-    put-round-entries : pageEntries (putRound l q p) ≡ entriesOf (setAt l q (quotesIn p)) (occupied (makersIn p)) (levelsFor p)
-    unfolding pageEntries
-    put-round-entries = λ i. entriesOf (put-round-quotes f i) (occupied (put-round-makers i)) (put-round-levels i)
-
-    -- a quote behind the national entries leaves a page that keeps its entries keeping them
-    behind-keeps : Bytes p → Keeps p → quoteBehind l q p ≡ true → Keeps (putRound l q p)
-    behind-keeps y k e =
-        round-stands ∙ k ∙ sym (ap publication (put-round-entries ∙ behind-same p y k l q f e))
-
-    -- a round part replaces its letter's quote
-    pub round-reads : Bytes p → Keeps p → readingOf (roundOn l q p) ≡ roundReading l q (readingOf p)
-    unfolding roundOn roundReading readingOf
-    round-reads y k = go (quoteBehind l q p) refl
-      where
-        anew : readingOf (refreshed (putRound l q p)) ≡ worked (readingOf p .symbol) (readingOf p .lot) (setAt l q (readingOf p .quotes)) (readingOf p .cells) (readingOf p .levels)
-        anew = reads-by p (putRound l q p) (setAt l q (quotesIn p)) (makersIn p) (levelsFor p) put-round-kept (put-round-quotes f) put-round-makers put-round-levels
-
-        go : (t : Bool) → quoteBehind l q p ≡ t
-            → readingOf (cond t (putRound l q p) (refreshed (putRound l q p)))
-            ≡ worked (readingOf p .symbol) (readingOf p .lot) (setAt l q (readingOf p .quotes)) (readingOf p .cells) (readingOf p .levels)
-        go true e = ap readingOf (sym (refreshed-same (putRound l q p) (omega (arith, put-round-kept .size)) (behind-keeps y k e))) ∙ anew
-        go false e = anew
+  -- a round part replaces its letter's quote
+  pub round-reads : QuoteFits q → readingOf (roundOn l q p) ≡ roundReading l q (readingOf p)
+  unfolding roundOn roundReading readingOf
+  round-reads f = reads-by p (putRound l q p) (setAt l q (quotesIn p)) (makersIn p) (levelsFor p) put-round-kept (put-round-quotes f) put-round-makers put-round-levels
 
 -- ---- an odd part
 
@@ -189,7 +160,7 @@ module _ (p : List ℕ) (w : length p ≡ 6054) (l : ℕ) (u : upper l ≡ true)
   odd-high : slotAt l + 41 + length (levelsBytes after) ≤ slotAt l + 201
   odd-high = omega (arith, length-levels after)
 
-  pub put-levels-kept : Kept p (putLevels l o p)
+  put-levels-kept : Kept p (putLevels l o p)
   unfolding putLevels
   put-levels-kept = slot-kept p w l u (slotAt l + 41) (levelsBytes after) odd-low odd-high (bytes-levels after)
 
@@ -210,61 +181,40 @@ module _ (p : List ℕ) (w : length p ≡ 6054) (l : ℕ) (u : upper l ≡ true)
   unfolding putLevels
   put-levels-makers = slot-makers p w l u (slotAt l + 41) (levelsBytes after) odd-low odd-high
 
-  -- the entries stand
-  pub levels-stand : part (putLevels l o p) 12 96 ≡ part p 12 96
+  levels-stand : part (putLevels l o p) 12 96 ≡ part p 12 96
   unfolding putLevels
   levels-stand = part-before p (slotAt l + 41) (levelsBytes after) 12 96 (omega (arith, upper-low l u .1)) (omega arith)
 
-  -- and so do the other letters' levels
-  put-levels-others : (j : ℕ) → (l ≡ j → ⊥) → levelsFor (putLevels l o p) j ≡ levelsFor p j
-  unfolding putLevels levelsFor
-  put-levels-others j d = go (upper j) refl
+  put-odd-kept : Kept p (putOdd l o p)
+  unfolding putOdd
+  put-odd-kept = go (idleOdd o)
     where
-      go : (t : Bool) → upper j ≡ t
-          → cond t (levelsIn (part (splice p (slotAt l + 41) (levelsBytes after)) (slotAt j + 41) 160)) noLevels ≡ cond t (levelsIn (part p (slotAt j + 41) 160)) noLevels
-      go true b = ap levelsIn (slot-other p w l u (slotAt l + 41) (levelsBytes after) odd-low odd-high j b d (slotAt j + 41) 160 (omega arith) (omega arith))
-      go false b = refl
+      go : (t : Bool) → Kept p (cond t p (putLevels l o p))
+      go true = kept-none p w
+      go false = put-levels-kept
 
-  -- levels behind the entries leave a page that keeps its entries keeping them
-  levels-keep : Bytes p → Keeps p → levelsBehind l (putLevels l o p) ≡ true → Keeps (putLevels l o p)
-  levels-keep y k e =
-      levels-stand ∙ k
-      ∙ sym (ap publication (levels-behind-same p (putLevels l o p) y (put-levels-kept .bytes y) k levels-stand put-levels-quotes put-levels-makers l u put-levels-others e))
-
-  -- such a page has its entries as worked out
-  pub levels-done : Bytes p → Keeps p → cond (levelsBehind l (putLevels l o p)) (putLevels l o p) (refreshed (putLevels l o p)) ≡ refreshed (putLevels l o p)
-  levels-done y k = go (levelsBehind l (putLevels l o p)) refl
+  -- the entries stand
+  pub odd-stands : part (putOdd l o p) 12 96 ≡ part p 12 96
+  unfolding putOdd
+  odd-stands = go (idleOdd o)
     where
-      go : (t : Bool) → levelsBehind l (putLevels l o p) ≡ t → cond t (putLevels l o p) (refreshed (putLevels l o p)) ≡ refreshed (putLevels l o p)
-      go true e = sym (refreshed-same (putLevels l o p) (omega (arith, put-levels-kept .size)) (levels-keep y k e))
-      go false e = refl
+      go : (t : Bool) → part (cond t p (putLevels l o p)) 12 96 ≡ part p 12 96
+      go true = refl
+      go false = levels-stand
 
   pub odd-kept : Kept p (oddOnPage l o p)
   unfolding oddOnPage
-  odd-kept = go (idleOdd o) (levelsBehind l (putLevels l o p))
-    where
-      go : (t b : Bool) → Kept p (cond t p (cond b (putLevels l o p) (refreshed (putLevels l o p))))
-      go true b = kept-none p w
-      go false true = put-levels-kept
-      go false false = kept-then p (putLevels l o p) (refreshed (putLevels l o p)) put-levels-kept (refreshed-kept (putLevels l o p) (put-levels-kept .size))
+  odd-kept = kept-then p (putOdd l o p) (refreshed (putOdd l o p)) put-odd-kept (refreshed-kept (putOdd l o p) (put-odd-kept .size))
 
   -- an odd part changes its letter's levels
-  pub odd-reads : OddGood o → LevelsGood (levelsFor p l) → Bytes p → Keeps p → readingOf (oddOnPage l o p) ≡ oddReading l o (readingOf p)
-  unfolding oddOnPage oddReading readingOf
-  odd-reads f g y k = go (idleOdd o) refl
+  pub odd-reads : OddGood o → LevelsGood (levelsFor p l) → readingOf (oddOnPage l o p) ≡ oddReading l o (readingOf p)
+  unfolding oddOnPage putOdd oddReading readingOf
+  odd-reads f g = go (idleOdd o) refl
     where
-      Then : List ℕ → Type 0
-      Then p′ = readingOf p′ ≡ worked (readingOf p .symbol) (readingOf p .lot) (readingOf p .quotes) (readingOf p .cells)
-          (setAt l (afterOdd o (readingOf p .levels l)) (readingOf p .levels))
+      then : (p′ : List ℕ) → Kept p p′ → quotesIn p′ ≡ quotesIn p → makersIn p′ ≡ makersIn p → levelsFor p′ ≡ setAt l after (levelsFor p)
+          → readingOf (refreshed p′) ≡ worked (field p 0 11) (field p 11 1) (quotesIn p) (makersIn p) (setAt l after (levelsFor p))
+      then p′ = reads-by p p′ (quotesIn p) (makersIn p) (setAt l after (levelsFor p))
 
-      nothing : idleOdd o ≡ true → Then p
-      nothing e = keeps-reads p k ∙ ap (worked (field p 0 11) (field p 11 1) (quotesIn p) (makersIn p)) (sym (rw (odd-idle 0 (levelsFor p l) o e .1) (set-same l (levelsFor p))))
-
-      anew : Then (refreshed (putLevels l o p))
-      anew =
-          reads-by p (putLevels l o p) (quotesIn p) (makersIn p) (setAt l after (levelsFor p)) put-levels-kept
-          put-levels-quotes put-levels-makers (put-levels-levels (odd-good-levels o (levelsFor p l) f g))
-
-      go : (t : Bool) → idleOdd o ≡ t → Then (cond t p (cond (levelsBehind l (putLevels l o p)) (putLevels l o p) (refreshed (putLevels l o p))))
-      go true e = nothing e
-      go false e = ap readingOf (levels-done y k) ∙ anew
+      go : (t : Bool) → idleOdd o ≡ t → readingOf (refreshed (cond t p (putLevels l o p))) ≡ worked (field p 0 11) (field p 11 1) (quotesIn p) (makersIn p) (setAt l after (levelsFor p))
+      go true e = then p (kept-none p w) refl refl (sym (rw (odd-idle 0 (levelsFor p l) o e .1) (set-same l (levelsFor p))))
+      go false e = then (putLevels l o p) put-levels-kept put-levels-quotes put-levels-makers (put-levels-levels (odd-good-levels o (levelsFor p l) f g))

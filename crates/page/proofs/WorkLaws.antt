@@ -1,29 +1,21 @@
 -- A page after a message that names its symbol, by what the message says and its code: for code that has the page alone.
 -- Assumes nothing.
 use Prim.Native.Nat.{ℕ}
-use mathlib.Core.Path.{_≡_, refl}
+use mathlib.Core.Path.{_≡_}
 use mathlib.Core.Bool.{Bool, true, false, cond}
 use mathlib.Core.List.{List}
 use lib.Dec.{leb, eqb}
 use lib.ListN.{length}
-use Rattle.field.specs.Field.{field}
-use Rattle.lists.specs.Lists.{upper, isSome}
+use Rattle.lists.specs.Lists.{upper}
 use Rattle.message.specs.declared.Message.{Message}
 use Rattle.message.specs.declared.Message.the-variants as says
 use Rattle.message.specs.Message.{oddOf, codeOf}
-use Rattle.entries.specs.Page.{levelsFor, makersIn, occupied}
-use Rattle.page.specs.Page.{readingOf, findMaker, roundOn, oddOnPage, makerOn, knownBy}
+use Rattle.page.specs.Page.{readingOf, roundOn, oddOnPage, makerOn, knownBy}
 use Rattle.page.proofs.EntryLaws.{Kept, kept-none, kept-then}
 use Rattle.page.proofs.SlotLaws.{round-kept, odd-kept}
 use Rattle.page.proofs.MakerLaws.{maker-kept}
 
--- what a page gives for the code of a message that names its symbol
-pub known-page : (p : List ℕ) → knownBy (readingOf p)
-    ≡ record { listed = true; lot = field p 11 1; count = length (occupied (makersIn p)); stands = λ m. isSome (findMaker m (makersIn p)); levels = levelsFor p }
-unfolding knownBy readingOf
-known-page p = refl
-
--- the code of such a message
+-- the code of a message that names the page's symbol
 abbrev pub pageCode : ℕ → List ℕ → List ℕ → ℕ
 pageCode letter m p = codeOf (knownBy (readingOf p)) letter m
 

@@ -1,5 +1,5 @@
--- What each part of a message does to a symbol's page (layout and reading: crate `entries`). An accepted part leaves the six entries of a page that
--- keeps them as worked out from the page's quotes (proofs/SlotLaws.antt, MakerLaws.antt): where it can change one, all six are worked out anew.
+-- What each part of a message does to a symbol's page (layout and reading: crate `entries`): the page is written, then its six entries are worked
+-- out anew. So every accepted part leaves them as worked out from the page's quotes, whatever bytes stood there.
 -- Assumes nothing.
 use Prim.Native.Nat.{ℕ, zero, suc, _+_}
 use mathlib.Core.Bool.{Bool, true, false, not, cond}
@@ -17,7 +17,6 @@ use Rattle.levels.specs.Levels.{Standing, noLevels, Odd, oddOn, idleOdd, levels
 use Rattle.message.specs.Message.{Known}
 use Rattle.entries.specs.Entries.{Maker}
 use Rattle.entries.specs.Publication.{noEntries}
-use Rattle.entries.specs.Behind.{quoteBehind, levelsBehind}
 use Rattle.entries.specs.Page.{slotAt, cellAt, quotesIn, levelsFor, makerIn, makerBytes, makersIn, occupied, refreshed}
 
 -- ---- a page as what it says
@@ -48,9 +47,8 @@ readingOf p =
 unfoldable pub putRound : ℕ → Quote → List ℕ → List ℕ
 putRound l q p = splice p (slotAt l) (quoteBytes q)
 
--- a quote behind both national entries changes none
 unfoldable pub roundOn : ℕ → Quote → List ℕ → List ℕ
-roundOn l q p = cond (quoteBehind l q p) (putRound l q p) (refreshed (putRound l q p))
+roundOn l q p = refreshed (putRound l q p)
 
 -- ---- odd part
 
@@ -58,9 +56,12 @@ roundOn l q p = cond (quoteBehind l q p) (putRound l q p) (refreshed (putRound l
 unfoldable pub putLevels : ℕ → Odd → List ℕ → List ℕ
 putLevels l o p = splice p (slotAt l + 41) (levelsBytes (orElse (oddOn o (levelsFor p l)) (levelsFor p l)))
 
--- an idle part leaves every byte, also of cells that no reading counts; levels behind the entries change none
+-- an odd part of a space and no items asks for nothing: it leaves every byte of the levels, also of cells that no reading counts
+unfoldable pub putOdd : ℕ → Odd → List ℕ → List ℕ
+putOdd l o p = cond (idleOdd o) p (putLevels l o p)
+
 unfoldable pub oddOnPage : ℕ → Odd → List ℕ → List ℕ
-oddOnPage l o p = cond (idleOdd o) p (cond (levelsBehind l (putLevels l o p)) (putLevels l o p) (refreshed (putLevels l o p)))
+oddOnPage l o p = refreshed (putOdd l o p)
 
 -- ---- makers
 

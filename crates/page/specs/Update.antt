@@ -10,7 +10,7 @@ use Rattle.levels.specs.Levels.{Odd, oddCode}
 use Rattle.message.specs.Message.{makerCode}
 use Rattle.entries.specs.Publication.{changeFlags}
 use Rattle.entries.specs.Page.{levelsFor}
-use Rattle.page.specs.Page.{readingOf, knownBy, roundOn, putLevels, oddOnPage, makerOn}
+use Rattle.page.specs.Page.{readingOf, knownBy, roundOn, putOdd, oddOnPage, makerOn}
 
 pub record Updated : Type 0 where
   pub code : ℕ
@@ -29,9 +29,9 @@ flagged code before after = record { code = code; flags = changeFlags (part befo
 abbrev pub oddCodeOn : ℕ → Odd → List ℕ → ℕ
 oddCodeOn l o p = oddCode (field p 11 1) (levelsFor p l) o
 
--- the page after an odd part that is not idle: one with 60 to 64 leaves it
+-- the page with an odd part written: one with 60 to 64 leaves it
 abbrev pub oddTaken : ℕ → Odd → List ℕ → List ℕ
-oddTaken l o p = cond (eqb (oddCodeOn l o p) 0) (putLevels l o p) p
+oddTaken l o p = cond (eqb (oddCodeOn l o p) 0) (putOdd l o p) p
 
 -- Q K: a fault rejects it; with 60 to 64 the round part alone is in force
 unfoldable pub roundLotOn : ℕ → ℕ → Quote → Odd → List ℕ → Updated

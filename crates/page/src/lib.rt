@@ -1,6 +1,6 @@
 // What a message does to the page of the symbol that it names.
 ghost use mathlib.Core.Path.{_≡_};
-ghost use mathlib.Core.Bool.{true, not, cond};
+ghost use mathlib.Core.Bool.{true, not};
 ghost use mathlib.Core.List.{[], _∷_, _++_};
 ghost use Prim.Native.Nat.{_+_, _*_, _-_, _≤_, _<_};
 ghost use lib.ListN.{length, replicate};
@@ -161,17 +161,6 @@ fn renewed(page: &mut [u8], code: u8) -> Effect
     Effect { code, flags }
 }
 
-// The same, unless what was written is behind the entries and so changes none.
-fn renewed_unless(page: &mut [u8], behind: bool, code: u8) -> Effect
-    requires { ⌜ length (now page) ≡ 6054 ⌝ }
-    ensures { λ r. ⌜ record { code = r .code; flags = r .flags; page = now (page .exit) } ≡ flagged code (now (page .entry)) (cond behind (now (page .entry)) (refreshed (now (page .entry)))) ⌝ }
-{
-    if behind {
-        return Effect { code, flags: 0 };
-    }
-    renewed(page, code)
-}
-
 // What the odd part makes of the levels of the slot at `at`.
 fn judge_odd(page: &[u8], at: usize, odd: OddPart, items: &[u8]) -> OddAnswer
     requires { ⌜ (length (now page) ≡ 6054) × (at + 201 ≤ 6054) ⌝ }
@@ -207,12 +196,15 @@ fn is_idle(odd: OddPart, items: &[u8]) -> bool
     false
 }
 
-// An odd part on its letter's levels, and its code. A refused part leaves the page alone.
+// An odd part on its letter's levels, and its code. An idle and a refused part leave the page alone.
 fn put_odd(page: &mut [u8], letter: u8, odd: OddPart, items: &[u8]) -> u8
     requires { ⌜ (length (now page) ≡ 6054) × (upper letter ≡ true) ⌝ }
     requires { ⌜ length (now items) ≡ 12 * (odd .bids + odd .offers) ⌝ }
     ensures { λ r. ⌜ (r ≡ oddCodeOn letter (oddIn (odd .mark) (odd .bids) (odd .offers) (odd .time) (now (items .entry))) (now (page .entry))) × (now (page .exit) ≡ oddTaken letter (oddIn (odd .mark) (odd .bids) (odd .offers) (odd .time) (now (items .entry))) (now (page .entry))) ⌝ }
 {
+    if is_idle(odd, items) {
+        return 0;
+    }
     let at = entries::slot_at(letter as usize);
     let answer = judge_odd(page, at, odd, items);
     let judged = answer.judged;
@@ -242,19 +234,9 @@ pub fn round_lot(
             flags: 0,
         };
     }
-    let behind = entries::is_quote_behind(page, letter, quote);
     quote.put(page, entries::slot_at(letter as usize));
-    if is_idle(odd, items) {
-        return renewed_unless(page, behind, 0);
-    }
     let code = put_odd(page, letter, odd, items);
-    if code != 0 {
-        return renewed_unless(page, behind, code);
-    }
-    if behind {
-        return renewed_unless(page, entries::are_levels_behind(page, letter), 0);
-    }
-    renewed(page, 0)
+    renewed(page, code)
 }
 
 /// A Q M on the page of its symbol. A refused odd part does nothing.
@@ -263,14 +245,11 @@ pub fn odd_lot(page: &mut [u8], letter: u8, odd: OddPart, items: &[u8]) -> Effec
     requires { ⌜ length (now items) ≡ 12 * (odd .bids + odd .offers) ⌝ }
     ensures { λ r. ⌜ record { code = r .code; flags = r .flags; page = now (page .exit) } ≡ oddLotOn letter (oddIn (odd .mark) (odd .bids) (odd .offers) (odd .time) (now (items .entry))) (now (page .entry)) ⌝ }
 {
-    if is_idle(odd, items) {
-        return Effect { code: 0, flags: 0 };
-    }
     let code = put_odd(page, letter, odd, items);
     if code != 0 {
         return Effect { code, flags: 0 };
     }
-    renewed_unless(page, entries::are_levels_behind(page, letter), 0)
+    renewed(page, 0)
 }
 
 /// A Q U on the page of its symbol.

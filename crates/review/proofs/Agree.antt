@@ -14,7 +14,6 @@ use Rattle.entries.specs.Entries.{entriesOf, entriesBy, finraBest}
 use Rattle.entries.specs.Publication.{publication}
 use Rattle.entries.specs.Page.{occupied}
 use Rattle.page.specs.Page.{Reading, findMaker, knownBy, knownOf}
-use Rattle.page.proofs.Model.{KeepsReading, AllKeep}
 use Rattle.book.specs.Call.{Listed, isListed, lotOf, findReading, listedOf}
 use Rattle.review.specs.Reviewer.{quoteOf, makerOf, makersOf, levelsOf, reviewedBy, knownTo}
 use Rattle.review.proofs.CellLaws.{Sole}
@@ -28,7 +27,7 @@ pub record Good (h : List Part) (r : Reading) : Type 0 where
   pub size : length (r .cells) ≡ 16
   pub makers : (m : ℕ) → findMaker m (r .cells) ≡ makerOf h (r .symbol) m
   pub levels : (l : ℕ) → r .levels l ≡ levelsOf h (r .symbol) l
-  pub entries : KeepsReading r
+  pub entries : r .entries ≡ publication (entriesOf (r .quotes) (occupied (r .cells)) (r .levels))
 
 -- then its entries are the 96 bytes that the reviewer works out
 pub good-reviewed : (h : List Part) (r : Reading) → Good h r → r .entries ≡ reviewedBy h (r .symbol)
@@ -42,10 +41,6 @@ good-reviewed h r g =
 abbrev pub AllGood : List Part → List Reading → Type 0
 AllGood h [] = Unit {0}
 AllGood h (r ∷ rs) = Good h r × AllGood h rs
-
-pub good-keep : (h : List Part) (rs : List Reading) → AllGood h rs → AllKeep rs
-good-keep h [] g = tt
-good-keep h (r ∷ rs) g = (g .0 .entries, good-keep h rs (g .1))
 
 -- no symbol is listed twice
 abbrev pub Apart : List Listed → Type 0

@@ -18,7 +18,7 @@ use Rattle.book.proofs.LineLaws.{line-upper, line-open}
 use Rattle.book.proofs.NumberLaws.{number-same, read-done}
 use Rattle.review.specs.Reviewer.{parts, reviewed, toldR, Review, reviewAnswer}
 use Rattle.review.specs.Lists.{blockIsBytes}
-use Rattle.review.proofs.Agree.{good-reviewed, Core, ReadingOf, missing, found, reading-of, good-keep}
+use Rattle.review.proofs.Agree.{good-reviewed, Core, ReadingOf, missing, found, reading-of}
 use Rattle.review.proofs.WorkLaws.{told-same}
 use Rattle.review.proofs.BytesLaws.{messages-bytes, told-done}
 use Rattle.review.proofs.CallLaws.{Agrees, viewOf, view-is}
@@ -37,7 +37,7 @@ module _ (n : ℕ) (b : List ℕ) (h : List (List ℕ)) (sd : Sound n b) (y : By
 
   pub told-line : (i : ℕ) (r : Line) (x : List ℕ) → linesIn b i ≡ some r → Bytes x → toldOn b (r .letter) (messagesOf x) ≡ toldR ls h (r .letter) (messagesOf x)
   told-line i r x e z =
-      told-done n (r .letter) (line-upper r (line-open b i r e .1)) (messagesOf x) b (messages-bytes x z) sd y (good-keep (parts h) (pagesIn b) (c .good))
+      told-done n (r .letter) (line-upper r (line-open b i r e .1)) (messagesOf x) b (messages-bytes x z) sd y
       ∙ told-same (r .letter) ls (messagesOf x) h (pagesIn b) refl c
 
   answer-same : (k : Call) → blockIsBytes k ≡ true

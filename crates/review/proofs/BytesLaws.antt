@@ -15,7 +15,6 @@ use Rattle.message.specs.declared.Kind.the-variants as kind
 use Rattle.message.specs.Message.{kindOf, symbolOf, oddAt, Known, codeOf, Part, roundOf, wholeBy, partlyTaken, partsOf, roundLotOdd, oddLotOdd}
 use Rattle.block.specs.Block.{countIn, messageAt, messagesFrom, messagesOf}
 use Rattle.page.specs.Page.{Reading, knownOf}
-use Rattle.page.proofs.Model.{AllKeep, part-keep, partReading}
 use Rattle.book.specs.Opening.{pagesIn}
 use Rattle.book.specs.Call.{findReading, partOn, partsOn, codeOn, messageOn, messagesOn, flagsOf, publications, toldOn}
 use Rattle.book.proofs.OpeningLaws.{Sound}
@@ -87,57 +86,46 @@ pub messages-bytes : (b : List ℕ) → Bytes b → AllBytes (messagesOf b)
 unfolding messagesOf
 messages-bytes b y = from-bytes b y 0 (countIn b)
 
--- ---- on a sound book of bytes whose pages keep their entries
-
-parts-keep : (ps : List Part) (rs : List Reading) → AllKeep rs → AllKeep (partsReading ps rs)
-parts-keep [] rs a = a
-parts-keep (p ∷ ps) rs a = parts-keep ps (partReading p rs) (part-keep p rs a)
+-- ---- on a sound book of bytes
 
 pub record Done (b b′ : List ℕ) (rs : List Reading) : Type 0 where
   pub pages : pagesIn b′ ≡ rs
   pub kept : OpeningKept b b′
 
-done-then : (b b₁ b₂ : List ℕ) (rs₁ rs₂ : List Reading) → Done b b₁ rs₁ → Done b₁ b₂ rs₂ → Done b b₂ rs₂
-done-then b b₁ b₂ rs₁ rs₂ x y = record { pages = y .pages; kept = opening-then b b₁ b₂ (x .kept) (y .kept) }
-
 module _ (n : ℕ) where
-  parts-done : (ps : List Part) (b : List ℕ) → Sound n b → Bytes b → AllKeep (pagesIn b) → AllPartGood ps → Done b (partsOn ps b) (partsReading ps (pagesIn b))
+  parts-done : (ps : List Part) (b : List ℕ) → Sound n b → Bytes b → AllPartGood ps → Done b (partsOn ps b) (partsReading ps (pagesIn b))
   unfolding partsOn
-  parts-done [] b sd y a g = record { pages = refl; kept = opening-none b }
-  parts-done (p ∷ ps) b sd y a g =
-      let d : PartDone p b (partOn p b) = part-done n p b sd y a (g .0) in
+  parts-done [] b sd y g = record { pages = refl; kept = opening-none b }
+  parts-done (p ∷ ps) b sd y g =
+      let d : PartDone p b (partOn p b) = part-done n p b sd y (g .0) in
       let r : Done (partOn p b) (partsOn ps (partOn p b)) (partsReading ps (pagesIn (partOn p b))) =
-      parts-done ps (partOn p b) (kept-sound b (partOn p b) (d .kept) n sd) (d .kept .bytes y) (rw (d .pages) (part-keep p (pagesIn b) a)) (g .1) in
+      parts-done ps (partOn p b) (kept-sound b (partOn p b) (d .kept) n sd) (d .kept .bytes y) (g .1) in
       record { pages = r .pages ∙ ap (partsReading ps) (d .pages); kept = opening-then b (partOn p b) (partsOn ps (partOn p b)) (d .kept) (r .kept) }
 
   module _ (letter : ℕ) (u : upper letter ≡ true) where
-    pub message-done : (m : List ℕ) (b : List ℕ) → Bytes m → Sound n b → Bytes b → AllKeep (pagesIn b) → Done b (messageOn letter m b) (messageReading letter m (pagesIn b))
-    message-done m b by sd y a =
-        parts-done (partsOf (codeOn letter m b) m) b sd y a (parts-good (knownOf (findReading (symbolOf m) (pagesIn b))) letter m u by (codeOn letter m b) refl)
+    pub message-done : (m : List ℕ) (b : List ℕ) → Bytes m → Sound n b → Bytes b → Done b (messageOn letter m b) (messageReading letter m (pagesIn b))
+    message-done m b by sd y =
+        parts-done (partsOf (codeOn letter m b) m) b sd y (parts-good (knownOf (findReading (symbolOf m) (pagesIn b))) letter m u by (codeOn letter m b) refl)
 
-    -- and after it they still do
-    message-keep : (m : List ℕ) (b : List ℕ) → AllKeep (pagesIn b) → Done b (messageOn letter m b) (messageReading letter m (pagesIn b)) → AllKeep (pagesIn (messageOn letter m b))
-    message-keep m b a d = rw (d .pages) (parts-keep (partsOf (codeOn letter m b) m) (pagesIn b) a)
-
-    pub messages-done : (ms : List (List ℕ)) (b : List ℕ) → AllBytes ms → Sound n b → Bytes b → AllKeep (pagesIn b) → Done b (messagesOn letter ms b) (messagesReading letter ms (pagesIn b))
+    pub messages-done : (ms : List (List ℕ)) (b : List ℕ) → AllBytes ms → Sound n b → Bytes b → Done b (messagesOn letter ms b) (messagesReading letter ms (pagesIn b))
     unfolding messagesOn
-    messages-done [] b by sd y a = record { pages = refl; kept = opening-none b }
-    messages-done (m ∷ ms) b by sd y a =
-        let d : Done b (messageOn letter m b) (messageReading letter m (pagesIn b)) = message-done m b (by .0) sd y a in
+    messages-done [] b by sd y = record { pages = refl; kept = opening-none b }
+    messages-done (m ∷ ms) b by sd y =
+        let d : Done b (messageOn letter m b) (messageReading letter m (pagesIn b)) = message-done m b (by .0) sd y in
         let r : Done (messageOn letter m b) (messagesOn letter ms (messageOn letter m b)) (messagesReading letter ms (pagesIn (messageOn letter m b))) =
-        messages-done ms (messageOn letter m b) (by .1) (kept-sound b (messageOn letter m b) (d .kept) n sd) (d .kept .bytes y) (message-keep m b a d) in
+        messages-done ms (messageOn letter m b) (by .1) (kept-sound b (messageOn letter m b) (d .kept) n sd) (d .kept .bytes y) in
         record {
           pages = r .pages ∙ ap (messagesReading letter ms) (d .pages);
           kept = opening-then b (messageOn letter m b) (messagesOn letter ms (messageOn letter m b)) (d .kept) (r .kept);
         }
 
-    pub told-done : (ms : List (List ℕ)) (b : List ℕ) → AllBytes ms → Sound n b → Bytes b → AllKeep (pagesIn b) → toldOn b letter ms ≡ toldReading (pagesIn b) letter ms
+    pub told-done : (ms : List (List ℕ)) (b : List ℕ) → AllBytes ms → Sound n b → Bytes b → toldOn b letter ms ≡ toldReading (pagesIn b) letter ms
     unfolding toldOn
-    told-done [] b by sd y a = refl
-    told-done (m ∷ ms) b by sd y a =
-        let d : Done b (messageOn letter m b) (messageReading letter m (pagesIn b)) = message-done m b (by .0) sd y a in
+    told-done [] b by sd y = refl
+    told-done (m ∷ ms) b by sd y =
+        let d : Done b (messageOn letter m b) (messageReading letter m (pagesIn b)) = message-done m b (by .0) sd y in
         let r : toldOn (messageOn letter m b) letter ms ≡ toldReading (messageReading letter m (pagesIn b)) letter ms =
-        told-done ms (messageOn letter m b) (by .1) (kept-sound b (messageOn letter m b) (d .kept) n sd) (d .kept .bytes y) (message-keep m b a d) ∙ ap (λ (rs : List Reading). toldReading rs letter ms) (d .pages) in
+        told-done ms (messageOn letter m b) (by .1) (kept-sound b (messageOn letter m b) (d .kept) n sd) (d .kept .bytes y) ∙ ap (λ (rs : List Reading). toldReading rs letter ms) (d .pages) in
         λ i. record {
           code = codeOn letter m b;
           flags = flagsOf (publications (pagesIn b)) (publications (d .pages i));

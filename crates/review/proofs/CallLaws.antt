@@ -33,7 +33,7 @@ use Rattle.book.proofs.NumberLaws.{number-same, page-free, AddDone, add-done, o
 use Rattle.book.proofs.SoundLaws.{Stays, call-stays}
 use Rattle.review.specs.Reviewer.{parts, messagesR, Review, setLine, restart, restAfter, symbolsAfter, historyAfter, reviewCall}
 use Rattle.review.specs.Lists.{blockIsBytes}
-use Rattle.review.proofs.Agree.{Core, good-keep}
+use Rattle.review.proofs.Agree.{Core}
 use Rattle.review.proofs.ListLaws.{core-none, emptied-listed, core-emptied, added-listed, core-added}
 use Rattle.review.proofs.WorkLaws.{messagesReading, messages-core, messages-listed}
 use Rattle.review.proofs.BytesLaws.{Done, messages-bytes, messages-done}
@@ -176,7 +176,7 @@ module _ (n : ℕ) (b : List ℕ) (h : List (List ℕ)) (sd : Sound n b) (y : By
           let f : LineFits r = line-fits n b sd y i r e in
           let l : i < 64 = line-open b i r e .0 in
           let t : Done b b₁ (messagesReading (r .letter) (messagesOf x) (pagesIn b)) =
-          messages-done n (r .letter) (line-upper r (f .good)) (messagesOf x) b (messages-bytes x z) sd y (good-keep (parts h) (pagesIn b) (c .good)) in
+          messages-done n (r .letter) (line-upper r (f .good)) (messagesOf x) b (messages-bytes x z) sd y in
           let s₁ : Sound n b₁ = kept-sound b b₁ (t .kept) n sd in
           let q : restIn b₁ ≡ restIn b = rest-by b b₁ (t .kept .front) in
           let p : pagesIn (lined n b₁ s₁ i l (advanced r x)) ≡ messagesReading (r .letter) (messagesOf x) (pagesIn b) = lined-pages n b₁ s₁ i l (advanced r x) ∙ t .pages in

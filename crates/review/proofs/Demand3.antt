@@ -5,26 +5,21 @@
 --   symbol's 96 bytes worked out anew from the history alone;
 --   `blocksAreBytes` (review/specs/Lists.antt): each element of each block is a byte.
 -- Assumes nothing.
-use Prim.Native.Nat.{ℕ, _<_}
+use Prim.Native.Nat.{ℕ}
 use mathlib.Core.Path.{_≡_, ap, _∙_}
 use mathlib.Core.Bool.{true, false}
 use mathlib.Core.List.{List}
 use lib.ListN.{length}
-use Rattle.field.specs.Field.{part, beBytes}
+use Rattle.field.specs.Field.{beBytes}
 use Rattle.lists.specs.Lists.{member}
 use Rattle.lists.proofs.Members.{In}
 use Rattle.entries.specs.Entries.{entriesOf}
-use Rattle.entries.specs.Publication.{publication}
-use Rattle.entries.specs.Page.{pageEntries}
 use Rattle.entries.proofs.PublicationLaws.{length-publication}
-use Rattle.book.specs.Opening.{countOf, pageAt, pagesIn}
 use Rattle.book.specs.Call.{Call, make, read, Listed, done, call, answers, bytesAfter}
 use Rattle.review.specs.Reviewer.{quoteOf, makersOf, levelsOf, parts, reviewedBy, reviewed, freshReview, reviewAnswers, reviewAfter}
 use Rattle.review.specs.Lists.{blocksAreBytes}
 use Rattle.review.specs.Numbers.{numbersOf}
-use Rattle.book.proofs.PartLaws.{page-keeps}
-use Rattle.review.proofs.Agree.{good-keep}
-use Rattle.review.proofs.RunLaws.{answers-agree, after-agrees, reads-agree}
+use Rattle.review.proofs.RunLaws.{answers-agree, reads-agree}
 use Rattle.review.proofs.NumberLaws.{number-known}
 use Rattle.review.proofs.ReportLaws.{number-told, refused-same}
 
@@ -44,15 +39,6 @@ pub record Agreed (m : List ℕ) (n : ℕ) (cs : List Call) : Type 0 where
 -- for all memory m and all n for which make answers 0, and all lists of calls, in any order, whose blocks are bytes
 pub demand3 : (m : List ℕ) (n : ℕ) → call m (make n) .answer .number ≡ 0 → (cs : List Call) → blocksAreBytes cs ≡ true → Agreed m n cs
 demand3 m n made cs bytes = record { told = answers-agree m n made cs bytes; shown = reads-agree m n made cs bytes }
-
--- after the same lists every page keeps its entries: its 96 bytes are those worked out from its own quotes, makers and levels
-pub pages-keep : (m : List ℕ) (n : ℕ) → call m (make n) .answer .number ≡ 0 → (cs : List Call) → blocksAreBytes cs ≡ true
-    → (k : ℕ) → k < countOf (bytesAfter (call m (make n) .bytes) cs)
-    → part (pageAt (bytesAfter (call m (make n) .bytes) cs) k) 12 96 ≡ publication (pageEntries (pageAt (bytesAfter (call m (make n) .bytes) cs) k))
-pages-keep m n made cs bytes k h =
-    let b : List ℕ = bytesAfter (call m (make n) .bytes) cs in
-    let h′ : List (List ℕ) = reviewAfter (freshReview n) cs .history in
-    page-keeps b (good-keep (parts h′) (pagesIn b) (after-agrees m n made cs bytes .held .core .good)) k h
 
 -- those bytes are 96
 pub reviewed-length : (h : List (List ℕ)) (s : ℕ) → length (reviewed h s) ≡ 96

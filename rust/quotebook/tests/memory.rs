@@ -1,6 +1,7 @@
-//! Books of arbitrary bytes: used books that are then damaged, and memory of any length that never
-//! was a book. Every call ends, the bytes around every buffer stay, a refused call changes nothing,
-//! and what a call answers and leaves is what docs/LAYOUT.md's reading of the bytes gives.
+//! Books of arbitrary bytes: used books that are then damaged, some of them in the entries of their
+//! pages alone, and memory of any length that never was a book. Every call ends, the bytes around
+//! every buffer stay, a refused call changes nothing, and what a call answers and leaves is what
+//! docs/LAYOUT.md's reading of the bytes gives.
 
 mod support;
 
@@ -8,12 +9,15 @@ use std::collections::BTreeMap;
 
 use second::generate::{self, Random};
 use second::{build, Call, QuoteBook, Report};
-use support::damage::damage;
+use support::damage::{damage, overwrite, Wrong};
 use support::foretold::{self, ensure, Left, NUMBERS};
 use support::guarded::{Fenced, Guarded};
 use support::layout::{in_page, is_book, record, N, SYMBOL};
+use support::parts::{on_wrong_entries, PARTS};
 
 const BOOKS: u64 = 4_000;
+/// Books in which the entries of pages are overwritten before each call.
+const OVERWRITTEN: u64 = 1_500;
 /// The calls of a list that use a book before it is damaged, and those that come after.
 const USING: usize = 60;
 const AFTER: usize = 40;
@@ -24,16 +28,11 @@ fn any_memory() {
     println!("{BOOKS} books from seed 0 on");
     for seed in 0..BOOKS {
         let mut random = Random::new(seed);
-        let list = generate::list(seed, USING + AFTER);
-        let mut book = Guarded::fresh(list.n);
-        for call in &list.calls[..USING] {
-            make_call(&mut book, call, &mut [0; 256]);
-        }
-        let mut memory = book.bytes().to_vec();
+        let (mut memory, calls) = used(seed);
         damage(&mut random, &mut memory);
-        for call in &list.calls[USING..] {
+        for call in &calls {
             let call = fit(&mut random, call, &memory);
-            let number = check_call(&mut memory, &call)
+            let (number, _) = check_call(&mut memory, &call)
                 .unwrap_or_else(|what| panic!("seed {seed}, {call}: {what}"));
             *reached.entry((foretold::row(&call), number)).or_insert(0) += 1;
         }
@@ -44,6 +43,45 @@ fn any_memory() {
         println!("{name} {met:?} times {times:?}");
         assert_eq!(met, *numbers, "{name}");
     }
+}
+
+/// Sound books whose pages have wrong entries, overwritten before each call. Each kind of part meets
+/// each kind of wrong entries.
+#[test]
+fn wrong_entries() {
+    let mut reached = BTreeMap::new();
+    println!("{OVERWRITTEN} books from seed 0 on");
+    for seed in 0..OVERWRITTEN {
+        let mut random = Random::new(seed);
+        let (mut memory, calls) = used(seed);
+        for call in &calls {
+            let wrong = random.pick(&Wrong::ALL);
+            overwrite(&mut random, wrong, &mut memory);
+            let (_, part) = check_call(&mut memory, call)
+                .unwrap_or_else(|what| panic!("seed {seed}, {wrong:?}, {call}: {what}"));
+            if let Some(part) = part {
+                *reached.entry((wrong, part)).or_insert(0) += 1;
+            }
+        }
+    }
+    for wrong in Wrong::ALL {
+        for part in PARTS {
+            let times = reached.get(&(wrong, part)).copied().unwrap_or(0);
+            println!("{wrong:?}, {part}: {times} times");
+            assert_ne!(times, 0, "{wrong:?}, {part}");
+        }
+    }
+}
+
+/// The bytes of a book that the first calls of a seed's list have used, and the calls after them.
+fn used(seed: u64) -> (Vec<u8>, Vec<Call>) {
+    let mut list = generate::list(seed, USING + AFTER);
+    let after = list.calls.split_off(USING);
+    let mut book = Guarded::fresh(list.n);
+    for call in &list.calls {
+        make_call(&mut book, call, &mut [0; 256]);
+    }
+    (book.bytes().to_vec(), after)
 }
 
 /// Fits a call to damaged memory: most blocks get the number that their line expects, some reads and
@@ -89,8 +127,9 @@ fn make_call(book: &mut Guarded, call: &Call, buffer: &mut [u8]) -> Report {
     }
 }
 
-/// Makes one call on any memory and looks at all that it answers and leaves.
-fn check_call(memory: &mut Vec<u8>, call: &Call) -> Result<u8, String> {
+/// Makes one call on any memory and looks at all that it answers and leaves. Answers the number, and
+/// for a taken block the kind of its first message, if that met wrong entries.
+fn check_call(memory: &mut Vec<u8>, call: &Call) -> Result<(u8, Option<&'static str>), String> {
     let room = match call {
         Call::TakeBlock { answer_len, .. } => *answer_len,
         Call::Read {
@@ -118,6 +157,13 @@ fn check_call(memory: &mut Vec<u8>, call: &Call) -> Result<u8, String> {
         buffer: buffer.bytes(),
     };
     left.check(call, &report)?;
+    let part = match (call, number) {
+        (Call::TakeBlock { block, .. }, 0 | 70) => {
+            let (_, messages) = build::split(block).ok_or("no block")?;
+            on_wrong_entries(memory, &messages[0], buffer.bytes()[1])
+        }
+        _ => None,
+    };
     *memory = book.bytes().to_vec();
-    Ok(number)
+    Ok((number, part))
 }

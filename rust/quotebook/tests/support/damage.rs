@@ -5,15 +5,16 @@ use std::ops::Range;
 use second::generate::Random;
 
 use super::layout::{
-    in_page, line, moved, page, CELLS, CELL_LEN, CONTENTS, COUNT, LEVELS, LEVEL_LEN, LINES, LOT, N,
-    OPENING_LEN, PAGE_LEN, SLOTS, SLOT_LEN, SYMBOL,
+    in_page, line, moved, page, CELLS, CELL_LEN, CONTENTS, COUNT, ENTRIES, LEVELS, LEVEL_LEN,
+    LINES, LOT, N, OPENING_LEN, PAGE_LEN, SLOTS, SLOT_LEN, SYMBOL,
 };
 
-/// Damages a book: its opening, its length, its lines, its symbols, its pages, or all of it.
+/// Damages a book: its opening, its length, its lines, its symbols, its pages, their entries alone,
+/// or all of it.
 pub fn damage(random: &mut Random, memory: &mut Vec<u8>) {
     let pages = (memory.len() - OPENING_LEN) / PAGE_LEN;
     let at = random.below(pages);
-    match random.below(11) {
+    match random.below(12) {
         0 => {
             let (at, any) = (random.below(line(0).start), random.byte());
             memory[at] = random.usually(50, &[0, 1, 2, 64, 65, 255], &[any]);
@@ -47,7 +48,59 @@ pub fn damage(random: &mut Random, memory: &mut Vec<u8>) {
             memory[in_page(at, CONTENTS)].copy_from_slice(&bytes);
             admit(random, &mut memory[page(at)]);
         }
+        9 => {
+            let wrong = random.pick(&Wrong::ALL);
+            overwrite(random, wrong, memory);
+        }
         _ => shuffle(random, &mut memory[page(at)]),
+    }
+}
+
+/// Entries that are not those of a page's quotes.
+#[derive(Clone, Copy, PartialEq, Eq, PartialOrd, Ord, Debug)]
+pub enum Wrong {
+    /// Any bytes.
+    Any,
+    /// Entries at 99.00 and 1.00, far ahead of most quotes, or at the outermost prices, ahead of all.
+    Ahead,
+    /// Six times none.
+    Nothing,
+}
+
+impl Wrong {
+    pub const ALL: [Wrong; 3] = [Wrong::Any, Wrong::Ahead, Wrong::Nothing];
+
+    fn draw(self, random: &mut Random) -> Vec<u8> {
+        match self {
+            Wrong::Any => random.bytes(ENTRIES.len()),
+            Wrong::Ahead => {
+                let letter = b'A' + random.below(26) as u8;
+                let outside = [(99_000_000, 1_000_000, 9), (u64::MAX, 1, u32::MAX)];
+                let (bid, offer, size) = random.pick(&outside);
+                let national = [letter, b'R', b' ', b' '];
+                let odd = [letter, b' ', b' ', b' '];
+                let names = [national, *b"MAKE", odd];
+                names
+                    .iter()
+                    .flat_map(|&name| [entry(name, bid, size), entry(name, offer, size)].concat())
+                    .collect()
+            }
+            Wrong::Nothing => entry(*b"    ", 0, 0).repeat(6),
+        }
+    }
+}
+
+/// The 16 bytes of an entry.
+pub fn entry(name: [u8; 4], price: u64, size: u32) -> Vec<u8> {
+    [&name[..], &price.to_be_bytes(), &size.to_be_bytes()].concat()
+}
+
+/// Overwrites the entries of most pages of a book, and no other byte.
+pub fn overwrite(random: &mut Random, wrong: Wrong, memory: &mut [u8]) {
+    for at in 0..(memory.len() - OPENING_LEN) / PAGE_LEN {
+        if random.percent(80) {
+            memory[in_page(at, ENTRIES)].copy_from_slice(&wrong.draw(random));
+        }
     }
 }
 

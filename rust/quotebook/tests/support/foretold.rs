@@ -238,7 +238,8 @@ impl Pages<'_> {
     }
 
     /// Follows one message by its code. Codes 0, 49 and 60 to 64 are the page's and are foretold;
-    /// any other code leaves every page alone.
+    /// any other code leaves every page alone. "An accepted part leaves them as worked out from the
+    /// page's quotes", whatever entries the page kept.
     fn follow(&mut self, message: &[u8], code: u8, flags: u8) -> Result<(), String> {
         Code::try_from(code).map_err(|code| format!("code {code}"))?;
         let kind = &message[..2];
@@ -258,14 +259,12 @@ impl Pages<'_> {
             if code != 0 && kind != b"QK" {
                 continue;
             }
-            let old = *entries;
-            if !reading.leaves(message, code, entries) {
-                *entries = reading.entries();
-            }
+            let worked_out = reading.entries();
             // The flags go by listed symbols.
             if at < usize::from(self.before[COUNT]) {
-                changed |= changes(&old, entries);
+                changed |= changes(entries, &worked_out);
             }
+            *entries = worked_out;
         }
         ensure(flags == changed, format!("flags {flags}, not {changed}"))
     }

@@ -6,6 +6,7 @@ pub mod damage;
 pub mod foretold;
 pub mod guarded;
 pub mod layout;
+pub mod parts;
 pub mod reading;
 
 use guarded::Guarded;

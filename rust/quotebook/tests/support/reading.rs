@@ -10,13 +10,6 @@ const NONE: [u8; 16] = *b"    \0\0\0\0\0\0\0\0\0\0\0\0";
 /// Bid and offer, as positions.
 const SIDES: [usize; 2] = [0, 1];
 
-/// No level.
-const NOTHING: Shown = Shown {
-    price: 0,
-    size: 0,
-    time: 0,
-};
-
 /// A side of a quote, or an odd lot level.
 #[derive(Clone, Copy, PartialEq, Eq, PartialOrd, Ord, Debug)]
 pub struct Shown {
@@ -138,14 +131,16 @@ impl Reading {
         }
     }
 
+    /// Whether a maker stands.
+    pub fn has_maker(&self, name: [u8; 4]) -> bool {
+        self.makers.iter().flatten().any(|(of, _)| *of == name)
+    }
+
     /// The first cell of the name, else one that is free.
     fn take_maker(&mut self, message: &[u8]) -> u8 {
         let name = [message[56], message[57], message[58], message[59]];
         let quote = round(message);
-        let empty = quote
-            .sides
-            .iter()
-            .all(|side| side.price == 0 && side.size == 0);
+        let empty = is_empty_quote(message);
         let has_name = |cell: &Option<([u8; 4], Quote)>| cell.is_some_and(|(of, _)| of == name);
         let standing = self.makers.iter().position(has_name);
         let free = self.makers.iter().position(Option::is_none);
@@ -201,34 +196,6 @@ impl Reading {
         0
     }
 
-    /// Whether a part that was taken leaves the entries that stand: what its letter has after it is
-    /// behind them (docs/LAYOUT.md, "Entries that stand").
-    pub fn leaves(&self, message: &[u8], code: u8, entries: &[u8; 96]) -> bool {
-        let letter = message[2];
-        let entry = |at: usize| &entries[16 * at..16 * at + 16];
-        let quote_behind = || {
-            let sides = round(message).sides;
-            SIDES
-                .iter()
-                .all(|&side| outranks(side, entry(side), letter, sides[side]))
-        };
-        let levels_behind = || {
-            let levels = &self.letters[usize::from(letter - b'A')].1;
-            SIDES.iter().all(|&side| {
-                let first = levels[side].first().copied().unwrap_or(NOTHING);
-                let (national, odd) = (entry(side), entry(4 + side));
-                let within = height(side, first.price) <= height(side, number(&national[4..12]));
-                odd[0] != letter && (within || outranks(side, odd, letter, first))
-            })
-        };
-        let idle = |clear: usize| message[clear..clear + 3] == *b" \0\0";
-        match &message[..2] {
-            b"QK" => quote_behind() && (code != 0 || idle(56) || levels_behind()),
-            b"QM" => idle(31) || levels_behind(),
-            _ => false,
-        }
-    }
-
     /// The six entries that follow.
     pub fn entries(&self) -> [u8; 96] {
         let mut entries = [0; 96];
@@ -263,6 +230,11 @@ impl Reading {
     }
 }
 
+/// Whether both sides of a Q K or Q U are 0 and 0.
+pub fn is_empty_quote(message: &[u8]) -> bool {
+    message[32..56].iter().all(|&byte| byte == 0)
+}
+
 /// The quote of Q K or Q U.
 fn round(message: &[u8]) -> Quote {
     let time = number(&message[4..12]);
@@ -275,29 +247,6 @@ fn round(message: &[u8]) -> Quote {
         condition: message[31],
         sides: [side(32), side(44)],
     }
-}
-
-/// The higher, the better; price 0, which is none, is lowest on either side.
-fn height(side: usize, price: u64) -> u64 {
-    if side == 0 {
-        price
-    } else {
-        price.wrapping_neg()
-    }
-}
-
-/// Whether an entry is another letter's and goes before what is shown, by price or else by size.
-fn outranks(side: usize, entry: &[u8], letter: u8, shown: Shown) -> bool {
-    let (of_entry, of_shown) = (
-        height(side, number(&entry[4..12])),
-        height(side, shown.price),
-    );
-    let ahead = if of_shown == of_entry {
-        u64::from(shown.size) < number(&entry[12..16])
-    } else {
-        of_shown < of_entry
-    };
-    entry[0] != letter && ahead
 }
 
 type Candidate = (Shown, [u8; 4]);

@@ -1,0 +1,441 @@
+//! Pages whose entries are not those of their quotes, as lent memory may have them. "An accepted part
+//! leaves them as worked out from the page's quotes": in every page, whatever stood there. A rejected
+//! message, a refused block and a message without a part leave even wrong entries.
+
+mod support;
+
+use std::ops::Range;
+
+use quotebook::Publication;
+use second::build::{self, Odd, Round};
+use second::QuoteBook;
+use support::damage::entry;
+use support::guarded::Guarded;
+use support::layout::{in_page, page, record, ENTRIES, LEVELS, SLOTS, SLOT_LEN};
+
+/// The lines of N, P and D.
+const N: u32 = 5;
+const P: u32 = 6;
+const D: u32 = 7;
+
+const TEN: u64 = 10_000_000;
+const CENT: u64 = 10_000;
+
+/// The pages: ZT's, YY's and one that is not listed.
+const ZT: usize = 0;
+const YY: usize = 1;
+const UNLISTED: usize = 2;
+const ALL: [usize; 3] = [ZT, YY, UNLISTED];
+
+const NOTHING: [&str; 6] = ["none"; 6];
+const CLAIMED: [&str; 6] = [
+    "B R 99.00 x 9",
+    "B R 1.00 x 9",
+    "none",
+    "none",
+    "none",
+    "none",
+];
+/// What `quote` and `maker` bring.
+const QUOTED: [&str; 6] = [
+    "N R 10.00 x 3",
+    "N R 10.02 x 2",
+    "none",
+    "none",
+    "none",
+    "none",
+];
+const MADE: [&str; 6] = [
+    "D R 10.00 x 3",
+    "D R 10.02 x 2",
+    "MM 10.00 x 3",
+    "MM 10.02 x 2",
+    "none",
+    "none",
+];
+
+/// A book of these three pages without a quote, and an open day.
+fn book() -> Guarded {
+    let mut book = Guarded::fresh(3);
+    for symbol in ["ZT", "YY"] {
+        assert_eq!(book.add_symbol(&build::symbol(symbol), 100), 0);
+    }
+    for (line, letter) in [(N, b'N'), (P, b'P'), (D, b'D')] {
+        assert_eq!(book.open_line(line, letter), 0);
+    }
+    assert_eq!(book.start_day(), 0);
+    book
+}
+
+/// The book after one more message.
+fn after(mut book: Guarded, line: u32, message: Vec<u8>) -> Guarded {
+    assert_eq!(send(&mut book, line, &[message])[0].0, 0);
+    book
+}
+
+/// The book with the entries of some pages overwritten: B claims 99.00 x 9 and 1.00 x 9.
+fn claimed(book: Guarded, pages: &[usize]) -> Guarded {
+    let none = || entry(*b"    ", 0, 0);
+    let bid = entry(*b"BR  ", 99_000_000, 9);
+    let offer = entry(*b"BR  ", 1_000_000, 9);
+    let claim = [bid, offer, none(), none(), none(), none()].concat();
+    let mut bytes = book.bytes().to_vec();
+    for &at in pages {
+        bytes[in_page(at, ENTRIES)].copy_from_slice(&claim);
+    }
+    Guarded::over(&bytes)
+}
+
+/// Takes a block in order; code and flags of each message.
+fn send(book: &mut Guarded, line: u32, messages: &[Vec<u8>]) -> Vec<(u8, u8)> {
+    let (expected, _) = record(book.bytes(), line as usize);
+    let block = build::block(expected, messages);
+    let mut answer = [0; 180];
+    let report = book.take_block(line, &block, &mut answer);
+    assert_eq!(report.number, 0);
+    let answers = answer.chunks_exact(4).take(messages.len());
+    answers.map(|answer| (answer[1], answer[2])).collect()
+}
+
+/// The six entries in words.
+fn words(bytes: &[u8]) -> [String; 6] {
+    let bytes = bytes.try_into().expect("96 bytes");
+    Publication::from_bytes(bytes)
+        .entries()
+        .map(|(_, entry)| entry.map_or("none".to_string(), |entry| entry.to_string()))
+}
+
+fn read(book: &Guarded, symbol: &str) -> [String; 6] {
+    let mut publication = [0; 96];
+    let number = book.read(&build::symbol(symbol), &mut publication);
+    assert_eq!(number, 0);
+    words(&publication)
+}
+
+/// One message that names ZT, or FINRA Close or Open, while every page's entries are claimed by B:
+/// its code and flags, and what a read gives then. The other pages stay, but for FINRA Close and Open.
+fn check(book: Guarded, line: u32, message: Vec<u8>, told: (u8, u8), entries: [&str; 6]) {
+    let mut book = claimed(book, &ALL);
+    let before = book.bytes().to_vec();
+    assert_eq!(read(&book, "ZT"), CLAIMED);
+    let control = message[0] == b'C';
+    assert_eq!(send(&mut book, line, &[message]), [told]);
+    assert_eq!(read(&book, "ZT"), entries);
+    for other in [YY, UNLISTED] {
+        let now = &book.bytes()[page(other)];
+        if control {
+            assert_eq!(words(&now[ENTRIES]), NOTHING);
+        } else {
+            assert_eq!(now, &before[page(other)]);
+        }
+    }
+}
+
+/// A quote of 10.00 x 3 and 10.02 x 2.
+fn quote(letter: u8, odd: &Odd) -> Vec<u8> {
+    let round = Round::regular(letter, 7, "ZT", (TEN, 3), (TEN + 2 * CENT, 2));
+    build::round_lot(&round, odd)
+}
+
+fn odd_lot(letter: u8, odd: &Odd) -> Vec<u8> {
+    build::odd_lot(letter, 8, build::symbol("ZT"), odd)
+}
+
+/// The maker MM with 10.00 x 3 and 10.02 x 2.
+fn maker() -> Vec<u8> {
+    let round = Round::regular(b'D', 7, "ZT", (TEN, 3), (TEN + 2 * CENT, 2));
+    build::maker_quote(&round, build::maker("MM"))
+}
+
+/// MM with both sides 0 and 0.
+fn empty_maker() -> Vec<u8> {
+    let round = Round::regular(b'D', 9, "ZT", (0, 0), (0, 0));
+    build::maker_quote(&round, build::maker("MM"))
+}
+
+fn bids(clear: u8, items: &[(u64, u32)]) -> Odd {
+    Odd {
+        clear,
+        bids: items.to_vec(),
+        offers: Vec::new(),
+    }
+}
+
+fn finra(kind: u8) -> Vec<u8> {
+    build::header(b'C', kind, b'D', 9)
+}
+
+#[test]
+fn a_quote() {
+    check(book(), N, quote(b'N', &Odd::IDLE), (0, 3), QUOTED);
+}
+
+#[test]
+fn a_quote_with_odd_lots() {
+    let odd = bids(b' ', &[(TEN + CENT, 5)]);
+    let mut entries = QUOTED;
+    entries[4] = "N 10.01 x 5";
+    check(book(), N, quote(b'N', &odd), (0, 3 + 16), entries);
+}
+
+/// The odd part is refused, the round part is in force.
+#[test]
+fn a_partly_accepted_quote() {
+    for (code, odd) in [
+        (60, bids(b'Z', &[])),
+        (61, bids(b' ', &[(TEN + CENT, 5); 5])),
+        (62, bids(b' ', &[(0, 5)])),
+        (63, bids(b' ', &[(TEN + CENT, 100)])),
+    ] {
+        check(book(), N, quote(b'N', &odd), (code, 3), QUOTED);
+    }
+    let four = [1, 2, 3, 4].map(|cents| (TEN + cents * CENT, 5));
+    let standing = after(book(), N, odd_lot(b'N', &bids(b' ', &four)));
+    let fifth = bids(b' ', &[(TEN + 5 * CENT, 5)]);
+    let mut entries = QUOTED;
+    entries[4] = "N 10.04 x 5";
+    check(standing, N, quote(b'N', &fifth), (64, 3 + 16), entries);
+}
+
+/// A quote that is behind another letter's as well as behind what is claimed.
+#[test]
+fn a_quote_behind_the_best() {
+    let standing = after(book(), N, quote(b'N', &Odd::IDLE));
+    let round = Round::regular(b'P', 8, "ZT", (TEN - CENT, 1), (TEN + 3 * CENT, 1));
+    let behind = build::round_lot(&round, &Odd::IDLE);
+    check(standing, P, behind, (0, 3), QUOTED);
+}
+
+#[test]
+fn odd_lots() {
+    let odd = bids(b' ', &[(TEN + CENT, 5)]);
+    let mut entries = NOTHING;
+    entries[4] = "N 10.01 x 5";
+    check(book(), N, odd_lot(b'N', &odd), (0, 3 + 16), entries);
+}
+
+/// A Q M with a space and no items: no byte of a slot or cell changes.
+#[test]
+fn idle_odd_lots() {
+    check(book(), N, odd_lot(b'N', &Odd::IDLE), (0, 3), NOTHING);
+    let standing = after(book(), N, quote(b'N', &Odd::IDLE));
+    check(standing, P, odd_lot(b'P', &Odd::IDLE), (0, 3), QUOTED);
+
+    let mut book = claimed(after(book(), N, quote(b'N', &Odd::IDLE)), &[ZT]);
+    let rest: Range<usize> = SLOTS.start..page(0).len();
+    let before = book.bytes()[in_page(ZT, rest.clone())].to_vec();
+    let idle = odd_lot(b'N', &Odd::IDLE);
+    assert_eq!(send(&mut book, N, &[idle]), [(0, 3)]);
+    assert_eq!(book.bytes()[in_page(ZT, rest)], before);
+}
+
+/// A clear of levels that do not stand, and a removal of an unknown price.
+#[test]
+fn odd_lots_that_change_no_level() {
+    for odd in [
+        bids(b'B', &[]),
+        bids(b'S', &[]),
+        bids(b'X', &[]),
+        bids(b' ', &[(TEN, 0)]),
+    ] {
+        check(book(), N, odd_lot(b'N', &odd), (0, 3), NOTHING);
+    }
+}
+
+#[test]
+fn a_maker() {
+    check(book(), D, maker(), (0, 15), MADE);
+}
+
+/// The same quote of a maker again.
+#[test]
+fn a_maker_that_changes_nothing() {
+    check(after(book(), D, maker()), D, maker(), (0, 15), MADE);
+}
+
+#[test]
+fn an_empty_quote_of_an_unknown_maker() {
+    check(book(), D, empty_maker(), (0, 3), NOTHING);
+}
+
+#[test]
+fn an_empty_quote_that_frees_a_cell() {
+    let standing = after(book(), D, maker());
+    check(standing, D, empty_maker(), (0, 3), NOTHING);
+}
+
+/// Without a maker, and with one.
+#[test]
+fn finra_close() {
+    check(book(), D, finra(b'C'), (0, 3), NOTHING);
+    check(after(book(), D, maker()), D, finra(b'C'), (0, 3), NOTHING);
+}
+
+#[test]
+fn finra_open() {
+    check(book(), D, finra(b'O'), (0, 3), NOTHING);
+    check(after(book(), D, maker()), D, finra(b'O'), (0, 15), MADE);
+}
+
+/// The flags go by the listed pages; the entries of a page that is not listed are worked out too.
+#[test]
+fn finra_close_and_open_of_one_wrong_page() {
+    for kind in *b"CO" {
+        for (wrong, flags) in [(ZT, 3), (YY, 3), (UNLISTED, 0)] {
+            let mut book = claimed(book(), &[wrong]);
+            assert_eq!(send(&mut book, D, &[finra(kind)]), [(0, flags)]);
+            for at in ALL {
+                assert_eq!(words(&book.bytes()[in_page(at, ENTRIES)]), NOTHING);
+            }
+        }
+    }
+}
+
+/// Each byte of the entries, changed alone, is put right, and sets the flag of its entry alone.
+#[test]
+fn one_wrong_byte() {
+    let odd = bids(b' ', &[(TEN + CENT, 5)]);
+    let book = after(book(), N, quote(b'N', &odd));
+    let book = after(book, D, maker());
+    for at in ENTRIES {
+        let mut bytes = book.bytes().to_vec();
+        bytes[page(ZT).start + at] ^= 0x11;
+        for (line, message) in [
+            (P, odd_lot(b'P', &Odd::IDLE)),
+            (N, quote(b'N', &odd)),
+            (D, maker()),
+            (D, finra(b'O')),
+        ] {
+            let mut wrong = Guarded::over(&bytes);
+            let flag = 1 << ((at - ENTRIES.start) / 16);
+            assert_eq!(send(&mut wrong, line, &[message]), [(0, flag)], "byte {at}");
+            let now = &wrong.bytes()[in_page(ZT, ENTRIES)];
+            assert_eq!(now, &book.bytes()[in_page(ZT, ENTRIES)], "byte {at}");
+        }
+    }
+}
+
+/// The first part of a block puts the entries right; the next one changes none.
+#[test]
+fn two_parts_of_a_block() {
+    let mut book = claimed(book(), &ALL);
+    let idle = odd_lot(b'N', &Odd::IDLE);
+    let messages = [
+        quote(b'N', &Odd::IDLE),
+        idle.clone(),
+        quote(b'N', &Odd::IDLE),
+    ];
+    assert_eq!(send(&mut book, N, &messages), [(0, 3), (0, 0), (0, 0)]);
+    assert_eq!(read(&book, "ZT"), QUOTED);
+
+    let mut book = claimed(after(self::book(), N, quote(b'N', &Odd::IDLE)), &ALL);
+    let messages = [idle, quote(b'N', &Odd::IDLE)];
+    assert_eq!(send(&mut book, N, &messages), [(0, 3), (0, 0)]);
+    assert_eq!(read(&book, "ZT"), QUOTED);
+}
+
+/// Levels that no reading counts stay where they are; the entries go by the reading.
+#[test]
+fn levels_that_no_reading_counts() {
+    let slot = SLOTS.start + SLOT_LEN * usize::from(b'N' - b'A');
+    let second = slot + LEVELS + 20;
+    let mut bytes = claimed(book(), &ALL).bytes().to_vec();
+    bytes[in_page(ZT, second..second + 20)].fill(1);
+    let mut book = Guarded::over(&bytes);
+    let idle = odd_lot(b'N', &Odd::IDLE);
+    assert_eq!(send(&mut book, N, &[idle]), [(0, 3)]);
+    assert_eq!(read(&book, "ZT"), NOTHING);
+    assert_eq!(book.bytes()[in_page(ZT, second..second + 20)], [1; 20]);
+}
+
+/// Messages that are rejected, and those without a part, change no byte of a page.
+#[test]
+fn a_rejected_message_leaves_wrong_entries() {
+    let no_symbol = Round::regular(b'N', 7, "NONE", (TEN, 3), (TEN, 2));
+    let no_condition = Round {
+        condition: b'L',
+        ..Round::regular(b'N', 7, "ZT", (TEN, 3), (TEN, 2))
+    };
+    let no_price = Round::regular(b'N', 7, "ZT", (0, 3), (TEN, 2));
+    let of_maker = Round::regular(b'D', 7, "ZT", (TEN, 3), (TEN, 2));
+    for (line, message, code) in [
+        (N, build::header(b'Q', b'T', b'N', 7), 40),
+        (N, quote(b'P', &Odd::IDLE), 41),
+        (N, build::header(b'C', b'C', b'N', 7), 44),
+        (N, build::round_lot(&no_symbol, &Odd::IDLE), 45),
+        (N, build::round_lot(&no_condition, &Odd::IDLE), 46),
+        (N, build::round_lot(&no_price, &Odd::IDLE), 47),
+        (N, odd_lot(b'N', &bids(b'Z', &[])), 60),
+        (N, odd_lot(b'N', &bids(b' ', &[(TEN, 5); 5])), 61),
+        (N, odd_lot(b'N', &bids(b' ', &[(0, 5)])), 62),
+        (N, odd_lot(b'N', &bids(b' ', &[(TEN, 100)])), 63),
+        (D, build::maker_quote(&of_maker, *b"M  M"), 48),
+        (N, build::header(b'C', b'I', b'N', 7), 0),
+        (N, build::header(b'C', b'T', b'N', 7), 0),
+        (N, build::test(b'N', 7), 0),
+    ] {
+        let mut book = claimed(book(), &ALL);
+        let before = book.bytes().to_vec();
+        assert_eq!(send(&mut book, line, &[message]), [(code, 0)]);
+        for at in ALL {
+            assert_eq!(book.bytes()[page(at)], before[page(at)], "code {code}");
+        }
+        assert_eq!(read(&book, "ZT"), CLAIMED);
+    }
+}
+
+/// 49 and 64, which go by what stands in the page.
+#[test]
+fn a_full_page_leaves_wrong_entries() {
+    let mut full = book();
+    for maker in b'A'..=b'P' {
+        let round = Round::regular(b'D', 7, "ZT", (TEN, 3), (TEN, 2));
+        let message = build::maker_quote(&round, [maker, b' ', b' ', b' ']);
+        full = after(full, D, message);
+    }
+    let four = [1, 2, 3, 4].map(|cents| (TEN + cents * CENT, 5));
+    let full = after(full, N, odd_lot(b'N', &bids(b' ', &four)));
+    let fifth = odd_lot(b'N', &bids(b' ', &[(TEN + 5 * CENT, 5)]));
+    let mut book = claimed(full, &ALL);
+    let before = book.bytes()[page(ZT)].to_vec();
+    assert_eq!(send(&mut book, D, &[maker()]), [(49, 0)]);
+    assert_eq!(send(&mut book, N, &[fifth]), [(64, 0)]);
+    assert_eq!(book.bytes()[page(ZT)], before);
+}
+
+/// Blocks of each number change no byte of the book.
+#[test]
+fn a_refused_block_leaves_wrong_entries() {
+    let fine = build::block(1, &[quote(b'N', &Odd::IDLE)]);
+    let changed = |at: usize, byte: u8| {
+        let mut block = fine.clone();
+        block[at] = byte;
+        block
+    };
+    let mut no_offset = changed(11, 13);
+    build::seal_checksum(&mut no_offset);
+    let not_alone = build::block(1, &[quote(b'N', &Odd::IDLE), finra(b'C')]);
+    let duplicate = build::block(0, &[quote(b'N', &Odd::IDLE)]);
+    for (line, block, room, number) in [
+        (N, fine.clone(), 179, 9),
+        (8, fine.clone(), 180, 21),
+        (N, fine[..31].to_vec(), 180, 30),
+        (N, changed(0, 2), 180, 31),
+        (N, changed(8, 255), 180, 32),
+        (N, no_offset, 180, 33),
+        (N, not_alone, 180, 34),
+        (N, duplicate, 180, 35),
+    ] {
+        let mut book = claimed(book(), &ALL);
+        let before = book.bytes().to_vec();
+        let report = book.take_block(line, &block, &mut vec![0; room]);
+        assert_eq!(report.number, number);
+        assert_eq!(book.bytes(), before);
+    }
+    let mut book = claimed(book(), &ALL);
+    assert_eq!(book.end_day(), 0);
+    let before = book.bytes().to_vec();
+    assert_eq!(book.take_block(N, &fine, &mut [0; 180]).number, 20);
+    assert_eq!(book.bytes(), before);
+    assert_eq!(read(&book, "ZT"), CLAIMED);
+}

@@ -1,0 +1,51 @@
+//! The kinds of parts after which the entries of a page are worked out from its quotes.
+
+use super::layout::{in_page, listed_page, page, ENTRIES, N};
+use super::reading::{is_empty_quote, Reading};
+
+pub const PARTS: [&str; 9] = [
+    "Q K without odd lots",
+    "Q K with odd lots",
+    "Q K, partly accepted",
+    "Q M",
+    "Q M, a space and no items",
+    "Q U",
+    "Q U, empty, of an unknown maker",
+    "C C",
+    "C O",
+];
+
+/// The kind of a message by its code, if the entries of a page that it concerns were not those of
+/// the page's quotes.
+pub fn on_wrong_entries(book: &[u8], message: &[u8], code: u8) -> Option<&'static str> {
+    let pages = match &message[..2] {
+        b"CC" | b"CO" => 0..usize::from(book[N]),
+        _ => {
+            let named = listed_page(book, message.get(20..31)?)?;
+            named..named + 1
+        }
+    };
+    let wrong = pages.into_iter().find_map(|at| {
+        let reading = Reading::of(&book[page(at)]);
+        (book[in_page(at, ENTRIES)] != reading.entries()).then_some(reading)
+    })?;
+    kind(&wrong, message, code)
+}
+
+fn kind(reading: &Reading, message: &[u8], code: u8) -> Option<&'static str> {
+    let idle = |clear: usize| message[clear..clear + 3] == *b" \0\0";
+    let unknown = || !reading.has_maker([message[56], message[57], message[58], message[59]]);
+    let at = match (&message[..2], code) {
+        (b"QK", 0) if idle(56) => 0,
+        (b"QK", 0) => 1,
+        (b"QK", 60..=64) => 2,
+        (b"QM", 0) if idle(31) => 4,
+        (b"QM", 0) => 3,
+        (b"QU", 0) if is_empty_quote(message) && unknown() => 6,
+        (b"QU", 0) => 5,
+        (b"CC", 0) => 7,
+        (b"CO", 0) => 8,
+        _ => return None,
+    };
+    Some(PARTS[at])
+}
