@@ -1,5 +1,5 @@
-// The same walk in plain C, over the same bytes: the yardstick of walk.rs. Makers first, then letters in order, both sides together,
-// price before eligibility before size and time, one odd cell for each letter and side.
+// The same walk in plain C, over the same bytes: the yardstick of walk.rs. Letters in order, both sides together, D with its makers' best at
+// its place, price before eligibility before size and time, one odd cell for each letter and side.
 #include <stdint.h>
 #include <string.h>
 
@@ -54,9 +54,7 @@ static inline void take_d(int bid, const Best *f, Best *b) {
     if (r > top || wins(b, f->size, f->time, 'D')) { *b = *f; b->name = 'D'; }
 }
 
-static inline void walk(const uint8_t *page, Best e[6]) {
-    Best none = {0}, odd[2] = {none, none};
-    for (int i = 0; i < 6; i++) e[i] = none;
+static inline void take_makers(const uint8_t *page, Best e[6]) {
     for (int i = 0; i < 16; i++) {
         const uint8_t *c = page + CELLS + i * CELL;
         if (c[4] != 'L' && c[4] != 'R') continue;
@@ -64,10 +62,16 @@ static inline void walk(const uint8_t *page, Best e[6]) {
         take(c + 5, 1, 1, c[4], name, &e[2]);
         take(c + 25, 0, 1, c[4], name, &e[3]);
     }
+}
+
+static inline void walk(const uint8_t *page, Best e[6]) {
+    Best none = {0}, odd[2] = {none, none};
+    for (int i = 0; i < 6; i++) e[i] = none;
     for (uint32_t l = 'A'; l <= 'Z'; l++) {
         const uint8_t *s = page + SLOTS + (l - 'A') * SLOT;
         if (l == 'S') continue;
         if (l == 'D') {
+            take_makers(page, e);
             take_d(1, &e[2], &e[0]);
             take_d(0, &e[3], &e[1]);
         } else {

@@ -1,10 +1,11 @@
 // Measures the proved walk beside the same walk in C over the same bytes: 64 pages picked at random, 16 letters quoting, a third of them
-// with odd lots, 4 makers; nanoseconds for each walk, lowest and median of interleaved rounds. First both are compared on all pages
-// and on pages of any bytes.
+// with odd lots, 4 makers; nanoseconds for each walk, lowest and median of interleaved rounds. First both are compared on such pages
+// and on pages of any bytes, also stopped behind each letter (T-04), where the C walk gets a page without the later letters.
 use std::time::Instant;
 
 extern "C" {
     fn rt_walk(page: *const u8, len: usize) -> u64;
+    fn rt_walk_to(page: *const u8, len: usize, last: usize) -> u64;
     fn rt_renew(page: *mut u8, len: usize) -> u8;
     fn c_walk(page: *const u8) -> u64;
     fn c_renew(page: *mut u8) -> u8;
@@ -86,6 +87,16 @@ fn any(r: &mut Random) -> Vec<u8> {
     page
 }
 
+/// The page on which the letters behind `last` hold nothing, D with its makers among them.
+fn cut(page: &[u8], last: u8) -> Vec<u8> {
+    let mut page = page.to_vec();
+    page[108 + usize::from(last + 1 - b'A') * 201..5334].fill(0);
+    if last < b'D' {
+        page[5334..].fill(0);
+    }
+    page
+}
+
 fn compare(r: &mut Random) {
     for turn in 0..20_000 {
         let page = if turn % 4 == 0 { made(r) } else { any(r) };
@@ -95,6 +106,10 @@ fn compare(r: &mut Random) {
             assert_eq!(rt_renew(a.as_mut_ptr(), LEN), c_renew(b.as_mut_ptr()), "flags, page {turn}");
             assert_eq!(a, b, "bytes, page {turn}");
             assert_eq!(rt_renew(a.as_mut_ptr(), LEN), 0, "again, page {turn}");
+            for last in b'A'..=b'Z' {
+                let stopped = rt_walk_to(page.as_ptr(), LEN, usize::from(last));
+                assert_eq!(stopped, c_walk(cut(&page, last).as_ptr()), "stopped behind {last}, page {turn}");
+            }
         }
     }
 }
@@ -126,7 +141,7 @@ fn rounds(name: &str, turns: &[usize], mut rt: impl FnMut(usize) -> u64, mut c: 
 fn main() {
     let mut r = Random(0x9E3779B97F4A7C15);
     compare(&mut r);
-    println!("20000 pages agree");
+    println!("20000 pages agree, stopped behind each letter too");
     let mut pages: Vec<Vec<u8>> = (0..64).map(|_| made(&mut r)).collect();
     let turns: Vec<usize> = (0..4096).map(|_| r.below(64) as usize).collect();
     let at: Vec<*mut u8> = pages.iter_mut().map(|p| p.as_mut_ptr()).collect();

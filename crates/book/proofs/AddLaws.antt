@@ -10,9 +10,10 @@ use lib.ListN.{length, length-append}
 use Rattle.field.specs.Field.{Bytes, be, part, field, splice, beBytes}
 use Rattle.field.proofs.Laws.{length-beBytes, bytes-beBytes, bytes-append, bytes-splice, length-splice, part-before, part-behind, field-put}
 use Rattle.lists.specs.Lists.{range}
+use Rattle.lists.proofs.Ranges.{map-range}
 use Rattle.page.specs.Page.{Reading, readingOf, blankPage}
 use Rattle.page.proofs.Model.{blankReading}
-use Rattle.page.proofs.TableLaws.{length-put, cell-same, cell-other, put-before, map-range, range-snoc}
+use Rattle.page.proofs.TableLaws.{length-put, cell-same, cell-other, put-before, range-snoc}
 use Rattle.page.proofs.BlankLaws.{part-front, part-after, part-whole, length-blank, bytes-blank, blank-reads}
 use Rattle.book.specs.Opening.{symbolsOf, countOf, lineAt, linesIn, restIn, pageStart, pageAt, setPage, pagesIn}
 use Rattle.book.proofs.OpeningLaws.{Sound, lines-by, opening-page}

@@ -15,7 +15,8 @@ use Rattle.field.proofs.Laws.{bytes-append}
 use Rattle.lists.specs.Lists.{every}
 use Rattle.page.specs.Page.{blankPage}
 use Rattle.page.proofs.EntryLaws.{bytes-every}
-use Rattle.page.proofs.BlankLaws.{part-front, part-after, part-whole, part-zeros, bytes-zeros, length-blank, bytes-blank}
+use Rattle.field.proofs.ZeroLaws.{part-zeros, bytes-zeros}
+use Rattle.page.proofs.BlankLaws.{part-front, part-after, part-whole, length-blank, bytes-blank}
 use Rattle.book.specs.Opening.{mark, openingLength, symbolsOf, countOf, lineAt, lineIn, linesIn, restIn, pageStart, pageAt, pagesIn, blankPages, freshBytes}
 use Rattle.book.proofs.OpeningLaws.{Sound}
 

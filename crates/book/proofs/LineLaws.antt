@@ -12,10 +12,9 @@ use borrow.Author.Tests.{ltb-true, lt-ltb}
 use Rattle.field.specs.Field.{Bytes, be, part, field, splice, beBytes}
 use Rattle.field.proofs.Laws.{be-beBytes, bytes-beBytes, bytes-append, bytes-splice, length-splice, part-before}
 use Rattle.lists.specs.Lists.{upper}
-use Rattle.lists.proofs.Tests.{clash, and-true, Cut, equal, apart, cut}
+use Rattle.lists.proofs.Tests.{clash, and-true, Cut, equal, apart, cut, upper-low}
 use Rattle.message.specs.Form.{letterGood}
 use Rattle.page.proofs.TableLaws.{cell-same, cell-other}
-use Rattle.page.proofs.EntryLaws.{upper-low}
 use Rattle.book.specs.declared.Line.{Line}
 use Rattle.book.specs.Opening.{symbolsOf, lineAt, lineIn, lineBytes, linesIn, restIn, pageAt, pagesIn}
 use Rattle.book.proofs.OpeningLaws.{Sound, Front, sound-by, count-by, pages-by, opening-page}

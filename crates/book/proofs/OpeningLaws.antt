@@ -12,9 +12,10 @@ use borrow.Author.Tests.{ltb-true, leb-true, le-leb, eqb-true, eq-eqb}
 use Rattle.field.specs.Field.{Bytes, be, part, field, splice}
 use Rattle.field.proofs.Laws.{part-behind, length-part, bytes-part}
 use Rattle.lists.specs.Lists.{sameList}
+use Rattle.lists.proofs.Ranges.{map-range}
 use Rattle.lists.proofs.Tests.{clash, and-true}
 use Rattle.page.specs.Page.{readingOf}
-use Rattle.page.proofs.TableLaws.{cell-order, map-range}
+use Rattle.page.proofs.TableLaws.{cell-order}
 use Rattle.book.specs.Opening.{mark, openingLength, bookLength, symbolsOf, countOf, sound, lineAt, lineIn, linesIn, restIn, pageStart, pageAt, pagesIn}
 
 -- "mark, offset and length are right, n is 1 to 64, the count at most n and the day flag 0 or 1"

@@ -10,13 +10,14 @@ use borrow.Author.Tests.{eqb-true}
 use Rattle.field.specs.Field.{Bytes, part, field, splice}
 use Rattle.field.proofs.Laws.{bytes-splice}
 use Rattle.lists.specs.Lists.{range}
+use Rattle.lists.proofs.Ranges.{map-range}
 use Rattle.lists.specs.declared.Found.{Found}
 use Rattle.lists.specs.declared.Found.the-variants.{At, Nothing}
 use Rattle.lists.proofs.Searches.{Hit, first-hit}
 use Rattle.lists.proofs.Tests.{clash}
 use Rattle.page.specs.Page.{Reading, readingOf}
 use Rattle.page.proofs.Model.{setAt, onReading}
-use Rattle.page.proofs.TableLaws.{length-put, cell-same, cell-other, put-before, eachCell, Each, each-cell, map-range, map-set, map-map-range}
+use Rattle.page.proofs.TableLaws.{length-put, cell-same, cell-other, put-before, eachCell, Each, each-cell, map-set, map-map-range}
 use Rattle.page.proofs.SearchLaws.{foundBy, on-place}
 use Rattle.page.proofs.EntryLaws.{Kept}
 use Rattle.book.specs.Opening.{symbolsOf, countOf, pageStart, pageAt, setPage, pagesIn, pagePlace, onPlace, onPage, eachPage}

@@ -12,7 +12,8 @@ use Rattle.field.specs.Field.{Bytes, part, field, splice, beBytes}
 use Rattle.field.proofs.Laws.{length-beBytes, beBytes-one, splice-join, splice-part, part-part, part-join, length-part, beBytes-field, lent-back}
 use Rattle.lists.proofs.Searches.{less-one}
 use Rattle.page.specs.Page.{blankPage, emptied}
-use Rattle.page.proofs.BlankLaws.{part-front, part-after, part-zeros, length-blank}
+use Rattle.field.proofs.ZeroLaws.{part-zeros}
+use Rattle.page.proofs.BlankLaws.{part-front, part-after, length-blank}
 use Rattle.book.specs.declared.Line.{Line}
 use Rattle.book.specs.Opening.{mark, lineAt, lineBytes, pageStart, pageAt, setPage, eachPage, blankPages, freshBytes, restarted, restartLines}
 use Rattle.book.proofs.FreshLaws.{noSymbol}

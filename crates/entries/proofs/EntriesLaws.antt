@@ -1,17 +1,15 @@
--- The walk gives the page's six entries: makers and letters one after another, one level for each letter and side.
+-- The walk gives the six entries of the page cut where it stops: makers and letters one after another, one level for each letter and side.
 -- Assumes nothing.
-use Prim.Native.Nat.{ℕ, _+_, _^_, _≤_, _<_}
+use Prim.Native.Nat.{ℕ, _+_, _-_, _^_, _≤_, _<_}
 use mathlib.Core.Path.{_≡_, refl, sym, ap, _∙_}
 use mathlib.Core.Bool.{Bool, true, false, _&&_, cond}
 use mathlib.Core.List.{List, [], _∷_, map}
 use mathlib.Core.Option.{Option, none, some}
-use mathlib.Core.Logic.{_⊎_, inl, inr}
 use native.Mathlib.Omega.{arith}
-use native.Mathlib.Nat.{le-of-lt, lt-of-lt-of-le, pow-le-pow-right, min-le-left}
-use lib.Dec.{eqb, leb, ltb}
+use native.Mathlib.Nat.{lt-of-lt-of-le, pow-le-pow-right, min-le-left}
+use lib.Dec.{eqb, ltb}
 use lib.ListN.{length, take, drop, length-take}
-use borrow.Author.Tests.{leb-true, leb-false, lt-ltb, ltb-true, ltb-false}
-use Rattle.lists.proofs.Tests.{clash}
+use borrow.Author.Tests.{ltb-true, eqb-true}
 use Rattle.lists.specs.Lists.{member, mapOption, bindOption, consOption, collect, gather, range, upper}
 use Rattle.field.specs.Field.{Bytes, part, field}
 use Rattle.field.specs.Low.{low}
@@ -22,24 +20,24 @@ use Rattle.ranking.specs.declared.Side.the-variants.{Bid, Offer}
 use Rattle.ranking.specs.declared.Candidate.{Candidate}
 use Rattle.ranking.specs.declared.Sides.{Sides}
 use Rattle.ranking.specs.Ranking.{better, best}
-use Rattle.ranking.specs.Choice.{rankOf, noCandidate, orNone, ofSide, choose, reaching, bestFrom, noSides, sidesFrom, beyondOf}
-use Rattle.ranking.proofs.OrderLaws.{keep, either}
-use Rattle.ranking.proofs.ReachingLaws.{reach-none, reach-choose, reach-from, reach-twice, reach-all, reach-best, beyond-found}
-use Rattle.ranking.proofs.Bridge.{OrCounting, live-counts, live-back, fits-or, side-best, best-counts, choose-either}
+use Rattle.ranking.specs.Choice.{noCandidate, orNone, live, ofSide, bestFrom, noSides, sidesFrom, beyondOf}
+use Rattle.ranking.proofs.OrderLaws.{keep}
+use Rattle.ranking.proofs.ChoiceLaws.{best-stops}
+use Rattle.ranking.proofs.Bridge.{OrCounting, live-counts, live-back, side-best, best-counts}
 use Rattle.quote.specs.declared.Quote.{Quote}
 use Rattle.quote.specs.Quote.{noQuote, sideOf, admits, counts, levelCandidate, candidateOf, levelIn, quoteIn}
 use Rattle.levels.specs.Levels.{emptyCell, sideLevels, noLevels, levelsIn}
 use Rattle.quote.proofs.QuoteLaws.{level-at}
-use Rattle.entries.specs.declared.Ranks.{Ranks}
-use Rattle.entries.specs.declared.Floors.{Floors}
 use Rattle.entries.specs.declared.Tops.{Tops}
 use Rattle.entries.specs.declared.BestEntries.{BestEntries}
-use Rattle.entries.specs.Entries.{Entries, letters, asD, makerCandidate, finraBest, letterCandidate, nationalBest, oddCandidate, letterLevels, oddBest, entriesBy, entriesOf}
+use Rattle.entries.specs.Entries.{Maker, Entries, letters, asD, makerCandidate, finraBest, letterCandidate, nationalBest, oddCandidate, letterLevels, oddBest, entriesBy, entriesOf}
 use Rattle.entries.specs.Page.{slotAt, cellAt, quotesIn, levelsFor, makerIn, makersIn, same, occupied, pageEntries}
-use Rattle.entries.specs.Walk.{inQuote, inLevels, makerAt, quotedAt, firstOf, firstAt, floorOf, reachingAt, past, noTops, topsFrom, bothReach, certain, bothCertain, allReach, lowerOf, loweredTo, bestsOf}
+use Rattle.entries.specs.Cut.{cut}
+use Rattle.entries.specs.Walk.{inQuote, inLevels, asked, makerAt, finraSides, nationalAt, firstOf, firstAt, noTops, topsFrom, bestsOf}
 use Rattle.entries.proofs.ReadLaws.{quote-side, maker-at, first-level, cell-live}
-use Rattle.entries.proofs.NationalLaws.{d-last, choose-d}
 use Rattle.entries.proofs.OddLaws.{collect-bind, page-falls, far, odd-once, beyond-is}
+use Rattle.entries.proofs.BlankLaws.{no-candidate}
+use Rattle.entries.proofs.CutLaws.{cut-bytes, cut-quote, cut-levels, cut-no-quote, cut-no-levels, cut-makers, cut-no-makers}
 
 -- ---- whatever stands in a page of bytes fits
 
@@ -178,225 +176,120 @@ module _ (p : List ℕ) (b : Bytes p) where
   unfolding pageEntries entriesOf entriesBy
   six-count = record { national = national-best-counts; finra = finra-counts; odd = odd-best-counts }
 
--- ---- the walk from floors
+-- ---- the makers, on the cut page
 
--- the best of what reaches a floor
-from-floor : (f : Side → ℕ → Option Candidate) → ((s : Side) (j : ℕ) → OrCounting (f s j)) → (g : Ranks) (t : Sides) (i k : ℕ) → t ≡ sidesFrom (reachingAt g f) i k noSides → (s : Side)
-    → ofSide s t ≡ reaching s (floorOf s g) (orNone (best (better s) (collect (f s) (range k i))))
-unfolding sidesFrom
-from-floor f h g t i k e = side
-  where
-    found : (s : Side) → bestFrom s (reachingAt g f s) i k noCandidate ≡ reaching s (floorOf s g) (orNone (best (better s) (collect (f s) (range k i))))
-    found s =
-        ap (bestFrom s (reachingAt g f s) i k) (sym (reach-none s (floorOf s g)))
-        ∙ reach-from s (floorOf s g) (λ j. orNone (f s j)) i k noCandidate
-        ∙ ap (reaching s (floorOf s g)) (side-best s (f s) (h s) i k)
+module _ (p : List ℕ) (w : length p ≡ 6054) (l : ℕ) (lo : 65 ≤ l) (hi : l < 91) where
+  pub finra-none : l < 68 → noSides ≡ finraSides (cut l p)
+  unfolding finraSides finraBest
+  finra-none h = rw (cut-no-makers p w l lo hi h)
 
-    side : (s : Side) → ofSide s t ≡ reaching s (floorOf s g) (orNone (best (better s) (collect (f s) (range k i))))
-    side Bid = ap (λ (t : Sides). t .bid) e ∙ found Bid
-    side Offer = ap (λ (t : Sides). t .offer) e ∙ found Offer
-
-module _ (p : List ℕ) (b : Bytes p) (s : Side) where
-  -- the best of the letters' own quotes
-  abbrev quoted : Option Candidate
-  quoted = best (better s) (collect (quotedAt p s) (range 26 65))
-
-  quoted-counts : (l : ℕ) → OrCounting (quotedAt p s l)
-  unfolding quotedAt
-  quoted-counts l = letter-counts p b s none l tt
-
-  national-is : choose s (orNone quoted) (asD (orNone (fb p b s))) ≡ orNone (nb p b s)
-  unfolding nationalBest letters quotedAt
-  national-is =
-      choose-d s (orNone quoted) (orNone (fb p b s))
-      ∙ ap (λ (o : Option Candidate). choose s (orNone quoted) (orNone (mapOption asD o))) (live-back (fb p b s) (finra-counts p b s))
-      ∙ choose-either s quoted (orNone (mapOption asD (fb p b s))) (best-counts s (quotedAt p s) quoted-counts (range 26 65)) (fits-or (mapOption asD (fb p b s)) d-counts)
-      ∙ ap (λ (o : Option Candidate). orNone (either (better s) quoted o)) (live-back (mapOption asD (fb p b s)) d-counts)
-      ∙ ap orNone (sym (d-last s (quotesIn p) (fb p b s)))
+  pub finra-walked : Bytes p → (r : Sides) → 68 ≤ l → r ≡ sidesFrom (asked (makerAt p)) 0 16 noSides → r ≡ finraSides (cut l p)
+  unfolding finraSides sidesFrom
+  finra-walked b r h e = e ∙ (λ i. record { bid = side Bid i; offer = side Offer i })
     where
-      d-counts : OrCounting (mapOption asD (fb p b s))
-      d-counts = as-d-counts p b (fb p b s) (finra-counts p b s)
+      side : (s : Side) → bestFrom s (asked (makerAt p) s) 0 16 noCandidate ≡ orNone (finraBest (occupied (makersIn (cut l p))) s)
+      side s =
+          side-best s (makerAt p s) (maker-counts p b s) 0 16 ∙ ap orNone (finra-is p b s)
+          ∙ ap (λ (ms : List (Option Maker)). orNone (finraBest (occupied ms) s)) (sym (cut-makers p w l lo hi h))
 
-  -- one side, its FINRA and national best reaching their floors, its odd best certain
-  module _ (h g d : ℕ) (f q r n o : Candidate) (ef : f ≡ reaching s h (orNone (best (better s) (collect (makerAt p s) (range 16 0))))) (eq : q ≡ reaching s g (orNone quoted))
-      (er : r ≡ reaching s (d + 1) (orNone (best (better s) (collect (firstAt p s) (range 26 65))))) (en : n ≡ choose s q (asD f)) (eo : o ≡ beyondOf s n r)
-      (kf : h ≤ rankOf s (f .price)) (kn : g ≤ rankOf s (n .price)) (ko : o .price ≡ 0 → d ≤ rankOf s (n .price)) where
-    finra-side : f ≡ orNone (fb p b s)
-    finra-side = reach-best s h f (orNone (best (better s) (collect (makerAt p s) (range 16 0)))) ef kf ∙ ap orNone (finra-is p b s)
+-- ---- the letters
 
-    national-side : n ≡ orNone (nb p b s)
-    national-side =
-        reach-all s g n (choose s (orNone quoted) (asD f))
-        (ap (reaching s g) en
-        ∙ reach-choose s g q (asD f)
-        ∙ ap (λ (c : Candidate). choose s c (reaching s g (asD f))) (ap (reaching s g) eq ∙ reach-twice s g (orNone quoted))
-        ∙ sym (reach-choose s g (orNone quoted) (asD f)))
-        kn
-        ∙ ap (λ (c : Candidate). choose s (orNone quoted) (asD c)) finra-side
-        ∙ national-is
+module _ (p : List ℕ) (w : length p ≡ 6054) (b : Bytes p) (l : ℕ) (lo : 65 ≤ l) (hi : l < 91) (s : Side) where
+  abbrev c : List ℕ
+  c = cut l p
 
-    odd-side : o ≡ orNone (oddBest (levelsFor p) (nb p b) s)
+  cb : Bytes c
+  cb = cut-bytes p w l lo hi b
+
+  -- up to l the letters are those of the page, behind it they have no candidate
+  national-here : (j : ℕ) → 65 ≤ j → j ≤ l → letterCandidate s (quotesIn p) (fb c cb s) j ≡ letterCandidate s (quotesIn c) (fb c cb s) j
+  unfolding letterCandidate
+  national-here j a z = rw (cut-quote p w l lo hi j a z)
+
+  no-finra : l < 68 → fb c cb s ≡ none
+  unfolding finraBest
+  no-finra h = rw (cut-no-makers p w l lo hi h)
+
+  national-behind : (j : ℕ) → l < j → j < 91 → letterCandidate s (quotesIn c) (fb c cb s) j ≡ none
+  unfolding letterCandidate
+  national-behind j a z = rw (cut-no-quote p w l lo hi j a z, no-candidate s j) (go (eqb j 68) refl (eqb j 83))
+    where
+      go : (t : Bool) → eqb j 68 ≡ t → (u : Bool) → cond t (mapOption asD (fb c cb s)) (cond u none none) ≡ none
+      go true e u = let k : j ≡ 68 = eqb-true j 68 e in ap (mapOption asD) (no-finra (omega arith))
+      go false e true = refl
+      go false e false = refl
+
+  first-here : (j : ℕ) → 65 ≤ j → j ≤ l → firstAt p s j ≡ firstAt c s j
+  unfolding firstAt letterLevels
+  first-here j a z = rw (cut-levels p w l lo hi j a z)
+
+  first-behind : (j : ℕ) → l < j → j < 91 → firstAt c s j ≡ none
+  unfolding firstAt letterLevels
+  first-behind j a z = rw (cut-no-levels p w l lo hi j a z) (go (eqb j 83) s)
+    where
+      go : (t : Bool) (s : Side) → mapOption (levelCandidate j 32) (firstOf (cond t [] (sideLevels s noLevels))) ≡ none
+      go true s = refl
+      go false Bid = refl
+      go false Offer = refl
+
+  -- a walk that stops at l finds the best of the cut page
+  stops : (f g : ℕ → Option Candidate) → ((j : ℕ) → OrCounting (g j)) → ((j : ℕ) → 65 ≤ j → j ≤ l → f j ≡ g j) → ((j : ℕ) → l < j → j < 91 → g j ≡ none)
+      → bestFrom s (λ j. orNone (f j)) 65 (l - 64) noCandidate ≡ orNone (best (better s) (collect g letters))
+  unfolding letters
+  stops f g n e q =
+      best-stops s (λ j. orNone (f j)) (λ j. orNone (g j)) 65 (l - 64) 26 noCandidate (omega arith)
+      (λ j a z. ap orNone (e j a (omega arith))) (λ j a z. ap orNone (q j (omega arith) (omega arith)))
+      ∙ side-best s g n 65 26
+
+  module _ (f : Sides) (ef : f ≡ finraSides c) where
+    finra-side : ofSide s f ≡ orNone (fb c cb s)
+    unfolding finraSides
+    finra-side = ap (ofSide s) ef ∙ go s
+      where
+        go : (s : Side) → ofSide s (finraSides c) ≡ orNone (fb c cb s)
+        go Bid = refl
+        go Offer = refl
+
+    national-side : (n : Candidate) → n ≡ bestFrom s (asked (nationalAt p f) s) 65 (l - 64) noCandidate → n ≡ orNone (nb c cb s)
+    unfolding nationalAt nationalBest
+    national-side n e =
+        e
+        ∙ ap (λ (o : Option Candidate). bestFrom s (λ j. orNone (letterCandidate s (quotesIn p) o j)) 65 (l - 64) noCandidate) (ap live finra-side ∙ live-back (fb c cb s) (finra-counts c cb s))
+        ∙ stops (letterCandidate s (quotesIn p) (fb c cb s)) (letterCandidate s (quotesIn c) (fb c cb s)) (λ j. letter-counts c cb s (fb c cb s) j (finra-counts c cb s)) national-here national-behind
+
+    odd-side : (n t o : Candidate) → n ≡ orNone (nb c cb s) → t ≡ bestFrom s (asked (firstAt p) s) 65 (l - 64) noCandidate → o ≡ beyondOf s n t
+        → o ≡ orNone (oddBest (levelsFor c) (nb c cb) s)
     unfolding oddBest letters
-    odd-side =
-        eo
-        ∙ ap (beyondOf s n) er
-        ∙ beyond-found s (d + 1) n (orNone (best (better s) (collect (firstAt p s) (range 26 65))))
-        (λ z. omega (arith, ko (ap (λ (c : Candidate). c .price) (eo ∙ ap (beyondOf s n) er) ∙ z)))
-        ∙ ap (λ (c : Candidate). beyondOf s c (orNone (best (better s) (collect (firstAt p s) (range 26 65))))) national-side
-        ∙ odd-is p b s (nb p b s) 26 (national-best-counts p b s)
-
-    side-walked : (f ≡ orNone (fb p b s)) × (n ≡ orNone (nb p b s)) × (o ≡ orNone (oddBest (levelsFor p) (nb p b) s))
-    side-walked = (finra-side, national-side, odd-side)
-
-past-is : (s : Side) (g : Ranks) → floorOf s (past g) ≡ floorOf s g + 1
-past-is Bid g = refl
-past-is Offer g = refl
+    odd-side n t o en et eo =
+        eo ∙ (λ i. beyondOf s (en i) ((et ∙ stops (firstAt p s) (firstAt c s) (first-counts c cb s) first-here first-behind) i))
+        ∙ odd-is c cb s (nb c cb s) 26 (national-best-counts c cb s)
 
 -- ---- the whole
 
-both-reach : (g : Ranks) (t : Sides) → bothReach g t ≡ true → (s : Side) → floorOf s g ≤ rankOf s (ofSide s t .price)
-unfolding bothReach
-both-reach g t e = go (ltb (rankOf Bid (t .bid .price)) (g .bid)) refl (ltb (rankOf Offer (t .offer .price)) (g .offer)) refl e
-  where
-    go : (u : Bool) → ltb (rankOf Bid (t .bid .price)) (g .bid) ≡ u → (v : Bool) → ltb (rankOf Offer (t .offer .price)) (g .offer) ≡ v → cond u false (cond v false true) ≡ true
-        → (s : Side) → floorOf s g ≤ rankOf s (ofSide s t .price)
-    go true h v k e s = clash (sym e)
-    go false h true k e s = clash (sym e)
-    go false h false k e Bid = ltb-false (rankOf Bid (t .bid .price)) (g .bid) h
-    go false h false k e Offer = ltb-false (rankOf Offer (t .offer .price)) (g .offer) k
-
-one-certain : (s : Side) (h : ℕ) (n o : Candidate) → certain s h n o ≡ true → o .price ≡ 0 → h ≤ rankOf s (n .price)
-unfolding certain
-one-certain s h n o e z = leb-true h (rankOf s (n .price)) (rw z at e)
-
-both-certain : (h : Ranks) (n o : Sides) → bothCertain h n o ≡ true → (s : Side) → ofSide s o .price ≡ 0 → floorOf s h ≤ rankOf s (ofSide s n .price)
-unfolding bothCertain
-both-certain h n o e = go (certain Bid (h .bid) (n .bid) (o .bid)) refl e
-  where
-    go : (t : Bool) → certain Bid (h .bid) (n .bid) (o .bid) ≡ t → cond t (certain Offer (h .offer) (n .offer) (o .offer)) false ≡ true
-        → (s : Side) → ofSide s o .price ≡ 0 → floorOf s h ≤ rankOf s (ofSide s n .price)
-    go true k e Bid = one-certain Bid (h .bid) (n .bid) (o .bid) k
-    go true k e Offer = one-certain Offer (h .offer) (n .offer) (o .offer) e
-    go false k e s = clash (sym e)
-
-all-reach : (g : Floors) (e : BestEntries) → allReach g e ≡ true
-    → (bothReach (g .finra) (e .finra) ≡ true) × (bothReach (g .national) (e .national) ≡ true) × (bothCertain (g .odd) (e .national) (e .odd) ≡ true)
-unfolding allReach
-all-reach g e = go (bothReach (g .finra) (e .finra)) refl (bothReach (g .national) (e .national)) refl
-  where
-    go : (t : Bool) → bothReach (g .finra) (e .finra) ≡ t → (u : Bool) → bothReach (g .national) (e .national) ≡ u
-        → cond t (cond u (bothCertain (g .odd) (e .national) (e .odd)) false) false ≡ true
-        → (bothReach (g .finra) (e .finra) ≡ true) × (bothReach (g .national) (e .national) ≡ true) × (bothCertain (g .odd) (e .national) (e .odd) ≡ true)
-    go true h true i k = (h, i, k)
-    go true h false i k = clash (sym k)
-    go false h u i k = clash (sym k)
-
-module _ (p : List ℕ) (b : Bytes p) (g : Floors) (f : Sides) (t : Tops) (db da mb ma ob oa : Candidate)
-    (ef : f ≡ sidesFrom (reachingAt (g .finra) (makerAt p)) 0 16 noSides) (et : t ≡ topsFrom p g 65 26 noTops)
-    (edb : db ≡ asD (f .bid)) (eda : da ≡ asD (f .offer)) (emb : mb ≡ choose Bid (t .national .bid) db) (ema : ma ≡ choose Offer (t .national .offer) da)
-    (eob : ob ≡ beyondOf Bid mb (t .odd .bid)) (eoa : oa ≡ beyondOf Offer ma (t .odd .offer)) where
+module _ (p : List ℕ) (w : length p ≡ 6054) (b : Bytes p) (l : ℕ) (lo : 65 ≤ l) (hi : l < 91) (f : Sides) (t : Tops) (ob oa : Candidate) (ef : f ≡ finraSides (cut l p))
+    (et : t ≡ topsFrom p f 65 (l - 64) noTops) (eob : ob ≡ beyondOf Bid (t .national .bid) (t .odd .bid)) (eoa : oa ≡ beyondOf Offer (t .national .offer) (t .odd .offer)) where
   abbrev six : BestEntries
-  six = record { national = record { bid = mb; offer = ma }; finra = f; odd = record { bid = ob; offer = oa } }
+  six = record { national = t .national; finra = f; odd = record { bid = ob; offer = oa } }
 
-  quotes-from : t .national ≡ sidesFrom (reachingAt (g .national) (quotedAt p)) 65 26 noSides
-  unfolding topsFrom
-  quotes-from = ap (λ (t : Tops). t .national) et
-
-  firsts-from : t .odd ≡ sidesFrom (reachingAt (past (g .odd)) (firstAt p)) 65 26 noSides
-  unfolding topsFrom
-  firsts-from = ap (λ (t : Tops). t .odd) et
-
-  with-d : (s : Side) → ofSide s (six .national) ≡ choose s (ofSide s (t .national)) (asD (ofSide s f))
-  with-d Bid = emb ∙ ap (choose Bid (t .national .bid)) edb
-  with-d Offer = ema ∙ ap (choose Offer (t .national .offer)) eda
-
-  beyond-d : (s : Side) → ofSide s (six .odd) ≡ beyondOf s (ofSide s (six .national)) (ofSide s (t .odd))
-  beyond-d Bid = eob
-  beyond-d Offer = eoa
-
-  pub walked : allReach g six ≡ true → six ≡ bestsOf (pageEntries p)
-  unfolding bestsOf pageEntries entriesOf entriesBy
-  walked e =
+  pub walked : six ≡ bestsOf (pageEntries (cut l p))
+  unfolding bestsOf pageEntries entriesOf entriesBy topsFrom sidesFrom
+  walked =
       λ i. record {
-        national = record { bid = side Bid .1 i; offer = side Offer .1 i };
-        finra = record { bid = side Bid .0 i; offer = side Offer .0 i };
-        odd = record { bid = side Bid .2 i; offer = side Offer .2 i };
+        national = record { bid = national Bid i; offer = national Offer i };
+        finra = record { bid = finra Bid i; offer = finra Offer i };
+        odd = record { bid = odd Bid i; offer = odd Offer i };
       }
     where
-      side : (s : Side) → (ofSide s f ≡ orNone (fb p b s)) × (ofSide s (six .national) ≡ orNone (nb p b s)) × (ofSide s (six .odd) ≡ orNone (oddBest (levelsFor p) (nb p b) s))
-      side s =
-          let k = all-reach g six e in
-          side-walked p b s (floorOf s (g .finra)) (floorOf s (g .national)) (floorOf s (g .odd)) (ofSide s f) (ofSide s (t .national)) (ofSide s (t .odd)) (ofSide s (six .national)) (ofSide s (six .odd))
-          (from-floor (makerAt p) (maker-counts p b) (g .finra) f 0 16 ef s)
-          (from-floor (quotedAt p) (quoted-counts p b) (g .national) (t .national) 65 26 quotes-from s)
-          (from-floor (firstAt p) (first-counts p b) (past (g .odd)) (t .odd) 65 26 firsts-from s
-          ∙ ap (λ (h : ℕ). reaching s h (orNone (best (better s) (collect (firstAt p s) (range 26 65))))) (past-is s (g .odd)))
-          (with-d s) (beyond-d s) (both-reach (g .finra) f (k .0) s) (both-reach (g .national) (six .national) (k .1) s)
-          (both-certain (g .odd) (six .national) (six .odd) (k .2) s)
+      cc′ : Bytes (cut l p)
+      cc′ = cut-bytes p w l lo hi b
 
--- ---- floors that are not reached fall
+      finra : (s : Side) → ofSide s f ≡ orNone (fb (cut l p) cc′ s)
+      finra s = finra-side p w b l lo hi s f ef
 
-abbrev pub height : Floors → ℕ
-height g = g .national .bid + g .national .offer + (g .finra .bid + g .finra .offer) + (g .odd .bid + g .odd .offer)
+      national : (s : Side) → ofSide s (t .national) ≡ orNone (nb (cut l p) cc′ s)
+      national Bid = national-side p w b l lo hi Bid f ef (t .national .bid) (ap (λ (t : Tops). t .national .bid) et)
+      national Offer = national-side p w b l lo hi Offer f ef (t .national .offer) (ap (λ (t : Tops). t .national .offer) et)
 
-lower-le : (g r : ℕ) → lowerOf g r ≤ g
-lower-le g r = go (ltb r g) refl
-  where
-    go : (t : Bool) → ltb r g ≡ t → cond t r g ≤ g
-    go true e = le-of-lt (ltb-true r g e)
-    go false e = omega arith
-
-lower-lt : (g r : ℕ) → r < g → lowerOf g r < g
-lower-lt g r h = rw (lt-ltb r g h) h
-
--- the sum of two that are lowered: no higher, and lower if either was not reached
-abbrev fallen : Ranks → Sides → ℕ
-fallen g t = lowerOf (g .bid) (rankOf Bid (t .bid .price)) + lowerOf (g .offer) (rankOf Offer (t .offer .price))
-
-fallen-le : (g : Ranks) (t : Sides) → fallen g t ≤ g .bid + g .offer
-fallen-le g t = omega (arith, lower-le (g .bid) (rankOf Bid (t .bid .price)), lower-le (g .offer) (rankOf Offer (t .offer .price)))
-
-fallen-lt : (g : Ranks) (t : Sides) → (rankOf Bid (t .bid .price) < g .bid) ⊎ (rankOf Offer (t .offer .price) < g .offer) → fallen g t < g .bid + g .offer
-fallen-lt g t (inl h) = omega (arith, lower-lt (g .bid) (rankOf Bid (t .bid .price)) h, lower-le (g .offer) (rankOf Offer (t .offer .price)))
-fallen-lt g t (inr h) = omega (arith, lower-le (g .bid) (rankOf Bid (t .bid .price)), lower-lt (g .offer) (rankOf Offer (t .offer .price)) h)
-
-not-reached : (g : Ranks) (t : Sides) → bothReach g t ≡ false → (rankOf Bid (t .bid .price) < g .bid) ⊎ (rankOf Offer (t .offer .price) < g .offer)
-unfolding bothReach
-not-reached g t = go (ltb (rankOf Bid (t .bid .price)) (g .bid)) refl (ltb (rankOf Offer (t .offer .price)) (g .offer)) refl
-  where
-    go : (u : Bool) → ltb (rankOf Bid (t .bid .price)) (g .bid) ≡ u → (v : Bool) → ltb (rankOf Offer (t .offer .price)) (g .offer) ≡ v → cond u false (cond v false true) ≡ false
-        → (rankOf Bid (t .bid .price) < g .bid) ⊎ (rankOf Offer (t .offer .price) < g .offer)
-    go true h v k e = inl (ltb-true (rankOf Bid (t .bid .price)) (g .bid) h)
-    go false h true k e = inr (ltb-true (rankOf Offer (t .offer .price)) (g .offer) k)
-    go false h false k e = clash e
-
-uncertain : (s : Side) (h : ℕ) (n o : Candidate) → certain s h n o ≡ false → rankOf s (n .price) < h
-unfolding certain
-uncertain s h n o = go (eqb (o .price) 0) (leb h (rankOf s (n .price))) refl
-  where
-    go : (t u : Bool) → leb h (rankOf s (n .price)) ≡ u → cond t u true ≡ false → rankOf s (n .price) < h
-    go true true k e = clash e
-    go true false k e = leb-false h (rankOf s (n .price)) k
-    go false u k e = clash e
-
-not-certain : (h : Ranks) (n o : Sides) → bothCertain h n o ≡ false → (rankOf Bid (n .bid .price) < h .bid) ⊎ (rankOf Offer (n .offer .price) < h .offer)
-unfolding bothCertain
-not-certain h n o = go (certain Bid (h .bid) (n .bid) (o .bid)) refl
-  where
-    go : (t : Bool) → certain Bid (h .bid) (n .bid) (o .bid) ≡ t → cond t (certain Offer (h .offer) (n .offer) (o .offer)) false ≡ false
-        → (rankOf Bid (n .bid .price) < h .bid) ⊎ (rankOf Offer (n .offer .price) < h .offer)
-    go true k e = inr (uncertain Offer (h .offer) (n .offer) (o .offer) e)
-    go false k e = inl (uncertain Bid (h .bid) (n .bid) (o .bid) k)
-
-pub floors-fall : (g : Floors) (e : BestEntries) (n f o : Ranks) → n ≡ loweredTo (e .national) (g .national) → f ≡ loweredTo (e .finra) (g .finra)
-    → o ≡ loweredTo (e .national) (g .odd) → allReach g e ≡ false → height (record { national = n; finra = f; odd = o }) < height g
-unfolding allReach loweredTo
-floors-fall g e n f o en ef eo z = rw (en, ef, eo) (go (bothReach (g .finra) (e .finra)) refl (bothReach (g .national) (e .national)) refl z)
-  where
-    go : (t : Bool) → bothReach (g .finra) (e .finra) ≡ t → (u : Bool) → bothReach (g .national) (e .national) ≡ u
-        → cond t (cond u (bothCertain (g .odd) (e .national) (e .odd)) false) false ≡ false
-        → fallen (g .national) (e .national) + fallen (g .finra) (e .finra) + fallen (g .odd) (e .national) < height g
-    go false h u k z = omega (arith, fallen-lt (g .finra) (e .finra) (not-reached (g .finra) (e .finra) h), fallen-le (g .national) (e .national), fallen-le (g .odd) (e .national))
-    go true h false k z = omega (arith, fallen-lt (g .national) (e .national) (not-reached (g .national) (e .national) k), fallen-le (g .finra) (e .finra), fallen-le (g .odd) (e .national))
-    go true h true k z =
-        omega (arith, fallen-lt (g .odd) (e .national) (not-certain (g .odd) (e .national) (e .odd) z), fallen-le (g .national) (e .national), fallen-le (g .finra) (e .finra))
+      odd : (s : Side) → ofSide s (six .odd) ≡ orNone (oddBest (levelsFor (cut l p)) (nb (cut l p) cc′) s)
+      odd Bid = odd-side p w b l lo hi Bid f ef (t .national .bid) (t .odd .bid) ob (national Bid) (ap (λ (t : Tops). t .odd .bid) et) eob
+      odd Offer = odd-side p w b l lo hi Offer f ef (t .national .offer) (t .odd .offer) oa (national Offer) (ap (λ (t : Tops). t .odd .offer) et) eoa

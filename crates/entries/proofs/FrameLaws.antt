@@ -1,4 +1,4 @@
--- Writing the entries moves no quote, maker or level; and a page with nothing in it has six entries of none.
+-- Writing the entries moves no quote, maker or level.
 -- Assumes nothing.
 use Prim.Native.Nat.{ℕ, _+_, _≤_}
 use mathlib.Core.Path.{_≡_, sym, ap, _∙_, fun-ext}
@@ -8,14 +8,14 @@ use mathlib.Core.Option.{Option}
 use native.Mathlib.Omega.{arith}
 use lib.ListN.{length}
 use Rattle.lists.specs.Lists.{range, upper}
-use Rattle.field.specs.Field.{Bytes, part, splice}
-use Rattle.field.proofs.Laws.{length-splice, part-before, part-behind, part-put, splice-part, bytes-splice}
+use Rattle.field.specs.Field.{part, splice}
+use Rattle.field.proofs.Laws.{length-splice, part-behind, part-put, splice-part}
 use Rattle.quote.specs.Quote.{noQuote, quoteIn}
 use Rattle.levels.specs.Levels.{noLevels, levelsIn}
 use Rattle.entries.specs.Entries.{Maker, entriesOf}
 use Rattle.entries.specs.Publication.{publication}
 use Rattle.entries.specs.Page.{slotAt, cellAt, quotesIn, levelsFor, makerIn, makersIn, occupied, pageEntries, refreshed}
-use Rattle.entries.proofs.PublicationLaws.{length-publication, bytes-publication}
+use Rattle.entries.proofs.PublicationLaws.{length-publication}
 
 -- ---- 96 bytes written at 12
 
@@ -45,19 +45,6 @@ module _ (p : List ℕ) where
   pub refreshed-entries : pageEntries (refreshed p) ≡ pageEntries p
   unfolding refreshed
   refreshed-entries = entries-kept p (publication (pageEntries p)) (length-publication (pageEntries p))
-
-  -- symbol and round lot, and all quotes, stay
-  pub refreshed-before : (i w : ℕ) → 12 ≤ length p → i + w ≤ 12 → part (refreshed p) i w ≡ part p i w
-  unfolding refreshed
-  refreshed-before i w l h = part-before p 12 (publication (pageEntries p)) i w l h
-
-  pub refreshed-behind : (i w : ℕ) → 108 ≤ i → part (refreshed p) i w ≡ part p i w
-  unfolding refreshed
-  refreshed-behind i w h = part-kept p (publication (pageEntries p)) (length-publication (pageEntries p)) i w h
-
-  pub refreshed-bytes : Bytes p → Bytes (refreshed p)
-  unfolding refreshed
-  refreshed-bytes b = bytes-splice p 12 (publication (pageEntries p)) b (bytes-publication (pageEntries p))
 
   pub refreshed-part : 12 ≤ length p → part (refreshed p) 12 96 ≡ publication (pageEntries p)
   unfolding refreshed

@@ -1,12 +1,11 @@
 pub mod ReadLaws
 pub mod StepLaws
 pub mod OddLaws
-pub mod NationalLaws
+pub mod CutLaws
+pub mod Cases
 pub mod EntriesLaws
 pub mod FinraLaws
 pub mod PublicationLaws
 pub mod StandingLaws
 pub mod FrameLaws
 pub mod BlankLaws
-pub mod BehindLaws
-pub mod LevelsBehindLaws

@@ -9,8 +9,9 @@ use native.Mathlib.Omega.{arith}
 use lib.Dec.{eqb, lit≤}
 use native.Mathlib.Nat.{add-zero}
 use lib.ListN.{take, drop}
-use borrow.Author.Tests.{ne-eqb, le-leb}
+use borrow.Author.Tests.{ne-eqb}
 use Rattle.lists.specs.Lists.{member, upper, mapOption}
+use Rattle.lists.proofs.Tests.{is-upper}
 use Rattle.field.specs.Field.{part, field}
 use Rattle.field.proofs.Laws.{part-part, field-part, field-part-0}
 use Rattle.ranking.specs.declared.Side.{Side}
@@ -75,13 +76,13 @@ cell-live l v = go (eqb (v .price) 0) (eqb (v .size) 0)
 -- ---- a letter A to Z
 
 module _ (p : List ℕ) (l : ℕ) (h : 65 ≤ l) (k : l < 91) where
-  is-upper : upper l ≡ true
-  is-upper = let z : l ≤ 90 = omega arith in rw (le-leb 65 l h, le-leb l 90 z)
+  letter : upper l ≡ true
+  letter = is-upper l h (omega arith)
 
   pub quotes-at : quotesIn p l ≡ quoteIn (part p (slotAt l) 41)
   unfolding quotesIn
-  quotes-at = rw is-upper
+  quotes-at = rw letter
 
   pub first-at : (s : Side) → (l ≡ 83 → ⊥) → firstAt p s l ≡ live (levelCandidate l 32 (levelIn (part p (slotAt l + 41 + inLevels s) 20)))
   unfolding firstAt letterLevels levelsFor
-  first-at s n = rw (ne-eqb l 83 n, is-upper) (ap (mapOption (levelCandidate l 32)) (first-level p (slotAt l + 41) s) ∙ cell-live l (levelIn (part p (slotAt l + 41 + inLevels s) 20)))
+  first-at s n = rw (ne-eqb l 83 n, letter) (ap (mapOption (levelCandidate l 32)) (first-level p (slotAt l + 41) s) ∙ cell-live l (levelIn (part p (slotAt l + 41 + inLevels s) 20)))

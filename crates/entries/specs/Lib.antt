@@ -1,6 +1,6 @@
 pub mod Entries
 pub mod Publication
 pub mod Page
+pub mod Cut
 pub mod Walk
 pub mod Entry
-pub mod Behind

@@ -1,21 +1,20 @@
 // A symbol's page: where its quotes stand, the six best entries that are worked out from them, and their 96 bytes.
 ghost use mathlib.Core.Path.{_≡_};
-ghost use mathlib.Core.Bool.{true, cond};
+ghost use mathlib.Core.Bool.{cond};
 ghost use mathlib.Core.List.{[], _∷_};
-ghost use Prim.Native.Nat.{_+_, _≤_, _<_};
+ghost use Prim.Native.Nat.{_+_, _-_, _≤_, _<_};
 ghost use lib.ListN.{length};
 ghost use Rattle.field.specs.Field.{part, splice, beBytes};
 ghost use Rattle.lists.specs.Lists.{member};
-ghost use Rattle.ranking.specs.Choice.{orNone, choose, reaching, noSides, stepSides, sidesFrom};
+ghost use Rattle.ranking.specs.Choice.{orNone, choose, noSides, stepSides, sidesFrom};
 ghost use Rattle.quote.specs.Quote.{levelIn, quoteIn, levelCandidate, candidateOf};
 ghost use Rattle.entries.specs.Entries.{asD};
 ghost use Rattle.entries.specs.Publication.{entryBytes, nationalName, finraName, oddName, publication, changeFlags, noEntries};
 ghost use Rattle.entries.specs.Page.{slotAt, cellAt, pageEntries, refreshed};
-ghost use Rattle.entries.specs.Walk.{inQuote, inLevels, makerAt, quotedAt, firstAt, reachingAt, noTops, stepTops, topsFrom, bothReach, certain, bothCertain, allReach, lowerOf, loweredTo, bestsOf};
-ghost use Rattle.entries.specs.Behind.{outranks, quoteBehind, levelBehind, levelsBehind};
+ghost use Rattle.entries.specs.Cut.{cut};
+ghost use Rattle.entries.specs.Walk.{inQuote, inLevels, asked, makerAt, finraSides, quotedAt, withD, nationalAt, firstAt, noTops, stepTops, topsFrom, bestsOf};
 ghost use Rattle.entries.specs.Entry.{priced, entriesIn, bytesOf, publishedBytes, holds};
 use levels::Levels;
-use quote::Level;
 use quote::Quote;
 use ranking::Candidate;
 use ranking::Side;
@@ -73,19 +72,6 @@ impl Letter {
     pub const S: usize = 83;
 
     pub const Z: usize = 90;
-}
-
-/// A rank for each side.
-pub struct Ranks {
-    pub bid: u64,
-    pub offer: u64,
-}
-
-/// The floors of a walk: a price that ranks lower is passed over, and an odd lot's that is not beyond its floor.
-pub struct Floors {
-    pub national: Ranks,
-    pub finra: Ranks,
-    pub odd: Ranks,
 }
 
 /// The best of the letters so far: their quotes and their odd-lot levels.
@@ -229,132 +215,61 @@ fn with_level(
     )
 }
 
-// The better of the best so far and a side of the quote at `at`, if that side counts.
+// The better of the best so far and a side of the quote at `at`, if that side counts. The price is looked at before the condition.
 fn with_quote(page: &[u8], at: usize, side: Side, name: u32, best: Candidate) -> Candidate
     requires { ⌜ at + 41 ≤ length (now page) ⌝ }
     ensures { λ r. ⌜ r ≡ choose side best (orNone (candidateOf side name (quoteIn (part (now (page .entry)) at 41)))) ⌝ }
 {
+    let level = at + in_quote(side);
+    if ranking::is_behind(side, field::low64(page, level), best) {
+        return best;
+    }
     let condition = field::get8(page, at);
     if quote::admits(side, condition) {
-        return with_level(page, at + in_quote(side), side, name, condition, best);
+        return with_level(page, level, side, name, condition, best);
     }
     best
 }
 
-// A side of one maker cell more, if it reaches the floor. Of the conditions of makers only R counts.
-fn with_maker_side(page: &[u8], k: usize, side: Side, floor: u64, best: Candidate) -> Candidate
+// One maker cell more, both sides. Of the conditions of makers only R counts.
+fn with_maker(page: &[u8], k: usize, best: Sides) -> Sides
     requires { ⌜ length (now page) ≡ 6054 ⌝ }
     requires { ⌜ k < 16 ⌝ }
-    ensures { λ r. ⌜ r ≡ choose side best (reaching side floor (orNone (makerAt (now (page .entry)) side k))) ⌝ }
+    ensures { λ r. ⌜ r ≡ stepSides (asked (makerAt (now (page .entry)))) k best ⌝ }
 {
     let at = cell_at(k);
     let quote = at + Cell::QUOTE;
     if field::get8(page, quote) == b'R' {
-        if ranking::rank(side, field::low64(page, quote + in_quote(side))) < floor {
-            return best;
-        }
-        return with_quote(page, quote, side, field::get32(page, at), best);
+        let name = field::get32(page, at);
+        let bid = with_quote(page, quote, Side::Bid, name, best.bid);
+        let offer = with_quote(page, quote, Side::Offer, name, best.offer);
+        return Sides { bid, offer };
     }
     best
 }
 
-// One maker cell more, both sides.
-fn with_maker(page: &[u8], k: usize, floors: Ranks, best: Sides) -> Sides
+// The best of the makers, both sides.
+fn walk_makers(page: &[u8]) -> Sides
     requires { ⌜ length (now page) ≡ 6054 ⌝ }
-    requires { ⌜ k < 16 ⌝ }
-    ensures { λ r. ⌜ r ≡ stepSides (reachingAt floors (makerAt (now (page .entry)))) k best ⌝ }
-{
-    let bid = with_maker_side(page, k, Side::Bid, floors.bid, best.bid);
-    let offer = with_maker_side(page, k, Side::Offer, floors.offer, best.offer);
-    Sides { bid, offer }
-}
-
-// The best of the makers that reach the floors, both sides.
-fn walk_makers(page: &[u8], floors: Ranks) -> Sides
-    requires { ⌜ length (now page) ≡ 6054 ⌝ }
-    ensures { λ r. ⌜ r ≡ sidesFrom (reachingAt floors (makerAt (now (page .entry)))) 0 16 noSides ⌝ }
+    ensures { λ r. ⌜ r ≡ sidesFrom (asked (makerAt (now (page .entry)))) 0 16 noSides ⌝ }
 {
     let mut best = Sides::NONE;
     for k in 0..Page::MAKERS {
-        best = with_maker(page, k, floors, best);
+        best = with_maker(page, k, best);
     }
     best
 }
 
-// A side of one letter's quote more, if it reaches the floor. What stands in the slots of D and S is no quote; the price is looked at before the letter.
-fn with_letter_side(
-    page: &[u8],
-    letter: usize,
-    side: Side,
-    floor: u64,
-    best: Candidate,
-) -> Candidate
+// The FINRA best of a walk that stops behind the letter `last`: none if D is behind it.
+fn walk_finra(page: &[u8], last: usize) -> Sides
     requires { ⌜ length (now page) ≡ 6054 ⌝ }
-    requires { ⌜ (65 ≤ letter) × (letter < 91) ⌝ }
-    ensures { λ r. ⌜ r ≡ choose side best (reaching side floor (orNone (quotedAt (now (page .entry)) side letter))) ⌝ }
+    requires { ⌜ (65 ≤ last) × (last < 91) ⌝ }
+    ensures { λ r. ⌜ r ≡ finraSides (cut last (now (page .entry))) ⌝ }
 {
-    let at = slot_at(letter);
-    if ranking::rank(side, field::low64(page, at + in_quote(side))) < floor {
-        return best;
+    if last < Letter::D {
+        return Sides::NONE;
     }
-    match letter {
-        Letter::D | Letter::S => best,
-        _ => with_quote(page, at, side, letter as u32, best),
-    }
-}
-
-// A side of one letter's odd-lot levels more, if it is beyond the floor. They are read best first, so the first one is enough.
-fn with_first(page: &[u8], letter: usize, side: Side, floor: u64, best: Candidate) -> Candidate
-    requires { ⌜ length (now page) ≡ 6054 ⌝ }
-    requires { ⌜ (65 ≤ letter) × (letter < 91) ⌝ }
-    ensures { λ r. ⌜ r ≡ choose side best (reaching side (floor + 1) (orNone (firstAt (now (page .entry)) side letter))) ⌝ }
-{
-    let at = slot_at(letter) + Slot::LEVELS + in_levels(side);
-    if ranking::rank(side, field::low64(page, at)) <= floor {
-        return best;
-    }
-    let better = with_level(page, at, side, letter as u32, b' ', best);
-    // S has no levels. Asked any earlier, this would be asked of every letter.
-    if letter == Letter::S {
-        return best;
-    }
-    better
-}
-
-// One letter more.
-fn with_letter(page: &[u8], letter: usize, floors: Floors, tops: Tops) -> Tops
-    requires { ⌜ length (now page) ≡ 6054 ⌝ }
-    requires { ⌜ (65 ≤ letter) × (letter < 91) ⌝ }
-    ensures { λ r. ⌜ r ≡ stepTops (now (page .entry)) floors letter tops ⌝ }
-{
-    let quotes = floors.national;
-    let odd = floors.odd;
-    let bid = with_letter_side(page, letter, Side::Bid, quotes.bid, tops.national.bid);
-    let offer = with_letter_side(page, letter, Side::Offer, quotes.offer, tops.national.offer);
-    let odd_bid = with_first(page, letter, Side::Bid, odd.bid, tops.odd.bid);
-    let odd_offer = with_first(page, letter, Side::Offer, odd.offer, tops.odd.offer);
-    Tops {
-        national: Sides { bid, offer },
-        odd: Sides {
-            bid: odd_bid,
-            offer: odd_offer,
-        },
-    }
-}
-
-// The best of the letters but D, of quotes that reach the floors and levels beyond them.
-fn walk_letters(page: &[u8], floors: Floors) -> Tops
-    requires { ⌜ length (now page) ≡ 6054 ⌝ }
-    ensures { λ r. ⌜ r ≡ topsFrom (now (page .entry)) floors 65 26 noTops ⌝ }
-{
-    let mut tops = Tops {
-        national: Sides::NONE,
-        odd: Sides::NONE,
-    };
-    for letter in Letter::A..Letter::Z + 1 {
-        tops = with_letter(page, letter, floors, tops);
-    }
-    tops
+    walk_makers(page)
 }
 
 // D's candidate: its FINRA best, under the letter D.
@@ -370,24 +285,63 @@ fn as_d(c: Candidate) -> Candidate
     }
 }
 
-// The six best of what reaches the floors. They are those of the page if all reach them.
-fn walk_from(page: &[u8], floors: Floors) -> BestEntries
-    requires { ⌜ length (now page) ≡ 6054 ⌝ }
-    ensures { λ r. ⌜ (allReach floors r ≡ true → r ≡ bestsOf (pageEntries (now (page .entry)))) ⌝ }
+// D more, by its FINRA best.
+fn with_d(finra: Sides, best: Sides) -> Sides
+    ensures { λ r. ⌜ r ≡ withD finra best ⌝ }
 {
-    let finra = walk_makers(page, floors.finra);
-    let tops = walk_letters(page, floors);
-    let national_bid = ranking::choose(Side::Bid, tops.national.bid, as_d(finra.bid));
-    let national_offer = ranking::choose(Side::Offer, tops.national.offer, as_d(finra.offer));
-    // The best level is beyond the national best if any level is, so one test at the end is enough.
-    let odd_bid = ranking::beyond(Side::Bid, national_bid, tops.odd.bid);
-    let odd_offer = ranking::beyond(Side::Offer, national_offer, tops.odd.offer);
-    BestEntries {
-        national: Sides {
-            bid: national_bid,
-            offer: national_offer,
-        },
-        finra,
+    let bid = ranking::choose(Side::Bid, best.bid, as_d(finra.bid));
+    let offer = ranking::choose(Side::Offer, best.offer, as_d(finra.offer));
+    Sides { bid, offer }
+}
+
+// The quote in a letter's slot more, both sides.
+fn with_slot(page: &[u8], letter: usize, best: Sides) -> Sides
+    requires { ⌜ length (now page) ≡ 6054 ⌝ }
+    requires { ⌜ (65 ≤ letter) × (letter < 91) ⌝ }
+    ensures { λ r. ⌜ r ≡ stepSides (asked (quotedAt (now (page .entry)))) letter best ⌝ }
+{
+    let at = slot_at(letter);
+    let bid = with_quote(page, at, Side::Bid, letter as u32, best.bid);
+    let offer = with_quote(page, at, Side::Offer, letter as u32, best.offer);
+    Sides { bid, offer }
+}
+
+// One national candidate more: D stands with its FINRA best, any letter but D and S with its quote.
+fn with_national(page: &[u8], letter: usize, finra: Sides, best: Sides) -> Sides
+    requires { ⌜ length (now page) ≡ 6054 ⌝ }
+    requires { ⌜ ((65 ≤ letter) × (letter < 91)) × (letter ≡ 83 → ⊥) ⌝ }
+    ensures { λ r. ⌜ r ≡ stepSides (asked (nationalAt (now (page .entry)) finra)) letter best ⌝ }
+{
+    if letter == Letter::D {
+        return with_d(finra, best);
+    }
+    with_slot(page, letter, best)
+}
+
+// A side of one letter's odd-lot levels more. They are read best first, so the first one is enough.
+fn with_first(page: &[u8], letter: usize, side: Side, best: Candidate) -> Candidate
+    requires { ⌜ length (now page) ≡ 6054 ⌝ }
+    requires { ⌜ ((65 ≤ letter) × (letter < 91)) × (letter ≡ 83 → ⊥) ⌝ }
+    ensures { λ r. ⌜ r ≡ choose side best (orNone (firstAt (now (page .entry)) side letter)) ⌝ }
+{
+    let at = slot_at(letter) + Slot::LEVELS + in_levels(side);
+    with_level(page, at, side, letter as u32, b' ', best)
+}
+
+// One letter more: its quote and its levels, both sides. S, the processor, has neither.
+fn with_letter(page: &[u8], letter: usize, finra: Sides, tops: Tops) -> Tops
+    requires { ⌜ length (now page) ≡ 6054 ⌝ }
+    requires { ⌜ (65 ≤ letter) × (letter < 91) ⌝ }
+    ensures { λ r. ⌜ r ≡ stepTops (now (page .entry)) finra letter tops ⌝ }
+{
+    if letter == Letter::S {
+        return tops;
+    }
+    let national = with_national(page, letter, finra, tops.national);
+    let odd_bid = with_first(page, letter, Side::Bid, tops.odd.bid);
+    let odd_offer = with_first(page, letter, Side::Offer, tops.odd.offer);
+    Tops {
+        national,
         odd: Sides {
             bid: odd_bid,
             offer: odd_offer,
@@ -395,121 +349,42 @@ fn walk_from(page: &[u8], floors: Floors) -> BestEntries
     }
 }
 
-// Whether both sides reach their floors.
-fn reach(floors: Ranks, best: Sides) -> bool
-    ensures { λ r. ⌜ r ≡ bothReach floors best ⌝ }
-{
-    if ranking::rank(Side::Bid, best.bid.price) < floors.bid {
-        return false;
-    }
-    if ranking::rank(Side::Offer, best.offer.price) < floors.offer {
-        return false;
-    }
-    true
-}
-
-// Whether an odd lot was found, or none that is beyond the national best was passed over.
-fn is_certain(side: Side, floor: u64, national: Candidate, odd: Candidate) -> bool
-    ensures { λ r. ⌜ r ≡ certain side floor national odd ⌝ }
-{
-    if odd.price == 0 {
-        return floor <= ranking::rank(side, national.price);
-    }
-    true
-}
-
-fn are_certain(floors: Ranks, national: Sides, odd: Sides) -> bool
-    ensures { λ r. ⌜ r ≡ bothCertain floors national odd ⌝ }
-{
-    if is_certain(Side::Bid, floors.bid, national.bid, odd.bid) {
-        return is_certain(Side::Offer, floors.offer, national.offer, odd.offer);
-    }
-    false
-}
-
-fn all_reach(floors: Floors, best: BestEntries) -> bool
-    ensures { λ r. ⌜ r ≡ allReach floors best ⌝ }
-{
-    if reach(floors.finra, best.finra) {
-        if reach(floors.national, best.national) {
-            return are_certain(floors.odd, best.national, best.odd);
-        }
-    }
-    false
-}
-
-fn lower(floor: u64, rank: u64) -> u64
-    ensures { λ r. ⌜ r ≡ lowerOf floor rank ⌝ }
-{
-    if rank < floor {
-        return rank;
-    }
-    floor
-}
-
-// The floors, those that are not reached lowered to what was found.
-fn lowered(floors: Ranks, best: Sides) -> Ranks
-    ensures { λ r. ⌜ r ≡ loweredTo best floors ⌝ }
-{
-    let bid = lower(floors.bid, ranking::rank(Side::Bid, best.bid.price));
-    let offer = lower(floors.offer, ranking::rank(Side::Offer, best.offer.price));
-    Ranks { bid, offer }
-}
-
-// The ranks of the two entries that stand in the page at `at`: a guess at what the best will reach.
-fn standing_ranks(page: &[u8], at: usize) -> Ranks
-    requires { ⌜ at + 32 ≤ length (now page) ⌝ }
-{
-    let bid = ranking::rank(Side::Bid, field::get64(page, at + Entry::PRICE));
-    let offer = ranking::rank(
-        Side::Offer,
-        field::get64(page, at + Entry::LEN + Entry::PRICE),
-    );
-    Ranks { bid, offer }
-}
-
-// A guess at what the best odd lot will be beyond: at least what stands, if that is beyond the national best.
-fn odd_floor(national: u64, standing: u64) -> u64 {
-    if standing <= national {
-        return national;
-    }
-    standing - 1
-}
-
-fn odd_floors(national: Ranks, standing: Ranks) -> Ranks {
-    let bid = odd_floor(national.bid, standing.bid);
-    let offer = odd_floor(national.offer, standing.offer);
-    Ranks { bid, offer }
-}
-
-/// The six best entries of a page. A message rarely makes a best price worse, so the prices of the entries that stand are tried as floors first:
-/// almost every price is then passed over by one comparison. If they are not reached, lower ones are tried.
-pub fn walk_page(page: &[u8]) -> BestEntries
+// The best of the letters A to `last`, in order.
+fn walk_letters(page: &[u8], last: usize, finra: Sides) -> Tops
     requires { ⌜ length (now page) ≡ 6054 ⌝ }
-    ensures { λ r. ⌜ r ≡ bestsOf (pageEntries (now (page .entry))) ⌝ }
+    requires { ⌜ (65 ≤ last) × (last < 91) ⌝ }
+    ensures { λ r. ⌜ r ≡ topsFrom (now (page .entry)) finra 65 (last - 64) noTops ⌝ }
 {
-    let national = standing_ranks(page, Page::ENTRIES);
-    let finra = standing_ranks(page, Page::ENTRIES + 2 * Entry::LEN);
-    let standing = standing_ranks(page, Page::ENTRIES + 4 * Entry::LEN);
-    let odd = odd_floors(national, standing);
-    let mut floors = Floors {
+    let mut tops = Tops {
+        national: Sides::NONE,
+        odd: Sides::NONE,
+    };
+    for letter in Letter::A..last + 1 {
+        tops = with_letter(page, letter, finra, tops);
+    }
+    tops
+}
+
+/// The six best entries of a page whose letters behind `last` are taken to hold nothing, on one way down it: letters in order, both sides together.
+/// Behind Z stands no letter, so that is the whole page.
+pub fn walk_page(page: &[u8], last: usize) -> BestEntries
+    requires { ⌜ length (now page) ≡ 6054 ⌝ }
+    requires { ⌜ (65 ≤ last) × (last < 91) ⌝ }
+    ensures { λ r. ⌜ r ≡ bestsOf (pageEntries (cut last (now (page .entry)))) ⌝ }
+{
+    let finra = walk_finra(page, last);
+    let tops = walk_letters(page, last, finra);
+    let national = tops.national;
+    // The best level is beyond the national best if any level is, so one test at the end is enough.
+    let odd_bid = ranking::beyond(Side::Bid, tops.national.bid, tops.odd.bid);
+    let odd_offer = ranking::beyond(Side::Offer, tops.national.offer, tops.odd.offer);
+    BestEntries {
         national,
         finra,
-        odd,
-    };
-    loop {
-        let best = walk_from(page, floors);
-        if all_reach(floors, best) {
-            return best;
-        }
-        let national = lowered(floors.national, best.national);
-        let finra = lowered(floors.finra, best.finra);
-        let odd = lowered(floors.odd, best.national);
-        floors = Floors {
-            national,
-            finra,
-            odd,
-        };
+        odd: Sides {
+            bid: odd_bid,
+            offer: odd_offer,
+        },
     }
 }
 
@@ -624,86 +499,12 @@ fn put_entries(page: &mut [u8], p: Published)
     put_entry(page, Page::ENTRIES + 5 * Entry::LEN, p.odd.offer);
 }
 
-// Whether the entry at `at` is another letter's, and goes before a level of this one by price or, at the same price, by size.
-fn outranks(page: &[u8], at: usize, side: Side, letter: u8, level: Level) -> bool
-    requires { ⌜ at + 16 ≤ length (now page) ⌝ }
-    ensures { λ r. ⌜ r ≡ outranks side (now (page .entry)) at letter level ⌝ }
-{
-    if field::get8(page, at) == letter {
-        return false;
-    }
-    let standing = ranking::rank(side, field::get64(page, at + Entry::PRICE));
-    let rank = ranking::rank(side, level.price);
-    if rank == standing {
-        return level.size < field::get32(page, at + Entry::SIZE);
-    }
-    rank < standing
-}
-
-/// Whether a letter's new quote is behind both national entries, as most are. In a page that keeps its entries it then changes none.
-pub fn is_quote_behind(page: &[u8], letter: u8, quote: Quote) -> bool
-    requires { ⌜ length (now page) ≡ 6054 ⌝ }
-    ensures { λ r. ⌜ r ≡ quoteBehind letter quote (now (page .entry)) ⌝ }
-{
-    if outranks(page, Page::ENTRIES, Side::Bid, letter, quote.bid) {
-        return outranks(
-            page,
-            Page::ENTRIES + Entry::LEN,
-            Side::Offer,
-            letter,
-            quote.offer,
-        );
-    }
-    false
-}
-
-// Whether a letter's first level is behind what stands: the odd entry at `odd` is another letter's, and the level is behind it or not beyond the
-// national entry at `at`.
-fn is_level_behind(page: &[u8], at: usize, odd: usize, side: Side, letter: u8, level: Level) -> bool
-    requires { ⌜ (at + 16 ≤ length (now page)) × (odd + 16 ≤ length (now page)) ⌝ }
-    ensures { λ r. ⌜ r ≡ levelBehind side (now (page .entry)) at odd letter level ⌝ }
-{
-    if field::get8(page, odd) == letter {
-        return false;
-    }
-    let national = ranking::rank(side, field::get64(page, at + Entry::PRICE));
-    let rank = ranking::rank(side, level.price);
-    if national < rank {
-        return outranks(page, odd, side, letter, level);
-    }
-    true
-}
-
-/// Whether the first levels that stand in a letter's slot are behind the entries. In a page that keeps its entries they then change none.
-pub fn are_levels_behind(page: &[u8], letter: u8) -> bool
-    requires { ⌜ length (now page) ≡ 6054 ⌝ }
-    requires { ⌜ (65 ≤ letter) × (letter < 91) ⌝ }
-    ensures { λ r. ⌜ r ≡ levelsBehind letter (now (page .entry)) ⌝ }
-{
-    let at = slot_at(letter as usize) + Slot::LEVELS;
-    let national = Page::ENTRIES;
-    let odd = Page::ENTRIES + 4 * Entry::LEN;
-    let bid = Level::get(page, at);
-    if is_level_behind(page, national, odd, Side::Bid, letter, bid) {
-        let offer = Level::get(page, at + Levels::LEN);
-        return is_level_behind(
-            page,
-            national + Entry::LEN,
-            odd + Entry::LEN,
-            Side::Offer,
-            letter,
-            offer,
-        );
-    }
-    false
-}
-
 /// Works out a page's six entries from its quotes, writes them, and gives the flags of those that changed.
 pub fn renew(page: &mut [u8]) -> u8
     requires { ⌜ length (now page) ≡ 6054 ⌝ }
     ensures { λ r. ⌜ (r ≡ changeFlags (part (now (page .entry)) 12 96) (publication (pageEntries (now (page .entry))))) × (now (page .exit) ≡ refreshed (now (page .entry))) ⌝ }
 {
-    let published = to_publish(walk_page(page));
+    let published = to_publish(walk_page(page, Letter::Z));
     let changed = flags(page, published);
     if changed == 0 {
         return 0; // they stand already

@@ -1,15 +1,15 @@
 -- A blank page and an emptied one: a symbol with no quotes, no makers, no levels and six entries of none.
 -- Assumes nothing.
-use Prim.Native.Nat.{ℕ, zero, suc, _+_, _-_, _≤_}
+use Prim.Native.Nat.{ℕ, _+_, _-_, _≤_}
 use mathlib.Core.Path.{_≡_, refl, sym, ap, _∙_}
-use mathlib.Core.List.{List, _∷_, _++_}
+use mathlib.Core.List.{List, _++_}
 use mathlib.Core.Option.{none}
 use native.Mathlib.Omega.{arith}
-use lib.Dec.{lit<}
-use lib.ListN.{length, getD, take, drop, replicate, length-append, length-replicate, length-drop}
-use lib.Seq.{take-append-le, drop-append-le, drop-append-add, drop-at, getD-drop, take-length}
+use lib.ListN.{length, take, drop, replicate, length-append, length-replicate, length-drop}
+use lib.Seq.{take-append-le, drop-append-le, drop-append-add, take-length}
 use Rattle.field.specs.Field.{Bytes, be, part, field}
 use Rattle.field.proofs.Laws.{length-part, bytes-append, bytes-part, part-part, field-part-0, field-part}
+use Rattle.field.proofs.ZeroLaws.{part-zeros, bytes-zeros}
 use Rattle.lists.specs.Lists.{every}
 use Rattle.quote.specs.Quote.{noQuote}
 use Rattle.levels.specs.Levels.{noLevels}
@@ -21,7 +21,7 @@ use Rattle.page.specs.Page.{readingOf, blankPage, emptied}
 use Rattle.page.proofs.Model.{worked, blankReading, blanked}
 use Rattle.page.proofs.EntryLaws.{bytes-every, Kept}
 
--- ---- parts of lists end to end, and of zeros
+-- ---- parts of lists end to end
 
 pub part-front : (a x : List ℕ) (i w : ℕ) → i + w ≤ length a → part (a ++ x) i w ≡ part a i w
 unfolding part
@@ -36,30 +36,6 @@ part-after a x n i w e = ap (take w) (rw (sym e) (drop-append-add a x i))
 pub part-whole : (a : List ℕ) (n : ℕ) → length a ≡ n → part a 0 n ≡ a
 unfolding part
 part-whole a n e = rw (sym e) (take-length a)
-
-drop-zeros : (i n : ℕ) → drop {A = ℕ} i (replicate n 0) ≡ replicate (n - i) 0
-drop-zeros zero n = let e : n ≡ n - 0 = omega arith in ap (λ (k : ℕ). replicate {A = ℕ} k 0) e
-drop-zeros (suc i) zero = let e : 0 ≡ 0 - suc i = omega arith in ap (λ (k : ℕ). replicate {A = ℕ} k 0) e
-drop-zeros (suc i) (suc n) = drop-zeros i n ∙ (let e : n - i ≡ suc n - suc i = omega arith in ap (λ (k : ℕ). replicate {A = ℕ} k 0) e)
-
-take-zeros : (w n : ℕ) → w ≤ n → take {A = ℕ} w (replicate n 0) ≡ replicate w 0
-take-zeros zero n h = refl
-take-zeros (suc w) zero h = absurd (omega arith)
-take-zeros (suc w) (suc n) h = ap (λ (z : List ℕ). 0 ∷ z) (take-zeros w n (omega arith))
-
-pub part-zeros : (n i w : ℕ) → i + w ≤ n → part (replicate n 0) i w ≡ replicate w 0
-unfolding part
-part-zeros n i w h = ap (take w) (drop-zeros i n) ∙ take-zeros w (n - i) (omega arith)
-
-getD-zeros : (n i : ℕ) → _≡_ {A = ℕ} (getD (replicate n 0) i 0) 0
-getD-zeros zero i = refl
-getD-zeros (suc n) zero = refl
-getD-zeros (suc n) (suc i) = getD-zeros n i
-
-pub bytes-zeros : (n : ℕ) → Bytes (replicate n 0)
-bytes-zeros zero i = lit< tt
-bytes-zeros (suc n) zero = lit< tt
-bytes-zeros (suc n) (suc i) = bytes-zeros n i
 
 -- ---- six entries of none
 
@@ -81,15 +57,11 @@ module _ (head : List ℕ) (twelve : length head ≡ 12) (n : ℕ) (rest : n ≡
   abbrev page : List ℕ
   page = head ++ (noEntries ++ replicate n 0)
 
-  zeros : drop 108 page ≡ replicate n 0
-  zeros =
-      ap (λ (k : ℕ). drop (k + 96) page) (sym twelve) ∙ drop-append-add head (noEntries ++ replicate n 0) 96
-      ∙ drop-at noEntries (replicate n 0) 96 length-none
-
-  zero-at : (i : ℕ) → 108 ≤ i → getD page i 0 ≡ 0
-  zero-at i h =
-      let e : 108 + (i - 108) ≡ i = omega arith in
-      ap (λ (k : ℕ). getD page k 0) (sym e) ∙ sym (getD-drop 108 page (i - 108) 0) ∙ ap (λ (l : List ℕ). getD l (i - 108) 0) zeros ∙ getD-zeros n (i - 108)
+  zero-at : (at w : ℕ) → 108 ≤ at → at + w ≤ 6054 → part page at w ≡ replicate w 0
+  zero-at at w h k =
+      let e : at ≡ 12 + (96 + (at - 108)) = omega arith in
+      ap (λ (i : ℕ). part page i w) e ∙ part-after head (noEntries ++ replicate n 0) 12 (96 + (at - 108)) w twelve
+      ∙ part-after noEntries (replicate n 0) 96 (at - 108) w length-none ∙ part-zeros n (at - 108) w (omega arith)
 
   entries-at : part page 12 96 ≡ noEntries
   entries-at =

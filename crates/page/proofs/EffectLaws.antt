@@ -9,10 +9,10 @@ use lib.Dec.{eqb}
 use lib.ListN.{length}
 use borrow.Author.Tests.{eq-eqb, ne-eqb}
 use Rattle.field.specs.Field.{part, field, splice}
-use Rattle.field.proofs.Laws.{part-put, part-before, length-part, length-splice}
+use Rattle.field.proofs.Laws.{part-before, length-part, length-splice}
 use Rattle.lists.specs.Lists.{upper, orElse}
 use Rattle.lists.specs.declared.Found.the-variants.{At, Nothing}
-use Rattle.lists.proofs.Tests.{Cut, equal, apart, cut}
+use Rattle.lists.proofs.Tests.{Cut, equal, apart, cut, upper-low}
 use Rattle.quote.specs.declared.Quote.{Quote}
 use Rattle.quote.specs.Quote.{emptyQuote, quoteBytes}
 use Rattle.levels.specs.Levels.{Standing, Odd, oddOn, idleOdd, oddIn, levelsIn}
@@ -23,21 +23,16 @@ use Rattle.levels.specs.declared.Judged.{Judged}
 use Rattle.levels.specs.declared.Judged.the-variants.{Pass, Refused}
 use Rattle.levels.proofs.AnswerLaws.{answer-pass, refused-nothing, refused-code, odd-idle, idle-in, write-both}
 use Rattle.entries.specs.Publication.{publication, changeFlags}
-use Rattle.entries.proofs.PublicationLaws.{length-publication}
+use Rattle.entries.proofs.FrameLaws.{refreshed-part}
 use Rattle.entries.specs.Page.{slotAt, cellAt, levelsFor, pageEntries, refreshed}
 use Rattle.message.specs.Message.{makerCode}
 use Rattle.page.specs.Page.{readingOf, knownBy, putRound, roundOn, putLevels, putOdd, oddOnPage, putMaker, makerOn, makerPlace, freePlace, cellFor, finraOn, markCell, markCells}
 use Rattle.page.specs.Update.{Updated, rejected, flagged, oddCodeOn, oddTaken, roundLotOn, oddLotOn, makerQuoteOn}
-use Rattle.page.proofs.EntryLaws.{upper-low, kept-lot}
+use Rattle.page.proofs.EntryLaws.{kept-lot}
 use Rattle.page.proofs.CellLaws.{mark-length}
 use Rattle.page.proofs.MakerLaws.{maker-hit, free-hit, maker-code}
 use Rattle.page.proofs.SlotLaws.{levels-here, put-round-levels, put-round-kept, round-stands, odd-stands}
 use Rattle.page.proofs.RefreshLaws.{one-refresh}
-
--- the entries that stand after a refresh are those worked out
-pub refreshed-entries : (p : List ℕ) → length p ≡ 6054 → part (refreshed p) 12 96 ≡ publication (pageEntries p)
-unfolding refreshed
-refreshed-entries p w = part-put p 12 (publication (pageEntries p)) 96 (length-publication (pageEntries p)) (omega arith)
 
 -- a write behind the entries leaves them
 pub entries-stand : (p : List ℕ) (a : ℕ) (new : List ℕ) → length p ≡ 6054 → 108 ≤ a → a ≤ 6054 → part (splice p a new) 12 96 ≡ part p 12 96
@@ -52,7 +47,7 @@ flagged-from code p p′ q e = rw e
 pub renewed-is : (code : ℕ) (p q : List ℕ) (r : ℕ) → length p ≡ 6054 → r ≡ changeFlags (part p 12 96) (publication (pageEntries p)) → q ≡ refreshed p
     → _≡_ {A = Updated} (record { code = code; flags = r; page = q }) (flagged code p (refreshed p))
 unfolding flagged
-renewed-is code p q r w e f = rw (refreshed-entries p w, ← e, ← f)
+renewed-is code p q r w e f = rw (refreshed-part p (omega arith), ← e, ← f)
 
 -- ---- Q K and Q M
 
@@ -197,6 +192,6 @@ pub finra-is : (c : ℕ) (p p′ q : List ℕ) (r : ℕ) → length p ≡ 6054 �
     → (r ≡ changeFlags (part p 12 96) (part (finraOn c p) 12 96)) × (q ≡ finraOn c p)
 unfolding finraOn
 finra-is c p p′ q r w d n e f = (
-  e ∙ ap₂ changeFlags (ap (λ (z : List ℕ). part z 12 96) d ∙ marks-stand c 0 16 p w (omega arith)) (sym (refreshed-entries p′ n) ∙ ap (λ (z : List ℕ). part (refreshed z) 12 96) d),
+  e ∙ ap₂ changeFlags (ap (λ (z : List ℕ). part z 12 96) d ∙ marks-stand c 0 16 p w (omega arith)) (sym (refreshed-part p′ (omega arith)) ∙ ap (λ (z : List ℕ). part (refreshed z) 12 96) d),
   f ∙ ap refreshed d,
 )

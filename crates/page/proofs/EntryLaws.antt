@@ -6,12 +6,13 @@ use mathlib.Core.Bool.{Bool, true, false, cond}
 use mathlib.Core.List.{List, [], _∷_}
 use mathlib.Core.Option.{Option}
 use native.Mathlib.Omega.{arith}
-use lib.Dec.{leb, ltb, lit<}
+use lib.Dec.{ltb, lit<}
 use lib.ListN.{length}
-use borrow.Author.Tests.{leb-true, ltb-true}
+use borrow.Author.Tests.{ltb-true}
 use Rattle.field.specs.Field.{Bytes, be, part, field, splice}
 use Rattle.field.proofs.Laws.{bytes-splice, length-splice, part-put, part-before, field-before}
 use Rattle.lists.specs.Lists.{upper, every}
+use Rattle.lists.proofs.Ranges.{map-range}
 use Rattle.lists.proofs.Tests.{and-true}
 use Rattle.quote.specs.declared.Quote.{Quote}
 use Rattle.quote.specs.Quote.{noQuote, quoteIn}
@@ -23,10 +24,6 @@ use Rattle.entries.proofs.PublicationLaws.{length-publication, bytes-publicatio
 use Rattle.entries.proofs.FrameLaws.{quotes-kept, makers-kept, levels-kept}
 use Rattle.page.specs.Page.{Reading, readingOf}
 use Rattle.page.proofs.Model.{worked}
-use Rattle.page.proofs.TableLaws.{map-range}
-
-pub upper-low : (l : ℕ) → upper l ≡ true → (65 ≤ l) × (l ≤ 90)
-upper-low l e = let b = and-true (leb 65 l) (leb l 90) e in (leb-true 65 l (b .0), leb-true l 90 (b .1))
 
 -- a list of bytes, by a test that computes
 pub bytes-every : (l : List ℕ) → every (λ x. ltb x 256) l ≡ true → Bytes l

@@ -11,10 +11,11 @@ use lib.ListN.{length}
 use Rattle.field.specs.Field.{Bytes, part, splice}
 use Rattle.field.proofs.Laws.{bytes-part, bytes-splice, part-before}
 use Rattle.lists.specs.Lists.{range, isSome, mapOption}
+use Rattle.lists.proofs.Ranges.{map-range}
 use Rattle.lists.specs.declared.Found.{Found}
 use Rattle.lists.specs.declared.Found.the-variants.{At, Nothing}
 use Rattle.lists.proofs.Searches.{Hit, first-hit}
-use Rattle.lists.proofs.Tests.{clash}
+use Rattle.lists.proofs.Tests.{clash, upper-low}
 use Rattle.quote.specs.declared.Quote.{Quote}
 use Rattle.quote.specs.Quote.{emptyQuote, QuoteFits}
 use Rattle.message.specs.Message.{makerCode}
@@ -22,10 +23,10 @@ use Rattle.entries.specs.Entries.{Maker}
 use Rattle.entries.specs.Page.{slotAt, cellAt, quotesIn, levelsFor, makerIn, makersIn, occupied, refreshed}
 use Rattle.page.specs.Page.{readingOf, named, findMaker, cellOf, makerPlace, freePlace, cellFor, putAt, putMakerBy, putMaker, makerOn, markCell, markCells, finraOn, knownBy}
 use Rattle.page.proofs.Model.{setAt, asMaker, standing, rewrite, allocate, makerPut, marked, markAll, makerReading, finraReading}
-use Rattle.page.proofs.TableLaws.{cell-same, cell-other, length-cell, eachCell, Each, each-cell, map-range, map-set, map-map-range}
+use Rattle.page.proofs.TableLaws.{cell-same, cell-other, length-cell, eachCell, Each, each-cell, map-set, map-map-range}
 use Rattle.page.proofs.SearchLaws.{foundBy, isAt, find-place, rewrite-place, allocate-place, room-place}
 use Rattle.page.proofs.CellLaws.{Stands, length-for, bytes-for, cell-for, mark-length, mark-bytes, mark-cell}
-use Rattle.page.proofs.EntryLaws.{upper-low, quotes-same, levels-same, Kept, kept-none, kept-then, kept-splice, refreshed-kept, reads-by}
+use Rattle.page.proofs.EntryLaws.{quotes-same, levels-same, Kept, kept-none, kept-then, kept-splice, refreshed-kept, reads-by}
 
 -- ---- the searches
 

@@ -10,6 +10,7 @@ use lib.Seq.{take-append-add, drop-append-add, take-append-le, take-take, take-a
 use Rattle.field.specs.Field.{splice}
 use Rattle.field.proofs.Laws.{length-splice}
 use Rattle.lists.specs.Lists.{upper}
+use Rattle.lists.proofs.Tests.{upper-low}
 use Rattle.levels.specs.Levels.{Standing, Odd, idleOdd, levelsBytes}
 use Rattle.levels.proofs.SideLaws.{length-levels}
 use Rattle.entries.specs.Entries.{Entries}
@@ -18,7 +19,6 @@ use Rattle.entries.specs.Page.{slotAt, levelsFor, pageEntries, refreshed}
 use Rattle.page.specs.Page.{putLevels, putOdd}
 use Rattle.entries.proofs.PublicationLaws.{length-publication}
 use Rattle.entries.proofs.FrameLaws.{levels-kept, entries-kept, refreshed-twice}
-use Rattle.page.proofs.EntryLaws.{upper-low}
 use Rattle.page.proofs.SlotLaws.{afterOdd}
 
 -- ---- two writes

@@ -11,6 +11,7 @@ use lib.Dec.{eqb, ltb}
 use lib.ListN.{length}
 use borrow.Author.Tests.{eq-eqb, ne-eqb, lt-ltb, le-ltb, ltb-true, ltb-false}
 use Rattle.lists.specs.Lists.{range, firstFrom, isSome}
+use Rattle.lists.proofs.Ranges.{map-range}
 use Rattle.lists.specs.declared.Found.{Found}
 use Rattle.lists.specs.declared.Found.the-variants.{At, Nothing}
 use Rattle.lists.proofs.Searches.{Hit, first-hit}
@@ -19,7 +20,7 @@ use Rattle.entries.specs.Entries.{Maker}
 use Rattle.entries.specs.Page.{occupied}
 use Rattle.page.specs.Page.{Reading, named, findMaker}
 use Rattle.page.proofs.Model.{setAt, rewrite, allocate, onReading}
-use Rattle.page.proofs.TableLaws.{map-range, length-range}
+use Rattle.page.proofs.TableLaws.{length-range}
 
 -- what follows from a place that was found, or from none
 abbrev pub foundBy : {B : Type 0} → (ℕ → B) → B → Found → B

@@ -11,7 +11,7 @@ use borrow.Author.Tests.{ltb-true, ltb-false}
 use Rattle.field.specs.Field.{Bytes, part, field, splice}
 use Rattle.field.proofs.Laws.{length-part, bytes-part, part-put, part-before, part-behind}
 use Rattle.lists.specs.Lists.{upper, orElse}
-use Rattle.lists.proofs.Tests.{clash, Cut, equal, apart, cut}
+use Rattle.lists.proofs.Tests.{clash, Cut, equal, apart, cut, upper-low}
 use Rattle.quote.specs.declared.Quote.{Quote}
 use Rattle.quote.specs.Quote.{noQuote, quoteIn, quoteBytes, QuoteFits}
 use Rattle.quote.proofs.QuoteLaws.{length-quote, quote-back, bytes-quote}
@@ -22,7 +22,7 @@ use Rattle.levels.proofs.SideLaws.{length-levels, bytes-levels, levels-back, le
 use Rattle.entries.specs.Page.{slotAt, cellAt, quotesIn, levelsFor, makersIn, refreshed}
 use Rattle.page.specs.Page.{readingOf, putRound, roundOn, putLevels, putOdd, oddOnPage}
 use Rattle.page.proofs.Model.{setAt, worked, roundReading, oddReading}
-use Rattle.page.proofs.EntryLaws.{upper-low, makers-same, Kept, kept-none, kept-then, kept-splice, refreshed-kept, reads-by}
+use Rattle.page.proofs.EntryLaws.{makers-same, Kept, kept-none, kept-then, kept-splice, refreshed-kept, reads-by}
 
 -- ---- a write in a letter's slot
 

@@ -14,6 +14,7 @@ use borrow.Author.Tests.{ltb-true, ltb-false}
 use Rattle.field.specs.Field.{part, splice}
 use Rattle.field.proofs.Laws.{length-part, length-splice, part-put, part-before, part-behind}
 use Rattle.lists.specs.Lists.{range}
+use Rattle.lists.proofs.Ranges.{map-range}
 use Rattle.lists.proofs.Tests.{Cut, equal, apart, cut}
 use Rattle.page.proofs.Model.{setAt}
 
@@ -93,14 +94,6 @@ module _ (base w n : ℕ) (f : List ℕ → List ℕ) (keeps : (c : List ℕ) �
       }
 
 -- ---- readings of a range
-
-module _ {A : Type 0} (f g : ℕ → A) where
-  pub map-range : (n k : ℕ) → ((j : ℕ) → k ≤ j → j < k + n → g j ≡ f j) → map g (range n k) ≡ map f (range n k)
-  map-range zero k q = refl
-  map-range (suc n) k q =
-      let x : g k ≡ f k = q k (omega arith) (omega arith) in
-      let y : map g (range n (suc k)) ≡ map f (range n (suc k)) = map-range n (suc k) (λ j l h. q j (omega arith) (omega arith)) in
-      λ i. x i ∷ y i
 
 -- readings that differ at k alone
 pub map-set : {A : Type 0} (f g : ℕ → A) (n k : ℕ) (a : A) → g k ≡ a → ((j : ℕ) → j < n → (k ≡ j → ⊥) → g j ≡ f j) → map g (range n 0) ≡ map (setAt k a f) (range n 0)

@@ -133,6 +133,28 @@ pub beyond-by : (s : Side) (nat x : Candidate) (t : Bool) → t ≡ ltb (rankOf 
 unfolding beyondOf
 beyond-by s nat x t e v q = rw (← e, q)
 
+-- ---- a loop that stops early
+
+module _ (s : Side) where
+  -- none changes nothing
+  best-quiet : (c : ℕ → Candidate) (i k : ℕ) (b : Candidate) → ((j : ℕ) → i ≤ j → j < i + k → c j ≡ noCandidate) → bestFrom s c i k b ≡ b
+  unfolding bestFrom
+  best-quiet c i zero b q = refl
+  best-quiet c i (suc k) b q =
+      let x : c i ≡ noCandidate = q i (omega arith) (omega arith) in
+      ap (bestFrom s c (i + 1) k) (ap (choose s b) x ∙ sym (choose-none s b)) ∙ best-quiet c (i + 1) k b (λ j l h. q j (omega arith) (omega arith))
+
+  -- the first m of c are those of d, and the others of the n of d are none
+  pub best-stops : (c d : ℕ → Candidate) (i m n : ℕ) (b : Candidate) → m ≤ n → ((j : ℕ) → i ≤ j → j < i + m → c j ≡ d j)
+      → ((j : ℕ) → i + m ≤ j → j < i + n → d j ≡ noCandidate) → bestFrom s c i m b ≡ bestFrom s d i n b
+  unfolding bestFrom
+  best-stops c d i zero n b h e q = sym (best-quiet d i n b (λ j l k. q j (omega arith) k))
+  best-stops c d i (suc m) zero b h e q = absurd (omega arith)
+  best-stops c d i (suc m) (suc n) b h e q =
+      let x : c i ≡ d i = e i (omega arith) (omega arith) in
+      ap (bestFrom s c (i + 1) m) (ap (choose s b) x)
+      ∙ best-stops c d (i + 1) m n (choose s b (d i)) (omega arith) (λ j l k. e j (omega arith) (omega arith)) (λ j l k. q j (omega arith) (omega arith))
+
 -- ---- loops over both sides: what remains gives what the whole gives
 
 module _ (c : Side → ℕ → Candidate) (n : ℕ) where

@@ -50,10 +50,6 @@ bestFrom s c i (suc k) b = bestFrom s c (i + 1) k (choose s b (c i))
 unfoldable pub beyondOf : Side → Candidate → Candidate → Candidate
 beyondOf s nat x = cond (ltb (rankOf s (nat .price)) (rankOf s (x .price))) x noCandidate
 
--- x, if its price ranks no lower than a floor
-unfoldable pub reaching : Side → ℕ → Candidate → Candidate
-reaching s g x = cond (ltb (rankOf s (x .price)) g) noCandidate x
-
 -- ---- both sides
 
 abbrev pub ofSide : Side → Sides → Candidate

@@ -1,7 +1,13 @@
 -- `entries::renew` meets its contract.
+use Prim.Native.Nat.{ℕ}
+use mathlib.Core.Path.{ap, _∙_}
+use mathlib.Core.List.{List}
 use borrow.Author.Needs.{needs}
 use denote.Ref.{now}
 use Rattle.field.specs.Field.{Bytes}
+use Rattle.entries.specs.Page.{pageEntries}
+use Rattle.entries.specs.Walk.{bestsOf}
+use Rattle.entries.proofs.CutLaws.{cut-whole}
 use Rattle.entries.proofs.PublicationLaws.{renewed}
 use Rattle.entries.proofs.StandingLaws.{renewed-none}
 use Rattle.entries.proofs.renew.Statement.{statement}
@@ -15,13 +21,13 @@ returns c =
     let q = c .before in
     let w = q .before .before .before in
     let k = w .before .before in
-    renewed-none _ (k .before .pre) (bytes k) _ _ (w .walk-page .ensures) (q .before .before .to-publish .ensures) _ (q .flags .ensures) (c .if1 .taken)
+    renewed-none _ (k .before .pre) (bytes k) _ _ (w .walk-page .ensures ∙ ap (λ (x : List ℕ). bestsOf (pageEntries x)) (cut-whole _)) (q .before .before .to-publish .ensures) _ (q .flags .ensures) (c .if1 .taken)
 
 returns-2 : tie.Need-returns-2
 returns-2 c =
     let q = c .before .before .before .before .before in
     let w = q .before .before .before in
-    renewed _ (bytes (w .before .before)) _ _ (w .walk-page .ensures) (q .before .before .to-publish .ensures) _ _ (q .flags .ensures) (c .before .before .put-entries .ensures)
+    renewed _ (bytes (w .before .before)) _ _ (w .walk-page .ensures ∙ ap (λ (x : List ℕ). bestsOf (pageEntries x)) (cut-whole _)) (q .before .before .to-publish .ensures) _ _ (q .flags .ensures) (c .before .before .put-entries .ensures)
 
 pub renew-spec : {M : Type 1} → statement M
 renew-spec =
