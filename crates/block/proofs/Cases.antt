@@ -10,18 +10,18 @@ use borrow.Author.Tests.{le-leb, lt-leb, ne-eqb}
 use Rattle.field.specs.Field.{be, part, field}
 use Rattle.lists.specs.Lists.{member, all, sum}
 use Rattle.block.specs.Block.{checksumOf, startAt, messageAt, lengthGood, spaced, tableGood, controlAmong, checked, idleBlock}
-use Rattle.block.specs.Sequence.{gapOf, nextOf, arrivalOf, arrivalNumber}
+use Rattle.block.specs.Sequence.{gapOf, nextOf, arrivalOf}
 use Rattle.block.specs.declared.Checked.the-variants.{Pass, Refused}
-use Rattle.block.specs.declared.Arrival.the-variants.{Taken}
+use Rattle.block.specs.declared.Arrival.the-variants.{Taken, Duplicate}
 
 -- P10: expected 4,294,967,295, c 2: next 1
 pub P10 : arrivalOf 4294967295 4294967295 2 ≡ Taken 0 1
 unfolding arrivalOf gapOf nextOf
 P10 = refl
 
--- P11: expected 0: 2,147,483,647 is a gap, 2,147,483,648 gives 35
-pub P11 : (arrivalNumber (arrivalOf 2147483647 0 1) ≡ 70) × (arrivalNumber (arrivalOf 2147483648 0 1) ≡ 35)
-unfolding arrivalOf arrivalNumber gapOf nextOf
+-- P11: expected 0: 2,147,483,647 is a gap, 2,147,483,648 a duplicate
+pub P11 : (arrivalOf 2147483647 0 1 ≡ Taken 2147483647 2147483648) × (arrivalOf 2147483648 0 1 ≡ Duplicate)
+unfolding arrivalOf gapOf nextOf
 P11 = (refl, refl)
 
 -- ---- numbers 30 to 34

@@ -11,14 +11,14 @@ use lib.ListN.{length}
 use Rattle.field.specs.Field.{field}
 use Rattle.lists.specs.Lists.{at}
 use Rattle.lists.proofs.Tests.{and-true}
-use Rattle.block.specs.Block.{Readable, countIn, checksumOf, startAt, spaced, lengthGood, tableGood, controlAmong, checked}
+use Rattle.block.specs.Block.{Readable, countIn, checksumOf, startAt, spaced, lengthGood, tableGood, controlAmong, checked, messagesMost}
 use Rattle.block.specs.declared.Checked.{Checked}
 use Rattle.block.specs.declared.Checked.the-variants.{Pass, Refused}
 
 -- what the rules of check 33 say
 pub record Table (b : List ℕ) : Type 0 where
   pub some : 1 ≤ countIn b
-  pub few : countIn b ≤ 45
+  pub few : countIn b ≤ messagesMost
   pub inside : 10 + 2 * countIn b ≤ length b
   pub first : startAt b 0 ≡ 10 + 2 * countIn b
   pub apart : spaced b ≡ true

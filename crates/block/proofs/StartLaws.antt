@@ -14,7 +14,7 @@ use Rattle.field.specs.Field.{part, field}
 use Rattle.field.proofs.Laws.{field-one}
 use Rattle.lists.specs.Lists.{at}
 use Rattle.lists.proofs.Searches.{all-each}
-use Rattle.block.specs.Block.{countIn, startAt, messageAt, spaced, spacedAt, quoteAt}
+use Rattle.block.specs.Block.{countIn, startAt, messageAt, spaced, spacedAt, noControlAt}
 
 -- past the last message is the block's end
 pub last-start : (b : List ℕ) (i : ℕ) → countIn b ≤ i → startAt b i ≡ length b
@@ -55,8 +55,8 @@ module _ (b : List ℕ) (good : spaced b ≡ true) where
     pub message-first : field b a 1 ≡ at (messageAt b i) 0
     message-first = ap (λ (s : ℕ). field b s 1) (sym (add-zero a)) ∙ message-field 0 (lit< tt)
 
-    pub control-here : (r : ℕ) → r ≡ field b a 1 → r ≡ 67 → quoteAt b i ≡ false
+    pub control-here : (r : ℕ) → r ≡ field b a 1 → r ≡ 67 → noControlAt b i ≡ false
     control-here r er c = rw (eq-eqb (at (messageAt b i) 0) 67 (sym message-first ∙ sym er ∙ c))
 
-    pub control-not : (r : ℕ) → r ≡ field b a 1 → (r ≡ 67 → ⊥) → quoteAt b i ≡ true
+    pub control-not : (r : ℕ) → r ≡ field b a 1 → (r ≡ 67 → ⊥) → noControlAt b i ≡ true
     control-not r er n = rw (ne-eqb (at (messageAt b i) 0) 67 (λ c. n (er ∙ message-first ∙ c)))

@@ -8,6 +8,7 @@ use mathlib.Core.List.{List, [], _∷_}
 use lib.Dec.{ltb, leb, eqb}
 use lib.ListN.{length, set}
 use Rattle.field.specs.Field.{part, field}
+use Rattle.field.specs.Ascii.{C, I, T, five}
 use Rattle.lists.specs.Lists.{at, member, all, sum}
 use Rattle.block.specs.declared.Checked.{Checked}
 use Rattle.block.specs.declared.Checked.the-variants.{Pass, Refused}
@@ -59,21 +60,28 @@ spacedAt b i = leb (startAt b i + 20) (startAt b (i + 1))
 unfoldable pub spaced : List ℕ → Bool
 spaced b = all (spacedAt b) 0 (countIn b)
 
+abbrev pub messagesMost : ℕ
+messagesMost = 45
+
+-- an answer is four bytes for each message
+abbrev pub answerLength : ℕ
+answerLength = 4 * messagesMost
+
 -- 33: "c not 1 to 45, or an offset rule broken". That the table lies in the block follows from the other rules; it is said so that the table may be read
 unfoldable pub tableGood : List ℕ → Bool
 tableGood b =
-    leb 1 (countIn b) && (leb (countIn b) 45 && (leb (10 + 2 * countIn b) (length b) && (eqb (startAt b 0) (10 + 2 * countIn b) && spaced b)))
+    leb 1 (countIn b) && (leb (countIn b) messagesMost && (leb (10 + 2 * countIn b) (length b) && (eqb (startAt b 0) (10 + 2 * countIn b) && spaced b)))
 
 -- a control message: category C, whatever its type
 abbrev pub isControl : List ℕ → Bool
-isControl m = eqb (at m 0) 67
+isControl m = eqb (at m 0) C
 
-abbrev pub quoteAt : List ℕ → ℕ → Bool
-quoteAt b i = not (isControl (messageAt b i))
+abbrev pub noControlAt : List ℕ → ℕ → Bool
+noControlAt b i = not (isControl (messageAt b i))
 
 -- 34: "A control message (category C) is alone in its block"
 unfoldable pub controlAmong : List ℕ → Bool
-controlAmong b = leb 2 (countIn b) && not (all (quoteAt b) 0 (countIn b))
+controlAmong b = leb 2 (countIn b) && not (all (noControlAt b) 0 (countIn b))
 
 -- 30 to 34 in their order: the count of messages, or the number of the first check that refuses
 unfoldable pub checked : List ℕ → Checked
@@ -92,4 +100,4 @@ checkedNumber (Refused k) = k
 
 -- "Blocks whose message is C I, C T or C 5 skip checks 20 and 35, move neither and report d as 0"
 unfoldable pub idleBlock : List ℕ → Bool
-idleBlock b = isControl (messageAt b 0) && member (53 ∷ 73 ∷ 84 ∷ []) (at (messageAt b 0) 1)
+idleBlock b = isControl (messageAt b 0) && member (five ∷ I ∷ T ∷ []) (at (messageAt b 0) 1)

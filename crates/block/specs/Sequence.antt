@@ -2,7 +2,7 @@
 -- Assumes nothing.
 use Prim.Native.Nat.{ℕ, _+_, _-_, _%_}
 use mathlib.Core.Bool.{cond}
-use lib.Dec.{leb, eqb}
+use lib.Dec.{leb}
 use Rattle.block.specs.declared.Arrival.{Arrival}
 use Rattle.block.specs.declared.Arrival.the-variants.{Taken, Duplicate}
 
@@ -17,8 +17,3 @@ nextOf received c = (received + c) % 4294967296
 -- "0 is in order; 1 to 2,147,483,647 is a gap of d, taken with warning 70; more is a duplicate"
 unfoldable pub arrivalOf : ℕ → ℕ → ℕ → Arrival
 arrivalOf received expected c = cond (leb (gapOf received expected) 2147483647) (Taken (gapOf received expected) (nextOf received c)) Duplicate
-
--- document 01's number of each case
-unfoldable pub arrivalNumber : Arrival → ℕ
-arrivalNumber (Taken gap next) = cond (eqb gap 0) 0 70
-arrivalNumber Duplicate = 35

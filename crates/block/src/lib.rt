@@ -18,6 +18,8 @@ impl Block {
     pub const LONGEST: usize = 1000;
 
     pub const MESSAGES: usize = 45;
+    /// Four bytes of answer for each message.
+    pub const ANSWER_LEN: usize = 4 * Block::MESSAGES;
 
     pub const MESSAGE_SHORTEST: usize = 20;
 }

@@ -1,12 +1,12 @@
 -- What each call returns, for each `return` of the code: the number, and the record that `call` gives.
 -- Assumes nothing.
-use Prim.Native.Nat.{ℕ, _+_, _*_, _-_, _<_, _≤_}
+use Prim.Native.Nat.{ℕ, _+_, _-_, _<_, _≤_}
 use mathlib.Core.Path.{_≡_, refl, sym, ap, _∙_}
 use mathlib.Core.Bool.{Bool, true, false, _&&_, cond}
 use mathlib.Core.List.{List, [], _∷_, _++_}
 use mathlib.Core.Option.{Option, none, some}
 use native.Mathlib.Omega.{arith}
-use lib.Dec.{ltb, lit≤}
+use lib.Dec.{eqb, ltb, lit≤}
 use lib.ListN.{length, length-append}
 use borrow.Author.Tests.{lt-ltb, le-ltb, lt-leb, le-leb, eq-eqb, ne-eqb}
 use borrow.Rule.Slice.PartMut.{putMid}
@@ -15,23 +15,30 @@ use Rattle.field.proofs.Laws.{part-part}
 use Rattle.lists.specs.Lists.{member, isSome}
 use Rattle.lists.specs.declared.Found.{Found}
 use Rattle.lists.specs.declared.Found.the-variants.{At, Nothing}
-use Rattle.lists.proofs.Tests.{clash}
-use Rattle.message.specs.Form.{symbolGood, letterGood}
-use Rattle.page.specs.Page.{blankPage, emptied}
-use Rattle.page.proofs.TableLaws.{cell-order}
-use Rattle.page.proofs.SearchLaws.{isAt}
-use Rattle.page.proofs.BlankLaws.{length-blank}
-use Rattle.book.specs.declared.Line.{Line}
-use Rattle.book.specs.declared.LineState.{LineState}
-use Rattle.book.specs.declared.LineState.the-variants.{Open, Closed}
-use Rattle.book.specs.Opening.{symbolsOf, countOf, sound, lineAt, lineBytes, linesIn, restIn, pageStart, pageAt, pagesIn, pagePlace, eachPage, freshBytes, restartLines}
-use Rattle.book.specs.Call.{Call, make, add, openLine, startDay, endDay, read, isListed, listedOf, lots, numberOf, done, bare, published, answerOf, publishedOn, afterCall, makeGood, isMake, numberOn, answerOn, call}
+use Rattle.lists.proofs.Tests.{clash, Cut, equal, apart, cut}
+use Rattle.text.specs.Form.{symbolGood, letterGood, symbolLength}
+use Rattle.update.specs.Parts.{blankPage, emptied}
+use Rattle.update.proofs.TableLaws.{cell-order}
+use Rattle.update.proofs.SearchLaws.{isAt}
+use Rattle.update.proofs.BlankLaws.{length-blank}
+use Rattle.opening.specs.declared.Line.{Line}
+use Rattle.opening.specs.declared.LineState.{LineState}
+use Rattle.opening.specs.declared.LineState.the-variants.{Open, Closed}
+use Rattle.opening.specs.Opening.{symbolsOf, countOf, sound, lineBytes, linesIn, restIn, pageAt, pagesIn, pagePlace, eachPage, freshBytes, restartLines, opened}
+use Rattle.line.specs.Line.{done}
+use Rattle.book.specs.Call.{Call, make, add, openLine, startDay, endDay, read, lots, numberOf, bare, published, answerOf, publishedOn, afterCall, makeGood, isMake, numberOn, answerOn, call}
+use Rattle.work.specs.Work.{isListed, listedOf}
 use Rattle.book.specs.Call as calls
-use Rattle.book.specs.Code.{opened, readOut}
-use Rattle.book.proofs.OpeningLaws.{Sound, sound-of}
+use Rattle.book.specs.Buffers.{readOut}
+use Rattle.book.specs.code.Day.{dayNumber}
+use Rattle.opening.proofs.OpeningLaws.{Sound, sound-of}
 use Rattle.book.proofs.NumberLaws.{listed-length, page-free, AddDone, add-done, open-done, lot-fits, symbol-eleven}
-use Rattle.book.proofs.PlaceLaws.{listed-at, published-at}
-use Rattle.book.proofs.WriteLaws.{page-back}
+use Rattle.work.proofs.PlaceLaws.{listed-at}
+use Rattle.book.proofs.HeldLaws.{published-at}
+use Rattle.opening.proofs.WriteLaws.{page-back}
+use Rattle.entries.specs.Publication.{publicationLength}
+use Rattle.page.specs.Layout.{entriesAt, pageLength}
+use Rattle.opening.specs.Layout.{nAt, countAt, dayAt, openingLength, bookLength, lineCount, pageStart, lineAt, symbolsMost}
 
 splice-none : (p : List ℕ) → splice p 0 [] ≡ p
 unfolding splice
@@ -52,7 +59,7 @@ either : (t : Bool) (x : ℕ) → cond t (bare (cond t x 1)) (bare 1) ≡ bare (
 either true x = refl
 either false x = refl
 
-at-most : (t : Bool) (x y : ℕ) → x ≤ 8 → y ≤ 8 → cond t x y ≤ 8
+at-most : (t : Bool) (x y : ℕ) → x ≤ 12 → y ≤ 12 → cond t x y ≤ 12
 at-most true x y h k = h
 at-most false x y h k = k
 
@@ -73,8 +80,8 @@ module _ (b : List ℕ) where
     unfolding call
     refused k e d = rw (bare-answer c plain, ← e, d)
 
-    -- 1 to 8
-    pub turned-down : (k : ℕ) → numberOn b c ≤ 8 → k ≡ numberOn b c → (k ≡ 0 → ⊥) → record { bytes = b; answer = bare k } ≡ call b c
+    -- 1 to 12
+    pub turned-down : (k : ℕ) → numberOn b c ≤ 12 → k ≡ numberOn b c → (k ≡ 0 → ⊥) → record { bytes = b; answer = bare k } ≡ call b c
     unfolding done
     turned-down k m e z = refused k e (rw (ne-eqb k 0 z, ne-eqb k 70 (λ q. omega (arith, m, e, q))))
 
@@ -103,17 +110,17 @@ module _ (b : List ℕ) where
     unfolding numberOn makeGood
     make-none h = rw (lt-leb 1 n h)
 
-    pub make-many : 1 ≤ n → 64 < n → 2 ≡ numberOn b (make n)
+    pub make-many : 1 ≤ n → symbolsMost < n → 2 ≡ numberOn b (make n)
     unfolding numberOn makeGood
-    make-many l h = rw (le-leb 1 n l, lt-leb n 64 h)
+    make-many l h = rw (le-leb 1 n l, lt-leb n symbolsMost h)
 
-    pub make-length : 1 ≤ n → n ≤ 64 → (length b ≡ 847 + n * 6054 → ⊥) → 2 ≡ numberOn b (make n)
+    pub make-length : 1 ≤ n → n ≤ symbolsMost → (length b ≡ bookLength n → ⊥) → 2 ≡ numberOn b (make n)
     unfolding numberOn makeGood
-    make-length l u h = rw (le-leb 1 n l, le-leb n 64 u, ne-eqb (length b) (847 + n * 6054) h)
+    make-length l u h = rw (le-leb 1 n l, le-leb n symbolsMost u, ne-eqb (length b) (bookLength n) h)
 
-    pub make-zero : 1 ≤ n → n ≤ 64 → length b ≡ 847 + n * 6054 → 0 ≡ numberOn b (make n)
+    pub make-zero : 1 ≤ n → n ≤ symbolsMost → length b ≡ bookLength n → 0 ≡ numberOn b (make n)
     unfolding numberOn makeGood
-    make-zero l u h = rw (le-leb 1 n l, le-leb n 64 u, eq-eqb (length b) (847 + n * 6054) h)
+    make-zero l u h = rw (le-leb 1 n l, le-leb n symbolsMost u, eq-eqb (length b) (bookLength n) h)
 
     pub make-after : (b′ : List ℕ) → b′ ≡ freshBytes n → b′ ≡ afterCall b (make n)
     unfolding afterCall
@@ -121,28 +128,57 @@ module _ (b : List ℕ) where
 
   -- ---- Start and End of Day
 
-  module _ (s : sound b ≡ true) (d : ℕ) (de : d ≡ field b 10 1) where
-    pub start-closed : d ≡ 0 → 0 ≡ numberOn b startDay
-    unfolding numberOn numberOf restIn
-    start-closed e = rw (s, ← de, e)
+  -- judged by the day flag: 0 or 1 in a sound opening
+  pub start-judged : dayNumber b 0 11 ≡ numberOn b startDay
+  unfolding dayNumber numberOn numberOf restIn
+  start-judged = go (sound b) refl
+    where
+      go : (t : Bool) → sound b ≡ t → _≡_ {A = ℕ} (cond t (cond (eqb (field b dayAt 1) 0) 0 11) 1) (cond t (cond (eqb (field b dayAt 1) 1) 11 0) 1)
+      go false e = refl
+      go true e = flag (cut (field b dayAt 1) 0)
+        where
+          flag : Cut (field b dayAt 1) 0 → _≡_ {A = ℕ} (cond (eqb (field b dayAt 1) 0) 0 11) (cond (eqb (field b dayAt 1) 1) 11 0)
+          flag (equal t z) = rw z
+          flag (apart t z) = let o : field b dayAt 1 ≡ 1 = omega (arith, sound-of b e .day, z) in rw o
 
-    pub start-open : d ≡ 1 → 11 ≡ numberOn b startDay
-    unfolding numberOn numberOf restIn
-    start-open e = rw (s, ← de, e)
+  pub end-judged : dayNumber b 1 12 ≡ numberOn b endDay
+  unfolding dayNumber numberOn numberOf restIn
+  end-judged = refl
 
-    pub end-open : d ≡ 1 → 0 ≡ numberOn b endDay
-    unfolding numberOn numberOf restIn
-    end-open e = rw (s, ← de, e)
+  pub start-small : numberOn b startDay ≤ 12
+  unfolding numberOn numberOf
+  start-small = at-most (sound b) _ 1 (at-most (restIn b .day) 11 0 (lit≤ tt) (lit≤ tt)) (lit≤ tt)
 
-    pub end-closed : (d ≡ 1 → ⊥) → 12 ≡ numberOn b endDay
-    unfolding numberOn numberOf restIn
-    end-closed e = rw (s, ← de, ne-eqb d 1 e)
+  pub end-small : numberOn b endDay ≤ 12
+  unfolding numberOn numberOf
+  end-small = at-most (sound b) _ 1 (at-most (restIn b .day) 0 12 (lit≤ tt) (lit≤ tt)) (lit≤ tt)
 
-  pub start-after : (b1 b2 b3 : List ℕ) (n : ℕ) → n ≡ field b 8 1 → b1 ≡ eachPage emptied 0 n b → b2 ≡ restartLines 0 64 b1 → b3 ≡ splice b2 10 (beBytes 1 1) → b3 ≡ afterCall b startDay
+  module _ (day number : ℕ) where
+    pub day-unsound : sound b ≡ false → 1 ≡ dayNumber b day number
+    unfolding dayNumber
+    day-unsound e = rw e
+
+    pub day-asked : sound b ≡ true → (d : ℕ) → d ≡ field b dayAt 1 → d ≡ day → 0 ≡ dayNumber b day number
+    unfolding dayNumber
+    day-asked e d de h = rw (e, eq-eqb (field b dayAt 1) day (sym de ∙ h))
+
+    pub day-else : sound b ≡ true → (d : ℕ) → d ≡ field b dayAt 1 → (d ≡ day → ⊥) → number ≡ dayNumber b day number
+    unfolding dayNumber
+    day-else e d de h = rw (e, ne-eqb (field b dayAt 1) day (λ z. h (de ∙ z)))
+
+    pub day-passed : (k : ℕ) → k ≡ dayNumber b day number → k ≡ 0 → (number ≡ 0 → ⊥) → sound b ≡ true
+    unfolding dayNumber
+    day-passed k e z n = go (sound b) (sym z ∙ e)
+      where
+        go : (t : Bool) → 0 ≡ cond t (cond (eqb (field b dayAt 1) day) 0 number) 1 → t ≡ true
+        go true w = refl
+        go false w = absurd (omega (arith, w))
+
+  pub start-after : (b1 b2 b3 : List ℕ) (n : ℕ) → n ≡ field b nAt 1 → b1 ≡ eachPage emptied 0 n b → b2 ≡ restartLines 0 lineCount b1 → b3 ≡ splice b2 dayAt (beBytes 1 1) → b3 ≡ afterCall b startDay
   unfolding afterCall symbolsOf beBytes
   start-after b1 b2 b3 n ne e1 e2 e3 = e3 ∙ rw (e2, e1, ne)
 
-  pub end-after : (b′ : List ℕ) → b′ ≡ splice b 10 (beBytes 1 0) → b′ ≡ afterCall b endDay
+  pub end-after : (b′ : List ℕ) → b′ ≡ splice b dayAt (beBytes 1 0) → b′ ≡ afterCall b endDay
   unfolding afterCall beBytes
   end-after b′ e = e
 
@@ -151,11 +187,11 @@ module _ (b : List ℕ) where
   module _ (i l : ℕ) where
     pub open-above : sound b ≡ true → 63 < i → 7 ≡ numberOn b (openLine i l)
     unfolding numberOn numberOf
-    open-above s h = rw (s, le-ltb i 64 (omega arith))
+    open-above s h = rw (s, le-ltb i lineCount (omega arith))
 
     module _ (s : sound b ≡ true) (low : i ≤ 63) where
-      below : ltb i 64 ≡ true
-      below = lt-ltb i 64 (omega arith)
+      below : ltb i lineCount ≡ true
+      below = lt-ltb i lineCount (omega arith)
 
       pub open-letter : letterGood l ≡ false → 7 ≡ numberOn b (openLine i l)
       unfolding numberOn numberOf
@@ -178,11 +214,11 @@ module _ (b : List ℕ) where
         unfolding numberOn numberOf restIn
         open-new f = rw (s, below, g, is-closed (linesIn b i) e f)
 
-    pub open-small : numberOn b (openLine i l) ≤ 8
+    pub open-small : numberOn b (openLine i l) ≤ 12
     unfolding numberOn numberOf
-    open-small = at-most (sound b) _ 1 (at-most (ltb i 64 && letterGood l) _ 7 (at-most (isSome (restIn b .lines i)) 8 0 (lit≤ tt) (lit≤ tt)) (lit≤ tt)) (lit≤ tt)
+    open-small = at-most (sound b) _ 1 (at-most (ltb i lineCount && letterGood l) _ 7 (at-most (isSome (restIn b .lines i)) 8 0 (lit≤ tt) (lit≤ tt)) (lit≤ tt)) (lit≤ tt)
 
-    pub open-passed : (k : ℕ) → k ≡ numberOn b (openLine i l) → k ≡ 0 → (847 ≤ length b) × (i < 64)
+    pub open-passed : (k : ℕ) → k ≡ numberOn b (openLine i l) → k ≡ 0 → (openingLength ≤ length b) × (i < lineCount)
     unfolding numberOn done
     open-passed k e z =
         let n : 0 ≡ numberOn b (openLine i l) = sym z ∙ e in
@@ -214,7 +250,7 @@ module _ (b : List ℕ) where
           pub add-listed : (j : ℕ) → r ≡ At j → 4 ≡ numberOn b (add x k)
           add-listed j f = sym (add-number s ∙ rw (g, m, ← e, f))
 
-          module _ (f : r ≡ Nothing) (c n : ℕ) (ce : c ≡ field b 9 1) (ne : n ≡ field b 8 1) where
+          module _ (f : r ≡ Nothing) (c n : ℕ) (ce : c ≡ field b countAt 1) (ne : n ≡ field b nAt 1) where
             pub add-new : c < n → 0 ≡ numberOn b (add x k)
             unfolding countOf symbolsOf
             add-new h = sym (add-number s ∙ rw (g, m, ← e, f, ← ce, ← ne, lt-ltb c n h))
@@ -223,7 +259,7 @@ module _ (b : List ℕ) where
             unfolding countOf symbolsOf
             add-full h = sym (add-number s ∙ rw (g, m, ← e, f, ← ce, ← ne, le-ltb c n h))
 
-    pub add-small : numberOn b (add x k) ≤ 8
+    pub add-small : numberOn b (add x k) ≤ 12
     unfolding numberOn numberOf
     add-small =
         at-most (sound b) _ 1
@@ -234,10 +270,10 @@ module _ (b : List ℕ) where
 
     -- what an add that passed its checks has room for
     pub record Addable (c : ℕ) : Type 0 where
-      pub eleven : length x ≡ 11
+      pub eleven : length x ≡ symbolLength
       pub lot : k < 256
-      pub count : c < 64
-      pub room : 847 + c * 6054 + 6054 ≤ length b
+      pub count : c < symbolsMost
+      pub room : pageStart c + pageLength ≤ length b
 
     pub add-passed : (n : ℕ) → n ≡ numberOn b (add x k) → n ≡ 0 → Addable (countOf b)
     unfolding numberOn done
@@ -252,36 +288,36 @@ module _ (b : List ℕ) where
           eleven = symbol-eleven x (a .good);
           lot = lot-fits k (a .lot);
           count = omega (arith, sd .up);
-          room = omega (arith, sd .size, cell-order 6054 (countOf b) (symbolsOf b) f);
+          room = omega (arith, sd .size, cell-order pageLength (countOf b) (symbolsOf b) f);
         }
 
-    pub add-after : (b1 p : List ℕ) (c : ℕ) → length x ≡ 11 → c ≡ field b 9 1 → b1 ≡ splice b 9 (beBytes 1 (c + 1)) → p ≡ blankPage (x ++ (k ∷ []))
-        → putMid (pageStart c) ((pageStart c + 6054) - pageStart c) b1 p ≡ afterCall b (add x k)
+    pub add-after : (b1 p : List ℕ) (c : ℕ) → length x ≡ symbolLength → c ≡ field b countAt 1 → b1 ≡ splice b countAt (beBytes 1 (c + 1)) → p ≡ blankPage (x ++ (k ∷ []))
+        → putMid (pageStart c) ((pageStart c + pageLength) - pageStart c) b1 p ≡ afterCall b (add x k)
     unfolding afterCall countOf
     add-after b1 p c l ce e f =
-        let w : length p ≡ 6054 = ap length f ∙ length-blank (x ++ (k ∷ [])) (length-append x (k ∷ []) ∙ ap (λ (n : ℕ). n + 1) l) in
+        let w : length p ≡ pageLength = ap length f ∙ length-blank (x ++ (k ∷ [])) (length-append x (k ∷ []) ∙ ap (λ (n : ℕ). n + 1) l) in
         page-back b1 c p w ∙ rw (e, f, ce)
 
   -- ---- a publication read
 
   module _ (x : List ℕ) (room : ℕ) where
-    read-number : sound b ≡ true → numberOn b (read x room) ≡ cond (ltb room 96) 9 (cond (symbolGood x && isAt (pagePlace b (be x))) 0 10)
+    read-number : sound b ≡ true → numberOn b (read x room) ≡ cond (ltb room publicationLength) 9 (cond (symbolGood x && isAt (pagePlace b (be x))) 0 10)
     unfolding numberOn numberOf
     read-number s = rw (s, listed-at b (be x))
 
-    pub read-short : sound b ≡ true → room < 96 → 9 ≡ numberOn b (read x room)
-    read-short s h = sym (read-number s ∙ rw (lt-ltb room 96 h))
+    pub read-short : sound b ≡ true → room < publicationLength → 9 ≡ numberOn b (read x room)
+    read-short s h = sym (read-number s ∙ rw (lt-ltb room publicationLength h))
 
-    module _ (s : sound b ≡ true) (h : 96 ≤ room) where
+    module _ (s : sound b ≡ true) (h : publicationLength ≤ room) where
       pub read-bad : symbolGood x ≡ false → 10 ≡ numberOn b (read x room)
-      read-bad g = sym (read-number s ∙ rw (le-ltb room 96 h, g))
+      read-bad g = sym (read-number s ∙ rw (le-ltb room publicationLength h, g))
 
       module _ (g : symbolGood x ≡ true) (r : Found) (e : r ≡ pagePlace b (be x)) where
         pub read-unlisted : r ≡ Nothing → 10 ≡ numberOn b (read x room)
-        read-unlisted f = sym (read-number s ∙ rw (le-ltb room 96 h, g, ← e, f))
+        read-unlisted f = sym (read-number s ∙ rw (le-ltb room publicationLength h, g, ← e, f))
 
         read-listed : (k : ℕ) → r ≡ At k → 0 ≡ numberOn b (read x room)
-        read-listed k f = sym (read-number s ∙ rw (le-ltb room 96 h, g, ← e, f))
+        read-listed k f = sym (read-number s ∙ rw (le-ltb room publicationLength h, g, ← e, f))
 
   module _ (x p : List ℕ) where
     abbrev asked : Call
@@ -303,9 +339,9 @@ module _ (b : List ℕ) where
     pub read-refused : (n : ℕ) → n ≡ numberOn b asked → done n ≡ false → record { number = n; publication = p } ≡ readOut b x p
     read-refused n e d = sym (read-out n e ∙ rw (d, splice-none p))
 
-    pub read-done : (p′ : List ℕ) (k : ℕ) (r : Found) → sound b ≡ true → 96 ≤ length p → symbolGood x ≡ true → r ≡ pagePlace b (be x) → r ≡ At k → p′ ≡ splice p 0 (part b (847 + k * 6054 + 12) 96)
+    pub read-done : (p′ : List ℕ) (k : ℕ) (r : Found) → sound b ≡ true → publicationLength ≤ length p → symbolGood x ≡ true → r ≡ pagePlace b (be x) → r ≡ At k → p′ ≡ splice p 0 (part b (pageStart k + entriesAt) publicationLength)
         → record { number = 0; publication = p′ } ≡ readOut b x p
     unfolding done pageAt
     read-done p′ k r s h g e f pe =
-        let q : publishedOn b (be x) ≡ part b (847 + k * 6054 + 12) 96 = published-at b (be x) k (sym e ∙ f) ∙ part-part b (pageStart k) 6054 12 96 (omega arith) in
+        let q : publishedOn b (be x) ≡ part b (pageStart k + entriesAt) publicationLength = published-at b (be x) k (sym e ∙ f) ∙ part-part b (pageStart k) pageLength entriesAt publicationLength (omega arith) in
         sym (read-out 0 (read-listed x (length p) s h g r e k f) ∙ rw (q, pe))

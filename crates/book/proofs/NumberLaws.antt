@@ -13,13 +13,18 @@ use Rattle.field.specs.Field.{Bytes, be, beBytes}
 use Rattle.field.proofs.Laws.{beBytes-be}
 use Rattle.lists.specs.Lists.{at, member, isSome, between, upper, every}
 use Rattle.lists.proofs.Tests.{clash, and-true, Cut, equal, apart, cut}
-use Rattle.message.specs.Form.{space, padded, symbolGood, letterGood}
-use Rattle.page.specs.Page.{readingOf}
-use Rattle.page.proofs.TableLaws.{length-range}
-use Rattle.page.proofs.CellLaws.{member-below}
-use Rattle.book.specs.Opening.{symbolsOf, countOf, bookLength, sound, Rest, restIn, pageAt, pagesIn}
-use Rattle.book.specs.Call.{Call, make, add, openLine, startDay, endDay, take, read, Listed, isListed, listing, listedOf, lots, numberOf, done, makeGood, isMake, numberOn}
-use Rattle.book.proofs.OpeningLaws.{Sound, sound-is}
+use Rattle.text.specs.Form.{isSpace, padded, symbolGood, letterGood, symbolLength}
+use Rattle.update.specs.Parts.{readingOf}
+use Rattle.update.proofs.TableLaws.{length-range}
+use Rattle.update.proofs.CellLaws.{member-below}
+use Rattle.opening.specs.Opening.{symbolsOf, countOf, sound, Rest, restIn, pageAt, pagesIn}
+use Rattle.line.specs.Line.{done}
+use Rattle.book.specs.Call.{Call, make, add, openLine, startDay, endDay, take, read, lots, numberOf, makeGood, isMake, numberOn}
+use Rattle.block.specs.Block.{answerLength}
+use Rattle.work.specs.Work.{Listed, isListed, listing, listedOf}
+use Rattle.opening.proofs.OpeningLaws.{Sound, sound-is}
+use Rattle.entries.specs.Publication.{publicationLength}
+use Rattle.opening.specs.Layout.{lineCount, bookLength, symbolsMost}
 
 -- ---- on a sound book every number is worked out from n, lines, day and symbols
 
@@ -33,9 +38,9 @@ module _ (n : ℕ) (b : List ℕ) (sd : Sound n b) where
       last true false = refl
       last false y = refl
 
-      go : Cut k n → (leb 1 k && (leb k 64 && eqb (length b) (bookLength k))) ≡ eqb k n
-      go (equal t e) = rw (t, e, le-leb 1 n (sd .low), le-leb n 64 (sd .up), eq-eqb (length b) (bookLength n) (sd .size))
-      go (apart t e) = rw (t, ne-eqb (length b) (bookLength k) (λ z. e (omega (arith, z, sd .size)))) (last (leb 1 k) (leb k 64))
+      go : Cut k n → (leb 1 k && (leb k symbolsMost && eqb (length b) (bookLength k))) ≡ eqb k n
+      go (equal t e) = rw (t, e, le-leb 1 n (sd .low), le-leb n symbolsMost (sd .up), eq-eqb (length b) (bookLength n) (sd .size))
+      go (apart t e) = rw (t, ne-eqb (length b) (bookLength k) (λ z. e (omega (arith, z, sd .size)))) (last (leb 1 k) (leb k symbolsMost))
 
   make-number : (k : ℕ) → cond (makeGood b k) 0 2 ≡ numberOf (restIn b) (listedOf (pagesIn b)) (make k)
   unfolding numberOf restIn
@@ -96,12 +101,12 @@ module _ (r : Rest) (ls : List Listed) where
       go true x false w c y d z e = clash (sym e)
       go false x b w c y d z e = clash (sym e)
 
-  pub open-done : (i l : ℕ) → done (numberOf r ls (openLine i l)) ≡ true → (i < 64) × (letterGood l ≡ true)
+  pub open-done : (i l : ℕ) → done (numberOf r ls (openLine i l)) ≡ true → (i < lineCount) × (letterGood l ≡ true)
   unfolding done numberOf
   open-done i l d =
-      let e : (ltb i 64 && letterGood l) ≡ true = go (ltb i 64 && letterGood l) (isSome (r .lines i)) d in
-      let t = and-true (ltb i 64) (letterGood l) e in
-      (ltb-true i 64 (t .0), t .1)
+      let e : (ltb i lineCount && letterGood l) ≡ true = go (ltb i lineCount && letterGood l) (isSome (r .lines i)) d in
+      let t = and-true (ltb i lineCount) (letterGood l) e in
+      (ltb-true i lineCount (t .0), t .1)
     where
       go : (a b : Bool) → done (cond a (cond b 8 0) 7) ≡ true → a ≡ true
       go true b e = refl
@@ -109,7 +114,7 @@ module _ (r : Rest) (ls : List Listed) where
 
   pub take-done : (i : ℕ) (b : List ℕ) (k : ℕ) → done (numberOf r ls (take i b k)) ≡ true → r .lines i ≡ none → ⊥
   unfolding done numberOf
-  take-done i b k d e = go (ltb k 180) (rw e at d)
+  take-done i b k d e = go (ltb k answerLength) (rw e at d)
     where
       go : (t : Bool) → done (cond t 9 21) ≡ true → ⊥
       go true d = clash (sym d)
@@ -117,7 +122,7 @@ module _ (r : Rest) (ls : List Listed) where
 
   pub read-done : (s : List ℕ) (k : ℕ) → done (numberOf r ls (read s k)) ≡ true → (symbolGood s ≡ true) × (isListed (be s) ls ≡ true)
   unfolding done numberOf
-  read-done s k = go (ltb k 96) (symbolGood s) (isListed (be s) ls)
+  read-done s k = go (ltb k publicationLength) (symbolGood s) (isListed (be s) ls)
     where
       go : (a b c : Bool) → done (cond a 9 (cond (b && c) 0 10)) ≡ true → (b ≡ true) × (c ≡ true)
       go true b c e = clash (sym e)
@@ -131,11 +136,11 @@ pub lot-fits : (k : ℕ) → member lots k ≡ true → k < 256
 unfolding every
 lot-fits k e = member-below lots 256 k refl e
 
-spaces : (s : List ℕ) → every space s ≡ true → Bytes s
+spaces : (s : List ℕ) → every isSpace s ≡ true → Bytes s
 unfolding every
 spaces [] e i = lit< tt
-spaces (x ∷ s) e zero = omega (arith, eqb-true x 32 (and-true (eqb x 32) (every space s) e .0))
-spaces (x ∷ s) e (suc i) = spaces s (and-true (eqb x 32) (every space s) e .1) i
+spaces (x ∷ s) e zero = omega (arith, eqb-true x 32 (and-true (eqb x 32) (every isSpace s) e .0))
+spaces (x ∷ s) e (suc i) = spaces s (and-true (eqb x 32) (every isSpace s) e .1) i
 
 padded-bytes : (low high : ℕ) → high < 256 → (s : List ℕ) → padded low high s ≡ true → Bytes s
 unfolding padded
@@ -146,19 +151,19 @@ padded-bytes low high h (x ∷ s) e = go (between low high x) refl (padded-bytes
     head a b zero = a
     head a b (suc i) = b i
 
-    go : (t : Bool) → between low high x ≡ t → (padded low high s ≡ true → Bytes s) → cond t (padded low high s) (every space (x ∷ s)) ≡ true → Bytes (x ∷ s)
+    go : (t : Bool) → between low high x ≡ t → (padded low high s ≡ true → Bytes s) → cond t (padded low high s) (every isSpace (x ∷ s)) ≡ true → Bytes (x ∷ s)
     go true t down e = head (omega (arith, leb-true x high (and-true (leb low x) (leb x high) t .1))) (down e)
     go false t down e = spaces (x ∷ s) e
 
-pub symbol-eleven : (s : List ℕ) → symbolGood s ≡ true → length s ≡ 11
+pub symbol-eleven : (s : List ℕ) → symbolGood s ≡ true → length s ≡ symbolLength
 unfolding symbolGood
-symbol-eleven s e = eqb-true (length s) 11 (and-true (eqb (length s) 11) (upper (at s 0) && padded 33 126 s) e .0)
+symbol-eleven s e = eqb-true (length s) symbolLength (and-true (eqb (length s) symbolLength) (upper (at s 0) && padded 33 126 s) e .0)
 
 pub symbol-bytes : (s : List ℕ) → symbolGood s ≡ true → Bytes s
 unfolding symbolGood
 symbol-bytes s e =
-    padded-bytes 33 126 (lit< tt) s (and-true (upper (at s 0)) (padded 33 126 s) (and-true (eqb (length s) 11) (upper (at s 0) && padded 33 126 s) e .1) .1)
+    padded-bytes 33 126 (lit< tt) s (and-true (upper (at s 0)) (padded 33 126 s) (and-true (eqb (length s) symbolLength) (upper (at s 0) && padded 33 126 s) e .1) .1)
 
 -- the bytes of a symbol's number are the symbol
-pub symbol-back : (s : List ℕ) → symbolGood s ≡ true → beBytes 11 (be s) ≡ s
+pub symbol-back : (s : List ℕ) → symbolGood s ≡ true → beBytes symbolLength (be s) ≡ s
 symbol-back s g = ap (λ (n : ℕ). beBytes n (be s)) (sym (symbol-eleven s g)) ∙ beBytes-be s (symbol-bytes s g)

@@ -3,45 +3,30 @@
 use Prim.Native.Nat.{ℕ, _<_}
 use mathlib.Core.Path.{_≡_, refl, sym, _∙_}
 use mathlib.Core.Bool.{Bool, true, false, _&&_, cond}
-use mathlib.Core.List.{List, [], _∷_}
+use mathlib.Core.List.{List}
 use mathlib.Core.Option.{Option, none, some}
 use lib.Dec.{leb, eqb, lit≤}
 use lib.ListN.{length}
 use borrow.Author.Tests.{eqb-true}
 use Rattle.field.specs.Field.{Bytes}
-use Rattle.lists.specs.Lists.{upper}
-use Rattle.message.specs.Message.{symbolOf, partsOf}
 use Rattle.block.specs.Block.{messagesOf}
-use Rattle.page.specs.Page.{emptied, knownOf}
-use Rattle.page.proofs.BlankLaws.{emptied-kept}
-use Rattle.page.proofs.SpokenLaws.{shaped}
-use Rattle.book.specs.declared.Line.{Line}
-use Rattle.book.specs.Opening.{symbolsOf, countOf, bookLength, sound, linesIn, restIn, pagesIn, eachPage, freshBytes, restartLines}
-use Rattle.book.specs.Call.{Call, make, add, openLine, startDay, endDay, take, read, listedOf, findReading, done, advanced, letterOf, codeOn, messageOn, messagesOn, advanceOn, afterCall, makeGood, isMake, numberOn, call}
-use Rattle.book.proofs.OpeningLaws.{Sound, sound-of}
-use Rattle.book.proofs.PageLaws.{OpeningKept, opening-none, opening-then, kept-sound, each-kept}
-use Rattle.book.proofs.PartLaws.{parts-kept}
-use Rattle.book.proofs.LineLaws.{line-upper, line-open, lined-sound, lined-bytes}
-use Rattle.book.proofs.DayLaws.{dayed-sound, dayed-bytes, relined-sound, relined-bytes}
-use Rattle.book.proofs.FreshLaws.{fresh-sound, fresh-bytes, fresh-length}
-use Rattle.book.proofs.AddLaws.{added-sound, added-bytes}
+use Rattle.update.specs.Parts.{emptied}
+use Rattle.update.proofs.BlankLaws.{emptied-kept}
+use Rattle.opening.specs.declared.Line.{Line}
+use Rattle.opening.specs.Opening.{symbolsOf, countOf, sound, linesIn, restIn, pagesIn, eachPage, freshBytes, restartLines}
+use Rattle.line.specs.Line.{done, advanced}
+use Rattle.book.specs.Call.{Call, make, add, openLine, startDay, endDay, take, read, letterOf, advanceOn, afterCall, makeGood, isMake, numberOn, call}
+use Rattle.work.specs.Work.{listedOf, messagesOn}
+use Rattle.opening.proofs.OpeningLaws.{Sound, sound-of}
+use Rattle.opening.proofs.PageLaws.{OpeningKept, kept-sound, each-kept}
+use Rattle.opening.proofs.LineLaws.{line-upper, line-open, lined-sound, lined-bytes}
+use Rattle.opening.proofs.DayLaws.{dayed-sound, dayed-bytes, relined-sound, relined-bytes}
+use Rattle.opening.proofs.FreshLaws.{fresh-sound, fresh-bytes, fresh-length}
+use Rattle.opening.proofs.AddLaws.{added-sound, added-bytes}
 use Rattle.book.proofs.NumberLaws.{number-same, make-done, page-free, unsound, AddDone, add-done, open-done, take-done, lot-fits, symbol-eleven, symbol-bytes}
-
--- ---- messages keep the opening
-
-module _ (n letter : ℕ) (u : upper letter ≡ true) where
-  pub message-kept : (m : List ℕ) (b : List ℕ) → Sound n b → OpeningKept b (messageOn letter m b)
-  message-kept m b sd = parts-kept n (partsOf (codeOn letter m b) m) b sd (shaped (knownOf (findReading (symbolOf m) (pagesIn b))) letter m u)
-
-  pub messages-kept : (ms : List (List ℕ)) (b : List ℕ) → Sound n b → OpeningKept b (messagesOn letter ms b)
-  unfolding messagesOn
-  messages-kept [] b sd = opening-none b
-  messages-kept (m ∷ ms) b sd =
-      let k : OpeningKept b (messageOn letter m b) = message-kept m b sd in
-      opening-then b (messageOn letter m b) (messagesOn letter ms (messageOn letter m b)) k
-      (messages-kept ms (messageOn letter m b) (kept-sound b (messageOn letter m b) k n sd))
-
--- ---- calls
+use Rattle.work.proofs.KeptLaws.{messages-kept}
+use Rattle.opening.specs.Layout.{lineCount, bookLength, symbolsMost}
+use Rattle.text.specs.Form.{symbolLength}
 
 -- sound, and bytes if it was bytes
 pub record Stays (n : ℕ) (b b′ : List ℕ) : Type 0 where
@@ -67,7 +52,7 @@ module _ (n : ℕ) (b : List ℕ) (sd : Sound n b) where
       rw e (record { sound = fresh-sound n (sd .low) (sd .up); bytes = λ y. fresh-bytes n (sd .up) })
   after-stays (add x l) d =
       let g : AddDone (restIn b) (listedOf (pagesIn b)) x l = add-done (restIn b) (listedOf (pagesIn b)) x l (rw (number-same n b sd (add x l)) at d) in
-      let w : length x ≡ 11 = symbol-eleven x (g .good) in
+      let w : length x ≡ symbolLength = symbol-eleven x (g .good) in
       let r : countOf b < n = page-free n b sd (g .room) in
       record { sound = added-sound n b sd x l w r; bytes = λ y. added-bytes n b sd x l w r y (symbol-bytes x (g .good)) (lot-fits l (g .lot)) }
   after-stays (openLine i l) d =
@@ -78,10 +63,10 @@ module _ (n : ℕ) (b : List ℕ) (sd : Sound n b) where
       let b₁ : List ℕ = eachPage emptied 0 (symbolsOf b) b in
       let c : OpeningKept b b₁ = each-kept n emptied (λ p w. emptied-kept p w) b sd in
       let s₁ : Sound n b₁ = kept-sound b b₁ c n sd in
-      let s₂ : Sound n (restartLines 0 64 b₁) = relined-sound n b₁ s₁ in
+      let s₂ : Sound n (restartLines 0 lineCount b₁) = relined-sound n b₁ s₁ in
       record {
-        sound = dayed-sound n (restartLines 0 64 b₁) s₂ 1 (lit≤ tt);
-        bytes = λ y. dayed-bytes n (restartLines 0 64 b₁) s₂ 1 (lit≤ tt) (relined-bytes n b₁ s₁ (c .bytes y));
+        sound = dayed-sound n (restartLines 0 lineCount b₁) s₂ 1 (lit≤ tt);
+        bytes = λ y. dayed-bytes n (restartLines 0 lineCount b₁) s₂ 1 (lit≤ tt) (relined-bytes n b₁ s₁ (c .bytes y));
       }
   after-stays endDay d = record { sound = dayed-sound n b sd 0 (lit≤ tt); bytes = dayed-bytes n b sd 0 (lit≤ tt) }
   after-stays (take i x k) d = take-stays i x k d (linesIn b i) refl
@@ -100,7 +85,7 @@ module _ (n : ℕ) (b : List ℕ) (sd : Sound n b) where
 
 make-length : (b : List ℕ) (n : ℕ) → length (call b (make n) .bytes) ≡ length b
 unfolding call numberOn done afterCall makeGood
-make-length b n = go (leb 1 n) (leb n 64) (eqb (length b) (bookLength n)) refl
+make-length b n = go (leb 1 n) (leb n symbolsMost) (eqb (length b) (bookLength n)) refl
   where
     go : (x y z : Bool) → eqb (length b) (bookLength n) ≡ z → length (cond (done (cond (x && (y && z)) 0 2)) (freshBytes n) b) ≡ length b
     go true true true r = fresh-length n ∙ sym (eqb-true (length b) (bookLength n) r)

@@ -10,23 +10,28 @@ use lib.Dec.{ltb, eqb}
 use lib.ListN.{length}
 use Rattle.field.specs.Field.{part, splice}
 use Rattle.field.proofs.Laws.{splice-part}
-use Rattle.block.specs.Block.{messagesOf, countIn, idleBlock, checked}
-use Rattle.book.specs.declared.Line.{Line}
-use Rattle.book.specs.declared.Gate.{Gate}
-use Rattle.book.specs.declared.Gate.the-variants as gate
-use Rattle.book.specs.Opening.{sound, lineAt, lineBytes, linesIn, restIn}
-use Rattle.book.specs.Call.{Answer, bare, onLine, blockNumber, numberOf, done, letterOf, lineAnswer, answerOf, quads, tally, gapTold, report, lineAfter, advanced, messagesOn, toldOn, advanceOn, afterCall, numberOn, call}
-use Rattle.book.specs.Code.{Ran, ran, gateOn, gateOf, reportOf, TakenBlock, taken}
+use Rattle.block.specs.Block.{messagesOf, countIn, idleBlock, checked, answerLength}
+use Rattle.opening.specs.declared.Line.{Line}
+use Rattle.line.specs.declared.Gate.{Gate}
+use Rattle.line.specs.declared.Gate.the-variants as gate
+use Rattle.opening.specs.Opening.{sound, lineBytes, linesIn, restIn, lineAfter}
+use Rattle.line.specs.Line.{onLine, blockNumber, done, gapTold, advanced, checkedNumberOf}
+use Rattle.book.specs.Call.{Answer, bare, numberOf, letterOf, lineAnswer, answerOf, report, advanceOn, afterCall, numberOn, call}
+use Rattle.told.specs.Told.{quads, tally}
+use Rattle.work.specs.Work.{messagesOn, toldOn}
+use Rattle.work.specs.code.Steps.{Ran, ran}
+use Rattle.book.specs.Buffers.{reportOf, TakenBlock, taken}
+use Rattle.line.specs.code.Gate.{gateOn, gateOf}
 use Rattle.lists.specs.Lists.{upper}
 use Rattle.lists.proofs.Tests.{clash}
 use borrow.Author.Tests.{ltb-false}
-use Rattle.book.specs.declared.Tally.{Tally}
+use Rattle.told.specs.declared.Tally.{Tally}
 use Rattle.block.specs.declared.Checked.{Checked}
 use Rattle.block.specs.declared.Checked.the-variants as checks
 use Rattle.block.proofs.CheckLaws.{passed}
-use Rattle.book.specs.Call.{checkedNumberOf}
-use Rattle.book.proofs.LineLaws.{line-upper, line-open}
-use Rattle.book.proofs.GateLaws.{block-nine, refused-done}
+use Rattle.opening.proofs.LineLaws.{line-upper, line-open}
+use Rattle.line.proofs.GateLaws.{block-nine, refused-done}
+use Rattle.opening.specs.Layout.{lineCount, lineAt}
 
 -- the book, the report and the answer buffer by what the checks give
 abbrev pub takenBy : List ℕ → ℕ → List ℕ → List ℕ → Gate → TakenBlock
@@ -94,14 +99,14 @@ module _ (b : List ℕ) (i : ℕ) (k a : List ℕ) (day : Bool) where
 
 pub taken-is : (b : List ℕ) (i : ℕ) (k a : List ℕ) → taken b i k a ≡ takenBy b i k a (gateOf b i k (length a))
 unfolding taken call numberOn numberOf answerOf afterCall gateOf restIn
-taken-is b i k a = by b i k a (restIn b .day) (sound b) (ltb (length a) 180) (linesIn b i)
+taken-is b i k a = by b i k a (restIn b .day) (sound b) (ltb (length a) answerLength) (linesIn b i)
 
 -- ---- what a block has behind the checks
 
 pub record Entered (b : List ℕ) (i : ℕ) (k : List ℕ) (room c : ℕ) (x : Line) : Type 0 where
   pub good : sound b ≡ true
-  pub wide : 180 ≤ room
-  pub low : i < 64
+  pub wide : answerLength ≤ room
+  pub low : i < lineCount
   pub passes : checked k ≡ checks.Pass c
   pub letter : upper (x .letter) ≡ true
 
@@ -116,9 +121,9 @@ taken-passes r day k = go (checked k) refl
 
 pub entered : (b : List ℕ) (i : ℕ) (k : List ℕ) (room : ℕ) (n g c : ℕ) (x : Line) → gateOf b i k room ≡ gate.Taken n g c x → Entered b i k room c x
 unfolding gateOf
-entered b i k room n g c x = go (sound b) refl (ltb room 180) refl (linesIn b i) refl
+entered b i k room n g c x = go (sound b) refl (ltb room answerLength) refl (linesIn b i) refl
   where
-    line : (r : Line) → linesIn b i ≡ some r → sound b ≡ true → 180 ≤ room → (d : Bool) → done (blockNumber r (restIn b .day) k) ≡ d
+    line : (r : Line) → linesIn b i ≡ some r → sound b ≡ true → answerLength ≤ room → (d : Bool) → done (blockNumber r (restIn b .day) k) ≡ d
         → cond d (gate.Taken (blockNumber r (restIn b .day) k) (gapTold r k) (countIn k) (advanced r k)) (gate.Refused (blockNumber r (restIn b .day) k) r) ≡ gate.Taken n g c x
         → Entered b i k room c x
     line r eo es h true ed e =
@@ -133,12 +138,12 @@ entered b i k room n g c x = go (sound b) refl (ltb room 180) refl (linesIn b i)
         }
     line r eo es h false ed e = clash (cc)
 
-    go : (s : Bool) → sound b ≡ s → (t : Bool) → ltb room 180 ≡ t → (o : Option Line) → linesIn b i ≡ o
+    go : (s : Bool) → sound b ≡ s → (t : Bool) → ltb room answerLength ≡ t → (o : Option Line) → linesIn b i ≡ o
         → cond s (cond t (gate.Bare 9) (gateOn (restIn b .day) k o)) (gate.Bare 1) ≡ gate.Taken n g c x → Entered b i k room c x
     go false es t et o eo e = clash (cc)
     go true es true et o eo e = clash (cc)
     go true es false et none eo e = clash (cc)
-    go true es false et (some r) eo e = line r eo es (ltb-false room 180 et) (done (blockNumber r (restIn b .day) k)) refl e
+    go true es false et (some r) eo e = line r eo es (ltb-false room answerLength et) (done (blockNumber r (restIn b .day) k)) refl e
 
 -- ---- the call, by the arm that the checks gave
 

@@ -1,3 +1,3 @@
-pub mod Opening
 pub mod Call
-pub mod Code
+pub mod Buffers
+pub mod code

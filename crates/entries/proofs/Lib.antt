@@ -1,11 +1,3 @@
-pub mod ReadLaws
-pub mod StepLaws
-pub mod OddLaws
-pub mod CutLaws
-pub mod Cases
-pub mod EntriesLaws
 pub mod FinraLaws
-pub mod PublicationLaws
-pub mod StandingLaws
-pub mod FrameLaws
-pub mod BlankLaws
+pub mod LengthLaws
+pub mod NoneLaws

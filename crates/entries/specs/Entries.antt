@@ -5,6 +5,7 @@ use mathlib.Core.Bool.{Bool, true, cond}
 use mathlib.Core.List.{List, []}
 use mathlib.Core.Option.{Option, none, some}
 use lib.Dec.{eqb}
+use Rattle.field.specs.Ascii.{A, D, S, space}
 use Rattle.lists.specs.Lists.{mapOption, collect, gather, range}
 use Rattle.ranking.specs.declared.Side.{Side}
 use Rattle.ranking.specs.declared.Candidate.{Candidate}
@@ -27,7 +28,7 @@ pub record Entries : Type 0 where
 
 -- A to Z
 unfoldable pub letters : List ℕ
-letters = range 26 65
+letters = range 26 A
 
 -- "FINRA best: over makers' counting sides"
 unfoldable pub makerCandidate : Side → Maker → Option Candidate
@@ -38,11 +39,11 @@ finraBest ms s = best (better s) (collect (makerCandidate s) ms)
 
 -- "D standing with its FINRA best and that maker's condition"
 unfoldable pub asD : Candidate → Candidate
-asD c = record { name = 68; price = c .price; size = c .size; time = c .time; condition = c .condition }
+asD c = record { name = D; price = c .price; size = c .size; time = c .time; condition = c .condition }
 
--- D (68) by its FINRA best; S (83), the processor, has nothing; any other letter by its quote
+-- D by its FINRA best; S, the processor, has nothing; any other letter by its quote
 unfoldable pub letterCandidate : Side → (ℕ → Quote) → Option Candidate → ℕ → Option Candidate
-letterCandidate s quotes fb l = cond (eqb l 68) (mapOption asD fb) (cond (eqb l 83) none (candidateOf s l (quotes l)))
+letterCandidate s quotes fb l = cond (eqb l D) (mapOption asD fb) (cond (eqb l S) none (candidateOf s l (quotes l)))
 
 -- "National best: the same over letters"
 unfoldable pub nationalBest : (ℕ → Quote) → (Side → Option Candidate) → Side → Option Candidate
@@ -54,10 +55,10 @@ beyond s none p = true
 beyond s (some c) p = ahead s p (c .price)
 
 unfoldable pub oddCandidate : Side → Option Candidate → ℕ → Level → Option Candidate
-oddCandidate s nb l v = cond (beyond s nb (v .price)) (some (levelCandidate l 32 v)) none
+oddCandidate s nb l v = cond (beyond s nb (v .price)) (some (levelCandidate l space v)) none
 
 unfoldable pub letterLevels : Side → (ℕ → Standing) → ℕ → List Level
-letterLevels s levels l = cond (eqb l 83) [] (sideLevels s (levels l))
+letterLevels s levels l = cond (eqb l S) [] (sideLevels s (levels l))
 
 -- "Odd best: over all letters' levels", ordered likewise
 unfoldable pub oddBest : (ℕ → Standing) → (Side → Option Candidate) → Side → Option Candidate

@@ -1,4 +1,4 @@
--- A publication's 96 bytes, and which of its entries changed (document 01, "Publication" and the change flags).
+-- A publication's bytes, and which of its entries changed (document 01, "Publication" and the change flags).
 -- Assumes nothing.
 use Prim.Native.Nat.{ℕ, _+_, _*_, _^_}
 use mathlib.Core.Bool.{Bool, true, false, _&&_}
@@ -7,13 +7,21 @@ use mathlib.Core.Option.{Option, none, some}
 use lib.Dec.{eqb}
 use lib.ListN.{replicate}
 use Rattle.field.specs.Field.{field, beBytes}
+use Rattle.field.specs.Ascii.{space}
 use Rattle.ranking.specs.declared.Side.the-variants.{Bid, Offer}
 use Rattle.ranking.specs.declared.Candidate.{Candidate}
 use Rattle.entries.specs.Entries.{Entries}
 
+-- "six entries of 16 bytes: 4 bytes of name, price 8, size 4"
+abbrev pub entryLength : ℕ
+entryLength = 16
+
+abbrev pub publicationLength : ℕ
+publicationLength = 6 * entryLength
+
 -- "None is four spaces and zeros"
 unfoldable pub noEntry : List ℕ
-noEntry = 32 ∷ 32 ∷ 32 ∷ 32 ∷ replicate 12 0
+noEntry = space ∷ space ∷ space ∷ space ∷ replicate 12 0
 
 -- "4 bytes of name, price 8, size 4"
 abbrev pub entryBytes : (Candidate → List ℕ) → Option Candidate → List ℕ
@@ -22,7 +30,7 @@ entryBytes name (some c) = name c ++ (beBytes 8 (c .price) ++ beBytes 4 (c .size
 
 -- "national: letter, condition, two spaces"
 abbrev pub nationalName : Candidate → List ℕ
-nationalName c = beBytes 1 (c .name) ++ beBytes 1 (c .condition) ++ (32 ∷ 32 ∷ [])
+nationalName c = beBytes 1 (c .name) ++ beBytes 1 (c .condition) ++ (space ∷ space ∷ [])
 
 -- "FINRA: maker"
 abbrev pub finraName : Candidate → List ℕ
@@ -30,7 +38,7 @@ finraName c = beBytes 4 (c .name)
 
 -- "odd: letter, three spaces"
 abbrev pub oddName : Candidate → List ℕ
-oddName c = beBytes 1 (c .name) ++ (32 ∷ 32 ∷ 32 ∷ [])
+oddName c = beBytes 1 (c .name) ++ (space ∷ space ∷ space ∷ [])
 
 -- "national bid, offer, FINRA bid, offer, odd bid, offer"
 unfoldable pub publication : Entries → List ℕ
@@ -50,7 +58,7 @@ noEntries = noEntry ++ (noEntry ++ (noEntry ++ (noEntry ++ (noEntry ++ noEntry))
 -- entry k: name, price and size
 abbrev pub sameEntry : List ℕ → List ℕ → ℕ → Bool
 sameEntry a b k =
-    eqb (field a (16 * k) 4) (field b (16 * k) 4) && eqb (field a (16 * k + 4) 8) (field b (16 * k + 4) 8) && eqb (field a (16 * k + 12) 4) (field b (16 * k + 12) 4)
+    eqb (field a (entryLength * k) 4) (field b (entryLength * k) 4) && eqb (field a (entryLength * k + 4) 8) (field b (entryLength * k + 4) 8) && eqb (field a (entryLength * k + 12) 4) (field b (entryLength * k + 12) 4)
 
 -- "1 national bid, 2 national offer, 4 FINRA bid, 8 FINRA offer, 16 odd bid, 32 odd offer, set exactly if that published entry changed"
 abbrev pub flag : ℕ → Bool → ℕ

@@ -8,7 +8,8 @@ use native.Mathlib.Numerals.{add-one}
 use lib.Dec.{lit<}
 use lib.ListN.{length, take, drop}
 use Rattle.field.specs.Field.{Bytes, be, beBytes, part, field, splice}
-use Rattle.field.specs.Low.{le, leBytes, low, swapped}
+use Rattle.field.specs.Low.{le, leBytes, low}
+use Rattle.field.specs.code.Swap.{swapped}
 use Rattle.field.proofs.Laws.{be-append, length-beBytes, bytes-beBytes, beBytes-join, part-join, part-part, length-part, bytes-part, splice-join}
 
 -- ---- le

@@ -5,7 +5,8 @@ ghost use mathlib.Core.Path.{_≡_};
 ghost use Prim.Native.Nat.{_+_, _≤_};
 ghost use lib.ListN.{length, getD};
 ghost use Rattle.field.specs.Field.{field, splice, beBytes};
-ghost use Rattle.field.specs.Low.{low, leBytes, swapped};
+ghost use Rattle.field.specs.Low.{low, leBytes};
+ghost use Rattle.field.specs.code.Swap.{swapped};
 
 /// The byte at `at`, 0 past the end: for a reader that does not know the length yet.
 pub fn byte(s: &[u8], at: usize) -> u8

@@ -1,6 +1,6 @@
 -- The definitions of `Cells.antt` as the code meets them: what a call returned stands as a variable, with an equation.
 -- Assumes nothing.
-use Prim.Native.Nat.{ℕ, _+_, _-_, _≤_, _<_}
+use Prim.Native.Nat.{ℕ, _+_, _*_, _-_, _≤_, _<_}
 use mathlib.Core.Path.{_≡_, refl, sym, ap, _∙_}
 use mathlib.Core.Bool.{Bool, true, false, cond}
 use mathlib.Core.List.{List, [], _∷_, _++_, map, append-assoc, append-nil}
@@ -15,16 +15,16 @@ use Rattle.field.proofs.Laws.{part-part, splice-join}
 use Rattle.lists.proofs.Tests.{Cut, equal, apart, cut}
 use Rattle.ranking.specs.declared.Side.{Side}
 use Rattle.ranking.specs.declared.Side.the-variants.{Bid, Offer}
-use Rattle.ranking.specs.Choice.{rankOf}
+use Rattle.ranking.specs.code.Choice.{rankOf}
 use Rattle.quote.specs.declared.Level.{Level}
-use Rattle.quote.specs.Quote.{noLevel, levelIn, levelBytes}
+use Rattle.quote.specs.Quote.{noLevel, levelIn, levelBytes, levelLength}
 use Rattle.levels.specs.declared.Levels.{Levels}
 use Rattle.levels.specs.declared.Item.{Item}
 use Rattle.levels.specs.declared.Pair.{Pair}
 use Rattle.levels.specs.declared.Changed.{Changed}
 use Rattle.levels.specs.declared.Judged.the-variants.{Refused}
-use Rattle.levels.specs.Levels.{cellsIn, sideIn}
-use Rattle.levels.specs.Cells.{cellsOf, bytesOf, leads, standing, standingBehind, orderedOf, keptOf, overOf, withoutOf, holdsOf, replacedOf, passed, levelOf, withItem}
+use Rattle.levels.specs.Levels.{cellsIn, sideIn, sideLength}
+use Rattle.levels.specs.code.Cells.{cellsOf, joinedLevels, leads, standing, standingBehind, orderedOf, keptOf, overOf, withoutOf, holdsOf, replacedOf, passed, levelOf, withItem}
 use Rattle.levels.proofs.ReadingLaws.{read-four}
 
 -- the length of an array of structs, as owning it tells
@@ -102,32 +102,32 @@ module _ (ls : List Level) (d : Level) (n : length ls ≡ 4) where
 
   -- four cells written in a row
   pub put-is : (p : List ℕ) (at : ℕ) →
-      splice (splice (splice (splice p at (levelBytes (getD ls 0 d))) (at + 20) (levelBytes (getD ls 1 d))) (at + 40) (levelBytes (getD ls 2 d))) (at + 60) (levelBytes (getD ls 3 d)) ≡ splice p at (bytesOf ls)
-  unfolding bytesOf levelBytes leBytes
+      splice (splice (splice (splice p at (levelBytes (getD ls 0 d))) (at + levelLength) (levelBytes (getD ls 1 d))) (at + 2 * levelLength) (levelBytes (getD ls 2 d))) (at + 3 * levelLength) (levelBytes (getD ls 3 d)) ≡ splice p at (joinedLevels ls)
+  unfolding joinedLevels levelBytes leBytes
   put-is p at =
-      rw (splice-join p at 20 _ _ refl, splice-join p at 40 _ _ refl, splice-join p at 60 _ _ refl)
-      (ap (splice p at) (regroup (levelBytes (getD ls 0 d)) (levelBytes (getD ls 1 d)) (levelBytes (getD ls 2 d)) (levelBytes (getD ls 3 d)) ∙ sym (ap bytesOf (as-four ls d n))))
+      rw (splice-join p at levelLength _ _ refl, splice-join p at (2 * levelLength) _ _ refl, splice-join p at (3 * levelLength) _ _ refl)
+      (ap (splice p at) (regroup (levelBytes (getD ls 0 d)) (levelBytes (getD ls 1 d)) (levelBytes (getD ls 2 d)) (levelBytes (getD ls 3 d)) ∙ sym (ap joinedLevels (as-four ls d n))))
 
-  pub put-four : (p q0 q1 q2 q3 : List ℕ) (at : ℕ) → q0 ≡ splice p at (levelBytes (getD ls 0 d)) → q1 ≡ splice q0 (at + 20) (levelBytes (getD ls 1 d))
-      → q2 ≡ splice q1 (at + 40) (levelBytes (getD ls 2 d)) → q3 ≡ splice q2 (at + 60) (levelBytes (getD ls 3 d)) → q3 ≡ splice p at (bytesOf ls)
+  pub put-four : (p q0 q1 q2 q3 : List ℕ) (at : ℕ) → q0 ≡ splice p at (levelBytes (getD ls 0 d)) → q1 ≡ splice q0 (at + levelLength) (levelBytes (getD ls 1 d))
+      → q2 ≡ splice q1 (at + 2 * levelLength) (levelBytes (getD ls 2 d)) → q3 ≡ splice q2 (at + 3 * levelLength) (levelBytes (getD ls 3 d)) → q3 ≡ splice p at (joinedLevels ls)
   put-four p q0 q1 q2 q3 at e0 e1 e2 e3 = rw (e3, e2, e1, e0) (put-is p at)
 
 -- the four cells of a part of a page
-cells-at : (p : List ℕ) (at : ℕ) → cellsIn 4 (part p at 80) ≡ levelIn (part p at 20) ∷ levelIn (part p (at + 20) 20) ∷ levelIn (part p (at + 40) 20) ∷ levelIn (part p (at + 60) 20) ∷ []
+cells-at : (p : List ℕ) (at : ℕ) → cellsIn 4 (part p at sideLength) ≡ levelIn (part p at levelLength) ∷ levelIn (part p (at + levelLength) levelLength) ∷ levelIn (part p (at + 2 * levelLength) levelLength) ∷ levelIn (part p (at + 3 * levelLength) levelLength) ∷ []
 unfolding cellsIn part
 cells-at p at =
-    let b : List ℕ = take 80 (drop at p) in
-    let c0 : take 20 b ≡ take 20 (drop at p) = take-take 20 80 (drop at p) (lit≤ tt) in
-    let c1 : take 20 (drop 20 b) ≡ take 20 (drop (at + 20) p) = part-part p at 80 20 20 (lit≤ tt) in
-    let c2 : take 20 (drop 20 (drop 20 b)) ≡ take 20 (drop (at + 40) p) = ap (take 20) (drop-drop 20 20 b) ∙ part-part p at 80 40 20 (lit≤ tt) in
-    let c3 : take 20 (drop 20 (drop 20 (drop 20 b))) ≡ take 20 (drop (at + 60) p) =
-    ap (λ (l : List ℕ). take 20 (drop 20 l)) (drop-drop 20 20 b) ∙ ap (take 20) (drop-drop 20 40 b) ∙ part-part p at 80 60 20 (lit≤ tt) in
+    let b : List ℕ = take sideLength (drop at p) in
+    let c0 : take levelLength b ≡ take levelLength (drop at p) = take-take levelLength sideLength (drop at p) (lit≤ tt) in
+    let c1 : take levelLength (drop levelLength b) ≡ take levelLength (drop (at + levelLength) p) = part-part p at sideLength levelLength levelLength (lit≤ tt) in
+    let c2 : take levelLength (drop levelLength (drop levelLength b)) ≡ take levelLength (drop (at + 2 * levelLength) p) = ap (take levelLength) (drop-drop levelLength levelLength b) ∙ part-part p at sideLength (2 * levelLength) levelLength (lit≤ tt) in
+    let c3 : take levelLength (drop levelLength (drop levelLength (drop levelLength b))) ≡ take levelLength (drop (at + 3 * levelLength) p) =
+    ap (λ (l : List ℕ). take levelLength (drop levelLength l)) (drop-drop levelLength levelLength b) ∙ ap (take levelLength) (drop-drop levelLength (2 * levelLength) b) ∙ part-part p at sideLength (3 * levelLength) levelLength (lit≤ tt) in
     λ i. levelIn (c0 i) ∷ levelIn (c1 i) ∷ levelIn (c2 i) ∷ levelIn (c3 i) ∷ []
 
 pub read-is : (s : Side) (p : List ℕ) (at : ℕ) (a b c e w x y z : Level)
-    → a ≡ levelIn (part p at 20) → b ≡ levelIn (part p (at + 20) 20) → c ≡ levelIn (part p (at + 40) 20) → e ≡ levelIn (part p (at + 60) 20)
+    → a ≡ levelIn (part p at levelLength) → b ≡ levelIn (part p (at + levelLength) levelLength) → c ≡ levelIn (part p (at + 2 * levelLength) levelLength) → e ≡ levelIn (part p (at + 3 * levelLength) levelLength)
     → w ≡ standing a → x ≡ standingBehind s w b → y ≡ standingBehind s x c → z ≡ standingBehind s y e
-    → w ∷ x ∷ y ∷ z ∷ [] ≡ cellsOf (sideIn s (part p at 80))
+    → w ∷ x ∷ y ∷ z ∷ [] ≡ cellsOf (sideIn s (part p at sideLength))
 unfolding sideIn
 read-is s p at a b c e w x y z ea eb ec ee ew ex ey ez =
     rw (cells-at p at, ← ea, ← eb, ← ec, ← ee, ← read-four s a b c e, ← ew, ← ex, ← ey, ← ez)

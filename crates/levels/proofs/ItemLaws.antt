@@ -14,7 +14,7 @@ use Rattle.ranking.specs.declared.Side.{Side}
 use Rattle.quote.specs.declared.Level.{Level}
 use Rattle.levels.specs.declared.Item.{Item}
 use Rattle.levels.specs.Levels.{without, insert, itemOn}
-use Rattle.levels.specs.Cells.{levelOf}
+use Rattle.levels.specs.code.Cells.{levelOf}
 use Rattle.levels.proofs.LevelLaws.{Lacks, none-some, without-elim, without-lacks, without-none, insert-elim, item-elim}
 
 -- the level of a price

@@ -9,7 +9,7 @@ use native.Mathlib.Omega.{arith}
 use borrow.Author.Tests.{ltb-true, ltb-false, lt-ltb, eqb-true, eqb-false, ne-eqb}
 use lib.Dec.{ltb, eqb}
 use lib.ListN.{length}
-use Rattle.lists.specs.Lists.{bindOption, mapOption, orElse, member}
+use Rattle.lists.specs.Lists.{bindOption, mapOption, orElse}
 use Rattle.lists.proofs.Tests.{clash}
 use Rattle.ranking.specs.declared.Side.{Side}
 use Rattle.ranking.specs.declared.Side.the-variants.{Bid, Offer}
@@ -17,8 +17,8 @@ use Rattle.ranking.specs.Ranking.{ahead}
 use Rattle.quote.specs.declared.Level.{Level}
 use Rattle.quote.specs.Quote.{LevelFits}
 use Rattle.levels.specs.declared.Item.{Item}
-use Rattle.levels.specs.Levels.{Standing, noLevels, Odd, without, insert, itemOn, itemsOn, clearedBy, oddOn, emptyCell}
-use Rattle.levels.specs.Cells.{levelOf}
+use Rattle.levels.specs.Levels.{Standing, noLevels, Odd, without, insert, itemOn, itemsOn, clears, clearedBy, oddOn, emptyCell}
+use Rattle.levels.specs.code.Cells.{levelOf}
 
 -- ---- what holds of the levels of a side
 
@@ -234,15 +234,11 @@ items-good s t (i ∷ is) ls ms g k e = go (itemOn s t i ls) refl (λ l. items-g
 
 pub cleared-elim : (P : List Level → Type 0) (mark : ℕ) (s : Side) (ls : List Level) → P [] → P ls → P (clearedBy mark s ls)
 unfolding clearedBy
-cleared-elim P mark s ls e k = side s
+cleared-elim P mark s ls e k = go (clears mark s)
   where
     go : (t : Bool) → P (cond t [] ls)
     go true = e
     go false = k
-
-    side : (s : Side) → P (clearedBy mark s ls)
-    side Bid = go (member (66 ∷ 88 ∷ []) mark)
-    side Offer = go (member (83 ∷ 88 ∷ []) mark)
 
 pub record OddGood (o : Odd) : Type 0 where
   pub bids : ItemsGood (o .time) (o .bids)

@@ -3,7 +3,3 @@ pub mod ItemLaws
 pub mod SideLaws
 pub mod ReadingLaws
 pub mod CellLaws
-pub mod PartLaws
-pub mod OddLaws
-pub mod AnswerLaws
-pub mod Cases

@@ -9,7 +9,6 @@ use native.Mathlib.Omega.{arith}
 use borrow.Author.Tests.{ltb-true, ltb-false, lt-ltb, le-ltb, eqb-false, ne-eqb}
 use lib.Dec.{ltb, eqb}
 use lib.ListN.{length}
-use Rattle.lists.specs.Lists.{bindOption, member}
 use Rattle.lists.proofs.Tests.{Cut, equal, apart, cut, clash}
 use Rattle.ranking.specs.declared.Side.{Side}
 use Rattle.ranking.specs.declared.Side.the-variants.{Bid, Offer}
@@ -21,9 +20,9 @@ use Rattle.levels.specs.declared.Item.{Item}
 use Rattle.levels.specs.declared.Pair.{Pair}
 use Rattle.levels.specs.declared.Changed.{Changed}
 use Rattle.levels.specs.declared.Judged.the-variants.{Refused}
-use Rattle.levels.specs.Levels.{without, insert, itemOn, itemsOn, clearedBy, emptyCell, ranked}
-use Rattle.levels.specs.Cells.{padded, cellsOf, leads, standing, standingBehind, orderedOf, keptOf, overOf, headOr, withoutOf, holdsOf, replacedOf, passed, levelOf, withItem, withItems, onPass, clears, noCells, withPart}
-use Rattle.levels.proofs.LevelLaws.{Behind, Ranked, Lacks, cell-priced, behind-lacks, without-none, without-short, insert-front, item-short, item-ranked, cleared-elim}
+use Rattle.levels.specs.Levels.{without, insert, itemOn, emptyCell, ranked}
+use Rattle.levels.specs.code.Cells.{paddedCells, cellsOf, leads, standing, standingBehind, orderedOf, keptOf, overOf, headOr, withoutOf, holdsOf, replacedOf, passed, levelOf, withItem}
+use Rattle.levels.proofs.LevelLaws.{Behind, Ranked, Lacks, cell-priced, behind-lacks, without-none, without-short, insert-front}
 
 -- ---- which price goes first
 
@@ -45,13 +44,13 @@ readBehind : Side → Level → List Level → List Level
 readBehind s y [] = []
 readBehind s y (x ∷ xs) = standingBehind s y x ∷ readBehind s (standingBehind s y x) xs
 
-read-none : (s : Side) (xs : List Level) → readBehind s noLevel xs ≡ padded (length xs) []
-unfolding readBehind standingBehind leads padded
+read-none : (s : Side) (xs : List Level) → readBehind s noLevel xs ≡ paddedCells (length xs) []
+unfolding readBehind standingBehind leads paddedCells
 read-none s [] = refl
 read-none s (x ∷ xs) = ap (λ (l : List Level). noLevel ∷ l) (read-none s xs)
 
-read-behind : (s : Side) (y : Level) (xs : List Level) → eqb (y .price) 0 ≡ false → readBehind s y xs ≡ padded (length xs) (ranked s (some y) xs)
-unfolding readBehind standingBehind standing padded ranked
+read-behind : (s : Side) (y : Level) (xs : List Level) → eqb (y .price) 0 ≡ false → readBehind s y xs ≡ paddedCells (length xs) (ranked s (some y) xs)
+unfolding readBehind standingBehind standing paddedCells ranked
 read-behind s y [] z = refl
 read-behind s y (x ∷ xs) z = go (read-behind s x xs) (emptyCell x) refl (leads s (y .price) (x .price)) refl
   where
@@ -59,19 +58,19 @@ read-behind s y (x ∷ xs) z = go (read-behind s x xs) (emptyCell x) refl (leads
     none-here true = refl
     none-here false = refl
 
-    go : (eqb (x .price) 0 ≡ false → readBehind s x xs ≡ padded (length xs) (ranked s (some x) xs)) → (a : Bool) → emptyCell x ≡ a → (b : Bool) → leads s (y .price) (x .price) ≡ b
+    go : (eqb (x .price) 0 ≡ false → readBehind s x xs ≡ paddedCells (length xs) (ranked s (some x) xs)) → (a : Bool) → emptyCell x ≡ a → (b : Bool) → leads s (y .price) (x .price) ≡ b
         → cond b (cond a noLevel x) noLevel ∷ readBehind s (cond b (cond a noLevel x) noLevel) xs
-        ≡ padded (suc (length xs)) (cond a [] (cond (ahead s (y .price) (x .price)) (x ∷ ranked s (some x) xs) []))
+        ≡ paddedCells (suc (length xs)) (cond a [] (cond (ahead s (y .price) (x .price)) (x ∷ ranked s (some x) xs) []))
     go down true e b f = rw (none-here b) (ap (λ (l : List Level). noLevel ∷ l) (read-none s xs))
     go down false e true f = rw (sym (leads-ahead s (y .price) (x .price) z (cell-priced x e)) ∙ f) (ap (λ (l : List Level). x ∷ l) (down (cell-priced x e)))
     go down false e false f = rw (sym (leads-ahead s (y .price) (x .price) z (cell-priced x e)) ∙ f) (ap (λ (l : List Level). noLevel ∷ l) (read-none s xs))
 
 pub read-four : (s : Side) (a b c d : Level)
     → (let x = standing a in let y = standingBehind s x b in let z = standingBehind s y c in x ∷ y ∷ z ∷ standingBehind s z d ∷ []) ≡ cellsOf (ranked s none (a ∷ b ∷ c ∷ d ∷ []))
-unfolding readBehind standing ranked padded
+unfolding readBehind standing ranked paddedCells
 read-four s a b c d = go (emptyCell a) refl
   where
-    go : (t : Bool) → emptyCell a ≡ t → cond t noLevel a ∷ readBehind s (cond t noLevel a) (b ∷ c ∷ d ∷ []) ≡ padded 4 (cond t [] (a ∷ ranked s (some a) (b ∷ c ∷ d ∷ [])))
+    go : (t : Bool) → emptyCell a ≡ t → cond t noLevel a ∷ readBehind s (cond t noLevel a) (b ∷ c ∷ d ∷ []) ≡ paddedCells 4 (cond t [] (a ∷ ranked s (some a) (b ∷ c ∷ d ∷ [])))
     go true e = ap (λ (l : List Level). noLevel ∷ l) (read-none s (b ∷ c ∷ d ∷ []))
     go false e = ap (λ (l : List Level). a ∷ l) (read-behind s a (b ∷ c ∷ d ∷ []) (cell-priced a e))
 
@@ -84,8 +83,8 @@ module _ (p : ℕ) where
   without-lacking (y ∷ ys) l = rw (ne-eqb (y .price) p (l .0)) (ap (λ (z : List Level). y ∷ z) (without-lacking ys (l .1)))
 
   -- those behind move up
-  moved : (k : ℕ) (xs : List Level) → length xs ≤ k → headOr (padded k xs) ∷ withoutOf true p (padded k xs) ≡ padded (suc k) xs
-  unfolding withoutOf padded
+  moved : (k : ℕ) (xs : List Level) → length xs ≤ k → headOr (paddedCells k xs) ∷ withoutOf true p (paddedCells k xs) ≡ paddedCells (suc k) xs
+  unfolding withoutOf paddedCells
   moved zero [] h = refl
   moved zero (x ∷ xs) h = absurd (omega arith)
   moved (suc k) [] h = ap (λ (z : List Level). noLevel ∷ z) (moved k [] (omega arith))
@@ -129,25 +128,25 @@ module _ (p : ℕ) where
   -- ---- the same on cells: a price is none of the empty ones
 
   module _ (n : p ≡ 0 → ⊥) where
-    lacks-cells : (k : ℕ) (ls : List Level) → Lacks p ls → Lacks p (padded k ls)
-    unfolding padded
+    lacks-cells : (k : ℕ) (ls : List Level) → Lacks p ls → Lacks p (paddedCells k ls)
+    unfolding paddedCells
     lacks-cells zero ls l = tt
     lacks-cells (suc k) [] l = ((λ e. n (sym e)), lacks-cells k [] tt)
     lacks-cells (suc k) (x ∷ xs) l = (l .0, lacks-cells k xs (l .1))
 
-    without-cells : (s : Side) (k : ℕ) (ls : List Level) → length ls ≤ k → Ranked s ls → withoutOf false p (padded k ls) ≡ padded k (without p ls)
-    unfolding withoutOf padded without
-    without-cells s k [] h r = without-lacking (padded k []) (lacks-cells k [] tt)
+    without-cells : (s : Side) (k : ℕ) (ls : List Level) → length ls ≤ k → Ranked s ls → withoutOf false p (paddedCells k ls) ≡ paddedCells k (without p ls)
+    unfolding withoutOf paddedCells without
+    without-cells s k [] h r = without-lacking (paddedCells k []) (lacks-cells k [] tt)
     without-cells s zero (x ∷ xs) h r = absurd (omega arith)
     without-cells s (suc k) (x ∷ xs) h r = go (cut (x .price) p) (without-cells s k xs (omega arith) (r .2))
       where
-        go : Cut (x .price) p → withoutOf false p (padded k xs) ≡ padded k (without p xs) → withoutOf false p (padded (suc k) (x ∷ xs)) ≡ padded (suc k) (without p (x ∷ xs))
+        go : Cut (x .price) p → withoutOf false p (paddedCells k xs) ≡ paddedCells k (without p xs) → withoutOf false p (paddedCells (suc k) (x ∷ xs)) ≡ paddedCells (suc k) (without p (x ∷ xs))
         go (equal t e) d = rw (t, without-none p xs (behind-lacks s p xs (rw e at (r .1)))) (moved k xs (omega arith))
         go (apart t e) d = rw (t, d)
 
-    holds-cells : (k : ℕ) (ls : List Level) → length ls ≤ k → holdsOf p (padded k ls) ≡ holdsOf p ls
-    unfolding holdsOf padded
-    holds-cells k [] h = holds-lacking (padded k []) (lacks-cells k [] tt)
+    holds-cells : (k : ℕ) (ls : List Level) → length ls ≤ k → holdsOf p (paddedCells k ls) ≡ holdsOf p ls
+    unfolding holdsOf paddedCells
+    holds-cells k [] h = holds-lacking (paddedCells k []) (lacks-cells k [] tt)
     holds-cells zero (x ∷ xs) h = absurd (omega arith)
     holds-cells (suc k) (x ∷ xs) h = ap (cond (eqb (x .price) p) true) (holds-cells k xs (omega arith))
 
@@ -157,32 +156,32 @@ module _ (s : Side) (x : Level) (n : x .price ≡ 0 → ⊥) where
   replaced-lacking [] l = refl
   replaced-lacking (y ∷ ys) l = rw (ne-eqb (y .price) (x .price) (l .0)) (ap (λ (z : List Level). y ∷ z) (replaced-lacking ys (l .1)))
 
-  replaced-cells : (k : ℕ) (ls : List Level) → length ls ≤ k → Ranked s ls → holdsOf (x .price) ls ≡ true → replacedOf x (padded k ls) ≡ padded k (insert s x (without (x .price) ls))
-  unfolding replacedOf padded holdsOf without insert
+  replaced-cells : (k : ℕ) (ls : List Level) → length ls ≤ k → Ranked s ls → holdsOf (x .price) ls ≡ true → replacedOf x (paddedCells k ls) ≡ paddedCells k (insert s x (without (x .price) ls))
+  unfolding replacedOf paddedCells holdsOf without insert
   replaced-cells k [] h r e = clash (sym e)
   replaced-cells zero (y ∷ ys) h r e = absurd (omega arith)
   replaced-cells (suc k) (y ∷ ys) h r e = go (cut (y .price) (x .price)) e (replaced-cells k ys (omega arith) (r .2))
     where
       go : Cut (y .price) (x .price) → cond (eqb (y .price) (x .price)) true (holdsOf (x .price) ys) ≡ true
-          → (holdsOf (x .price) ys ≡ true → replacedOf x (padded k ys) ≡ padded k (insert s x (without (x .price) ys)))
-          → replacedOf x (padded (suc k) (y ∷ ys)) ≡ padded (suc k) (insert s x (without (x .price) (y ∷ ys)))
+          → (holdsOf (x .price) ys ≡ true → replacedOf x (paddedCells k ys) ≡ paddedCells k (insert s x (without (x .price) ys)))
+          → replacedOf x (paddedCells (suc k) (y ∷ ys)) ≡ paddedCells (suc k) (insert s x (without (x .price) (y ∷ ys)))
       go (equal t e) f d =
           let b : Behind s (x .price) ys = rw e at (r .1) in
           let l : Lacks (x .price) ys = behind-lacks s (x .price) ys b in
-          rw (t, without-none (x .price) ys l, insert-front s x ys b, replaced-lacking (padded k ys) (lacks-cells (x .price) n k ys l))
+          rw (t, without-none (x .price) ys l, insert-front s x ys b, replaced-lacking (paddedCells k ys) (lacks-cells (x .price) n k ys l))
       go (apart t e) f d =
           let g : holdsOf (x .price) ys ≡ true = rw t at f in
           rw (t, ahead-not s (y .price) (x .price) (held-behind (x .price) s (y .price) ys (r .1) g), d g)
 
 -- ---- a new price
 
-none-kept : (s : Side) (k : ℕ) → keptOf s noLevel (padded k []) ≡ padded k []
-unfolding keptOf orderedOf leads padded
+none-kept : (s : Side) (k : ℕ) → keptOf s noLevel (paddedCells k []) ≡ paddedCells k []
+unfolding keptOf orderedOf leads paddedCells
 none-kept s zero = refl
 none-kept s (suc k) = ap (λ (z : List Level). noLevel ∷ z) (none-kept s k)
 
-none-over : (s : Side) (k : ℕ) → overOf s noLevel (padded k []) ≡ noLevel
-unfolding overOf orderedOf leads padded
+none-over : (s : Side) (k : ℕ) → overOf s noLevel (paddedCells k []) ≡ noLevel
+unfolding overOf orderedOf leads paddedCells
 none-over s zero = refl
 none-over s (suc k) = none-over s k
 
@@ -192,44 +191,39 @@ unfolding overOf orderedOf
 over-step s x y ys t e = ap (λ (b : Bool). overOf s (cond {A = Pair} b (record { first = x; second = y }) (record { first = y; second = x }) .second) ys) e
 
 kept-cells : (s : Side) (x : Level) (k : ℕ) (ls : List Level) → eqb (x .price) 0 ≡ false → length ls < k → Ranked s ls
-    → (keptOf s x (padded k ls) ≡ padded k (insert s x ls)) × (overOf s x (padded k ls) ≡ noLevel)
-unfolding keptOf orderedOf padded insert
+    → (keptOf s x (paddedCells k ls) ≡ paddedCells k (insert s x ls)) × (overOf s x (paddedCells k ls) ≡ noLevel)
+unfolding keptOf orderedOf paddedCells insert
 kept-cells s x zero ls n h r = absurd (omega arith)
-kept-cells s x (suc k) [] n h r = (rw (leads-none s (x .price) n) (ap (λ (z : List Level). x ∷ z) (none-kept s k)), over-step s x noLevel (padded k []) true (leads-none s (x .price) n) ∙ none-over s k)
+kept-cells s x (suc k) [] n h r = (rw (leads-none s (x .price) n) (ap (λ (z : List Level). x ∷ z) (none-kept s k)), over-step s x noLevel (paddedCells k []) true (leads-none s (x .price) n) ∙ none-over s k)
 kept-cells s x (suc k) (y ∷ ys) n h r =
     go (ahead s (x .price) (y .price)) (leads-ahead s (x .price) (y .price) n (cell-priced y (r .0)))
     (kept-cells s y k ys (cell-priced y (r .0)) (omega arith) (r .2)) (kept-cells s x k ys n (omega arith) (r .2))
   where
     go : (t : Bool) → leads s (x .price) (y .price) ≡ t
-        → (keptOf s y (padded k ys) ≡ padded k (insert s y ys)) × (overOf s y (padded k ys) ≡ noLevel)
-        → (keptOf s x (padded k ys) ≡ padded k (insert s x ys)) × (overOf s x (padded k ys) ≡ noLevel)
-        → (keptOf s x (y ∷ padded k ys) ≡ padded (suc k) (cond t (x ∷ y ∷ ys) (y ∷ insert s x ys))) × (overOf s x (y ∷ padded k ys) ≡ noLevel)
-    go true e a b = (rw e (ap (λ (z : List Level). x ∷ z) (a .0 ∙ ap (padded k) (insert-front s y ys (r .1)))), over-step s x y (padded k ys) true e ∙ a .1)
-    go false e a b = (rw e (ap (λ (z : List Level). y ∷ z) (b .0)), over-step s x y (padded k ys) false e ∙ b .1)
+        → (keptOf s y (paddedCells k ys) ≡ paddedCells k (insert s y ys)) × (overOf s y (paddedCells k ys) ≡ noLevel)
+        → (keptOf s x (paddedCells k ys) ≡ paddedCells k (insert s x ys)) × (overOf s x (paddedCells k ys) ≡ noLevel)
+        → (keptOf s x (y ∷ paddedCells k ys) ≡ paddedCells (suc k) (cond t (x ∷ y ∷ ys) (y ∷ insert s x ys))) × (overOf s x (y ∷ paddedCells k ys) ≡ noLevel)
+    go true e a b = (rw e (ap (λ (z : List Level). x ∷ z) (a .0 ∙ ap (paddedCells k) (insert-front s y ys (r .1)))), over-step s x y (paddedCells k ys) true e ∙ a .1)
+    go false e a b = (rw e (ap (λ (z : List Level). y ∷ z) (b .0)), over-step s x y (paddedCells k ys) false e ∙ b .1)
 
 -- where all cells are taken, a level falls out
-over-full : (s : Side) (x : Level) (k : ℕ) (ls : List Level) → eqb (x .price) 0 ≡ false → k ≤ length ls → Ranked s ls → eqb (overOf s x (padded k ls) .price) 0 ≡ false
-unfolding overOf padded
+over-full : (s : Side) (x : Level) (k : ℕ) (ls : List Level) → eqb (x .price) 0 ≡ false → k ≤ length ls → Ranked s ls → eqb (overOf s x (paddedCells k ls) .price) 0 ≡ false
+unfolding overOf paddedCells
 over-full s x zero ls n h r = n
 over-full s x (suc k) [] n h r = absurd (omega arith)
 over-full s x (suc k) (y ∷ ys) n h r = go (leads s (x .price) (y .price)) refl (over-full s y k ys (cell-priced y (r .0)) (omega arith) (r .2)) (over-full s x k ys n (omega arith) (r .2))
   where
-    go : (t : Bool) → leads s (x .price) (y .price) ≡ t → eqb (overOf s y (padded k ys) .price) 0 ≡ false → eqb (overOf s x (padded k ys) .price) 0 ≡ false
-        → eqb (overOf s x (y ∷ padded k ys) .price) 0 ≡ false
-    go true e a b = rw (over-step s x y (padded k ys) true e) a
-    go false e a b = rw (over-step s x y (padded k ys) false e) b
+    go : (t : Bool) → leads s (x .price) (y .price) ≡ t → eqb (overOf s y (paddedCells k ys) .price) 0 ≡ false → eqb (overOf s x (paddedCells k ys) .price) 0 ≡ false
+        → eqb (overOf s x (y ∷ paddedCells k ys) .price) 0 ≡ false
+    go true e a b = rw (over-step s x y (paddedCells k ys) true e) a
+    go false e a b = rw (over-step s x y (paddedCells k ys) false e) b
 
--- ---- one item, the items, one side of a part
+-- ---- one item
 
 -- the levels after an item or a part as cells, or the refusal with the old ones
 abbrev pub sideAnswer : Levels → Option (List Level) → Changed
 sideAnswer old none = record { judged = Refused 64; levels = old }
 sideAnswer old (some ms) = passed (cellsOf ms)
-
--- every item has a price
-abbrev pub Priced : List Item → Type 0
-Priced [] = Unit {0}
-Priced (i ∷ is) = (eqb (i .price) 0 ≡ false) × Priced is
 
 module _ (s : Side) (t : ℕ) where
   item-new : (i : Item) (ls : List Level) → eqb (i .price) 0 ≡ false → Ranked s ls → (b : Bool) → ltb (length ls) 4 ≡ b
@@ -258,33 +252,3 @@ module _ (s : Side) (t : ℕ) where
           rw (lt-ltb (length (without (i .price) ls)) 4 (omega (arith, held-shorter (i .price) ls f)))
           (ap passed (replaced-cells s (levelOf t i) z 4 ls h r f))
       go false false f = rw (without-none (i .price) ls (lacks-holds (i .price) ls f)) (item-new i ls n r (ltb (length ls) 4) refl)
-
-  pub items-cells : (old : Levels) (is : List Item) (ls : List Level) → Priced is → length ls ≤ 4 → Ranked s ls → withItems s t old is (record { cells = cellsOf ls }) ≡ sideAnswer old (itemsOn s t is ls)
-  unfolding withItems itemsOn
-  items-cells old [] ls p h r = refl
-  items-cells old (i ∷ is) ls p h r = rw (item-cells i ls (p .0) h r) (go (itemOn s t i ls) refl (λ ms. items-cells old is ms (p .1)))
-    where
-      go : (o : Option (List Level)) → itemOn s t i ls ≡ o
-          → ((ms : List Level) → length ms ≤ 4 → Ranked s ms → withItems s t old is (record { cells = cellsOf ms }) ≡ sideAnswer old (itemsOn s t is ms))
-          → (let c = sideAnswer (record { cells = cellsOf ls }) o in onPass (c .judged) (withItems s t old is (c .levels)) (record { judged = c .judged; levels = old })) ≡ sideAnswer old (bindOption o (itemsOn s t is))
-      go none x down = refl
-      go (some ms) x down = down ms (item-short s t i ls ms x h) (item-ranked s t i ls ms x (p .0) r)
-
-cleared-cells : (s : Side) (mark : ℕ) (ls : List Level) → cond (clears mark s) noCells (record { cells = cellsOf ls }) ≡ record { cells = cellsOf (clearedBy mark s ls) }
-unfolding clears clearedBy padded
-cleared-cells s mark ls = side s
-  where
-    go : (b : Bool) → cond {A = Levels} b noCells (record { cells = cellsOf ls }) ≡ record { cells = cellsOf (cond b [] ls) }
-    go true = refl
-    go false = refl
-
-    side : (s : Side) → cond (clears mark s) noCells (record { cells = cellsOf ls }) ≡ record { cells = cellsOf (clearedBy mark s ls) }
-    side Bid = go (member (66 ∷ 88 ∷ []) mark)
-    side Offer = go (member (83 ∷ 88 ∷ []) mark)
-
-pub part-cells : (s : Side) (mark t : ℕ) (is : List Item) (ls : List Level) → Priced is → length ls ≤ 4 → Ranked s ls
-    → withPart s mark t is (record { cells = cellsOf ls }) ≡ sideAnswer (record { cells = cellsOf ls }) (itemsOn s t is (clearedBy mark s ls))
-unfolding withPart
-part-cells s mark t is ls p h r =
-    rw (cleared-cells s mark ls)
-    (items-cells s t (record { cells = cellsOf ls }) is (clearedBy mark s ls) p (cleared-elim (λ m. length m ≤ 4) mark s ls (omega arith) h) (cleared-elim (Ranked s) mark s ls tt r))

@@ -14,10 +14,10 @@ use Rattle.field.proofs.Laws.{bytes-append, bytes-take, bytes-drop, bytes-part,
 use Rattle.ranking.specs.declared.Side.{Side}
 use Rattle.ranking.specs.declared.Side.the-variants.{Bid, Offer}
 use Rattle.quote.specs.declared.Level.{Level}
-use Rattle.quote.specs.Quote.{levelBytes}
+use Rattle.quote.specs.Quote.{levelBytes, levelLength}
 use Rattle.quote.proofs.QuoteLaws.{length-level, bytes-level, level-back, level-fits, zero-level, no-level-bytes}
-use Rattle.levels.specs.Levels.{Standing, emptyCell, behind, ranked, cellsIn, sideIn, levelsIn, cellsBytes, levelsBytes}
-use Rattle.levels.specs.Cells.{padded, cellsOf, bytesOf}
+use Rattle.levels.specs.Levels.{Standing, emptyCell, behind, ranked, cellsIn, sideIn, levelsIn, cellsBytes, levelsBytes, sideLength, levelsLength}
+use Rattle.levels.specs.code.Cells.{paddedCells, cellsOf, joinedLevels}
 use Rattle.levels.proofs.LevelLaws.{Behind, Ranked, Fit, SideGood, LevelsGood, behind-trans}
 
 -- ---- the reading of any cells
@@ -57,7 +57,7 @@ module _ (s : Side) where
   cells-length : (k : ℕ) (b : List ℕ) → length (cellsIn k b) ≡ k
   unfolding cellsIn
   cells-length zero b = refl
-  cells-length (suc k) b = ap suc (cells-length k (drop 20 b))
+  cells-length (suc k) b = ap suc (cells-length k (drop levelLength b))
 
   pub side-falls : (b : List ℕ) → Ranked s (sideIn s b)
   unfolding sideIn
@@ -67,14 +67,14 @@ module _ (s : Side) where
   unfolding sideIn
   side-short b = omega (arith, ranked-short none (cellsIn 4 b), cells-length 4 b)
 
-cells-fit : (k : ℕ) (b : List ℕ) → 20 * k ≤ length b → Bytes b → Fit (cellsIn k b)
+cells-fit : (k : ℕ) (b : List ℕ) → levelLength * k ≤ length b → Bytes b → Fit (cellsIn k b)
 unfolding cellsIn
 cells-fit zero b h f = tt
 cells-fit (suc k) b h f =
-    (level-fits (take 20 b) (length-take-le 20 b (omega arith)) (bytes-take 20 b f), cells-fit k (drop 20 b) (simp length-drop (omega arith)) (bytes-drop 20 b f))
+    (level-fits (take levelLength b) (length-take-le levelLength b (omega arith)) (bytes-take levelLength b f), cells-fit k (drop levelLength b) (simp length-drop (omega arith)) (bytes-drop levelLength b f))
 
 -- what stands in 80 bytes is good, and so is what stands in 160
-pub side-good : (s : Side) (b : List ℕ) → length b ≡ 80 → Bytes b → SideGood s (sideIn s b)
+pub side-good : (s : Side) (b : List ℕ) → length b ≡ sideLength → Bytes b → SideGood s (sideIn s b)
 unfolding sideIn
 side-good s b h f = record {
   ranked = ranked-falls s none (cellsIn 4 b);
@@ -82,51 +82,51 @@ side-good s b h f = record {
   short = omega (arith, ranked-short s none (cellsIn 4 b), cells-length s 4 b);
 }
 
-pub levels-good : (b : List ℕ) → length b ≡ 160 → Bytes b → LevelsGood (levelsIn b)
+pub levels-good : (b : List ℕ) → length b ≡ levelsLength → Bytes b → LevelsGood (levelsIn b)
 unfolding levelsIn
 levels-good b h f = record {
-  bids = side-good Bid (part b 0 80) (length-part b 0 80 (omega arith)) (bytes-part b 0 80 f);
-  offers = side-good Offer (part b 80 80) (length-part b 80 80 (omega arith)) (bytes-part b 80 80 f);
+  bids = side-good Bid (part b 0 sideLength) (length-part b 0 sideLength (omega arith)) (bytes-part b 0 sideLength f);
+  offers = side-good Offer (part b sideLength sideLength) (length-part b sideLength sideLength (omega arith)) (bytes-part b sideLength sideLength f);
 }
 
 -- ---- bytes of levels
 
-pub length-cells : (k : ℕ) (ls : List Level) → length (cellsBytes k ls) ≡ 20 * k
+pub length-cells : (k : ℕ) (ls : List Level) → length (cellsBytes k ls) ≡ levelLength * k
 unfolding cellsBytes
 length-cells zero ls = refl
-length-cells (suc k) [] = length-append (replicate 20 0) (cellsBytes k []) ∙ omega (arith, length-cells k [], length-replicate {A = ℕ} 20 0)
+length-cells (suc k) [] = length-append (replicate levelLength 0) (cellsBytes k []) ∙ omega (arith, length-cells k [], length-replicate {A = ℕ} levelLength 0)
 length-cells (suc k) (x ∷ xs) = length-append (levelBytes x) (cellsBytes k xs) ∙ omega (arith, length-cells k xs, length-level x)
 
-pub length-levels : (v : Standing) → length (levelsBytes v) ≡ 160
+pub length-levels : (v : Standing) → length (levelsBytes v) ≡ levelsLength
 unfolding levelsBytes
 length-levels v = length-append (cellsBytes 4 (v .bids)) (cellsBytes 4 (v .offers)) ∙ omega (arith, length-cells 4 (v .bids), length-cells 4 (v .offers))
 
 -- the bytes of the cells that levels are
-pub cells-bytes : (k : ℕ) (ls : List Level) → bytesOf (padded k ls) ≡ cellsBytes k ls
-unfolding bytesOf padded cellsBytes
+pub cells-bytes : (k : ℕ) (ls : List Level) → joinedLevels (paddedCells k ls) ≡ cellsBytes k ls
+unfolding joinedLevels paddedCells cellsBytes
 cells-bytes zero ls = refl
 cells-bytes (suc k) [] = ap₂ _++_ no-level-bytes (cells-bytes k [])
 cells-bytes (suc k) (x ∷ xs) = ap (λ (b : List ℕ). levelBytes x ++ b) (cells-bytes k xs)
 
-bytes-of : (ls : List Level) → Bytes (bytesOf ls)
-unfolding bytesOf
+bytes-of : (ls : List Level) → Bytes (joinedLevels ls)
+unfolding joinedLevels
 bytes-of [] i = lit≤ tt
-bytes-of (x ∷ xs) i = bytes-append (levelBytes x) (bytesOf xs) (bytes-level x) (bytes-of xs) i
+bytes-of (x ∷ xs) i = bytes-append (levelBytes x) (joinedLevels xs) (bytes-level x) (bytes-of xs) i
 
 pub bytes-levels : (v : Standing) → Bytes (levelsBytes v)
 unfolding levelsBytes
-bytes-levels v = rw (← cells-bytes 4 (v .bids), ← cells-bytes 4 (v .offers)) (bytes-append (bytesOf (cellsOf (v .bids))) (bytesOf (cellsOf (v .offers))) (bytes-of (cellsOf (v .bids))) (bytes-of (cellsOf (v .offers))))
+bytes-levels v = rw (← cells-bytes 4 (v .bids), ← cells-bytes 4 (v .offers)) (bytes-append (joinedLevels (cellsOf (v .bids))) (joinedLevels (cellsOf (v .offers))) (bytes-of (cellsOf (v .bids))) (bytes-of (cellsOf (v .offers))))
 
 -- ---- the cells of good levels read back
 
 -- cells that the levels' bytes are read as
-cells-of : (k : ℕ) (ls : List Level) → Fit ls → cellsIn k (cellsBytes k ls) ≡ padded k ls
-unfolding cellsIn cellsBytes padded
+cells-of : (k : ℕ) (ls : List Level) → Fit ls → cellsIn k (cellsBytes k ls) ≡ paddedCells k ls
+unfolding cellsIn cellsBytes paddedCells
 cells-of zero ls f = refl
 cells-of (suc k) [] f =
-    rw (take-at (replicate 20 0) (cellsBytes k []) 20 (length-replicate {A = ℕ} 20 0), drop-at (replicate 20 0) (cellsBytes k []) 20 (length-replicate {A = ℕ} 20 0), zero-level, cells-of k [] tt)
+    rw (take-at (replicate levelLength 0) (cellsBytes k []) levelLength (length-replicate {A = ℕ} levelLength 0), drop-at (replicate levelLength 0) (cellsBytes k []) levelLength (length-replicate {A = ℕ} levelLength 0), zero-level, cells-of k [] tt)
 cells-of (suc k) (x ∷ xs) f =
-    rw (take-at (levelBytes x) (cellsBytes k xs) 20 (length-level x), drop-at (levelBytes x) (cellsBytes k xs) 20 (length-level x), level-back x (f .0), cells-of k xs (f .1))
+    rw (take-at (levelBytes x) (cellsBytes k xs) levelLength (length-level x), drop-at (levelBytes x) (cellsBytes k xs) levelLength (length-level x), level-back x (f .0), cells-of k xs (f .1))
 
 -- each is behind the one before
 abbrev Next : Side → Option Level → List Level → Type 0
@@ -137,13 +137,13 @@ next-behind : (s : Side) (y : Option Level) (x : Level) (xs : List Level) → Ne
 next-behind s none x xs n = refl
 next-behind s (some y) x xs n = n .0
 
-none-read : (s : Side) (y : Option Level) (k : ℕ) → ranked s y (padded k []) ≡ []
-unfolding ranked padded
+none-read : (s : Side) (y : Option Level) (k : ℕ) → ranked s y (paddedCells k []) ≡ []
+unfolding ranked paddedCells
 none-read s y zero = refl
 none-read s y (suc k) = refl
 
-next-read : (s : Side) (y : Option Level) (k : ℕ) (ls : List Level) → length ls ≤ k → Ranked s ls → Next s y ls → ranked s y (padded k ls) ≡ ls
-unfolding ranked padded
+next-read : (s : Side) (y : Option Level) (k : ℕ) (ls : List Level) → length ls ≤ k → Ranked s ls → Next s y ls → ranked s y (paddedCells k ls) ≡ ls
+unfolding ranked paddedCells
 next-read s y k [] h r n = none-read s y k
 next-read s y zero (x ∷ xs) h r n = absurd (omega arith)
 next-read s y (suc k) (x ∷ xs) h r n = rw (r .0, next-behind s y x xs n) (ap (λ (l : List Level). x ∷ l) (next-read s (some x) k xs (omega arith) (r .2) (r .1)))
@@ -159,13 +159,13 @@ side-back s ls g = ap (ranked s none) (cells-of 4 ls (g .fit)) ∙ cells-read s 
 pub levels-back : (v : Standing) → LevelsGood v → levelsIn (levelsBytes v) ≡ v
 unfolding levelsIn levelsBytes part
 levels-back v g =
-    let a : take 80 (cellsBytes 4 (v .bids) ++ cellsBytes 4 (v .offers)) ≡ cellsBytes 4 (v .bids) =
-    take-at (cellsBytes 4 (v .bids)) (cellsBytes 4 (v .offers)) 80 (length-cells 4 (v .bids)) in
-    let d : drop 80 (cellsBytes 4 (v .bids) ++ cellsBytes 4 (v .offers)) ≡ cellsBytes 4 (v .offers) =
-    drop-at (cellsBytes 4 (v .bids)) (cellsBytes 4 (v .offers)) 80 (length-cells 4 (v .bids)) in
-    let n : take 80 (cellsBytes 4 (v .offers)) ≡ cellsBytes 4 (v .offers) =
-    ap (take 80) (sym (append-nil (cellsBytes 4 (v .offers)))) ∙ take-at (cellsBytes 4 (v .offers)) [] 80 (length-cells 4 (v .offers)) in
+    let a : take sideLength (cellsBytes 4 (v .bids) ++ cellsBytes 4 (v .offers)) ≡ cellsBytes 4 (v .bids) =
+    take-at (cellsBytes 4 (v .bids)) (cellsBytes 4 (v .offers)) sideLength (length-cells 4 (v .bids)) in
+    let d : drop sideLength (cellsBytes 4 (v .bids) ++ cellsBytes 4 (v .offers)) ≡ cellsBytes 4 (v .offers) =
+    drop-at (cellsBytes 4 (v .bids)) (cellsBytes 4 (v .offers)) sideLength (length-cells 4 (v .bids)) in
+    let n : take sideLength (cellsBytes 4 (v .offers)) ≡ cellsBytes 4 (v .offers) =
+    ap (take sideLength) (sym (append-nil (cellsBytes 4 (v .offers)))) ∙ take-at (cellsBytes 4 (v .offers)) [] sideLength (length-cells 4 (v .offers)) in
     λ i. record {
       bids = (ap (sideIn Bid) a ∙ side-back Bid (v .bids) (g .bids)) i;
-      offers = (ap (λ (b : List ℕ). sideIn Offer (take 80 b)) d ∙ ap (sideIn Offer) n ∙ side-back Offer (v .offers) (g .offers)) i;
+      offers = (ap (λ (b : List ℕ). sideIn Offer (take sideLength b)) d ∙ ap (sideIn Offer) n ∙ side-back Offer (v .offers) (g .offers)) i;
     }

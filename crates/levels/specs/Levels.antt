@@ -7,13 +7,14 @@ use mathlib.Core.Option.{Option, none, some}
 use lib.Dec.{ltb, leb, eqb}
 use lib.ListN.{length, take, drop, replicate}
 use Rattle.field.specs.Field.{part, field}
+use Rattle.field.specs.Ascii.{B, S, X, space}
 use Rattle.lists.specs.Lists.{member, bindOption, mapOption}
 use Rattle.ranking.specs.declared.Side.{Side}
 use Rattle.ranking.specs.declared.Side.the-variants.{Bid, Offer}
 use Rattle.ranking.specs.Ranking.{ahead}
 use Rattle.quote.specs.declared.Level.{Level}
 use Rattle.levels.specs.declared.Item.{Item}
-use Rattle.quote.specs.Quote.{levelIn, levelBytes}
+use Rattle.quote.specs.Quote.{levelLength, levelIn, levelBytes}
 
 -- what stands of one letter, each side best first, no price twice
 pub record Standing : Type 0 where
@@ -62,9 +63,12 @@ itemsOn s t (i ∷ is) ls = bindOption (itemOn s t i ls) (itemsOn s t is)
 -- ---- the part
 
 -- "the clear mark first (space none, B bids, S offers, X both)"
+unfoldable pub clears : ℕ → Side → Bool
+clears mark Bid = member (B ∷ X ∷ []) mark
+clears mark Offer = member (S ∷ X ∷ []) mark
+
 unfoldable pub clearedBy : ℕ → Side → List Level → List Level
-clearedBy mark Bid ls = cond (member (66 ∷ 88 ∷ []) mark) [] ls
-clearedBy mark Offer ls = cond (member (83 ∷ 88 ∷ []) mark) [] ls
+clearedBy mark s ls = cond (clears mark s) [] ls
 
 -- the clear mark, then each item in order; none if an item would make a fifth level: then nothing is done, on both sides
 unfoldable pub oddOn : Odd → Standing → Option Standing
@@ -74,17 +78,20 @@ oddOn o v =
 
 -- a part that asks for nothing: a space, and no items on both sides
 unfoldable pub idleOdd : Odd → Bool
-idleOdd o = eqb (o .mark) 32 && eqb (length (o .bids ++ o .offers)) 0
+idleOdd o = eqb (o .mark) space && eqb (length (o .bids ++ o .offers)) 0
 
 -- "62 price 0, 63 shares of a round lot or more, item by item over all items"
 unfoldable pub itemsBad : ℕ → List Item → ℕ
 itemsBad lot [] = 0
 itemsBad lot (x ∷ xs) = cond (eqb (x .price) 0) 62 (cond (leb lot (x .shares)) 63 (itemsBad lot xs))
 
+abbrev pub clearMarks : List ℕ
+clearMarks = space ∷ B ∷ S ∷ X ∷ []
+
 -- "60 clear mark. 61 either count above 4", then the items
 unfoldable pub oddBad : ℕ → Odd → ℕ
 oddBad lot o =
-    cond (member (32 ∷ 66 ∷ 83 ∷ 88 ∷ []) (o .mark))
+    cond (member clearMarks (o .mark))
     (cond (leb (length (o .bids)) 4 && leb (length (o .offers)) 4) (itemsBad lot (o .bids ++ o .offers)) 61)
     60
 
@@ -99,9 +106,12 @@ oddCode lot v o = cond (eqb (oddBad lot o) 0) (fifth (oddOn o v)) (oddBad lot o)
 
 -- ---- items' bytes: price 8, shares 4
 
+abbrev pub itemLength : ℕ
+itemLength = 12
+
 -- n items from item i on
 unfoldable pub itemAt : List ℕ → ℕ → Item
-itemAt b i = record { price = field b (12 * i) 8; shares = field b (12 * i + 8) 4 }
+itemAt b i = record { price = field b (itemLength * i) 8; shares = field b (itemLength * i + 8) 4 }
 
 unfoldable pub itemsFrom : List ℕ → ℕ → ℕ → List Item
 itemsFrom b i zero = []
@@ -111,12 +121,18 @@ itemsFrom b i (suc n) = itemAt b i ∷ itemsFrom b (i + 1) n
 unfoldable pub oddIn : ℕ → ℕ → ℕ → ℕ → List ℕ → Odd
 oddIn mark bids offers time b = record { mark = mark; bids = itemsFrom b 0 bids; offers = itemsFrom b bids offers; time = time }
 
--- ---- levels' bytes: a side is four cells of 20
+-- ---- levels' bytes: a side is four levels' cells; bids, then offers
+
+abbrev pub sideLength : ℕ
+sideLength = 4 * levelLength
+
+abbrev pub levelsLength : ℕ
+levelsLength = 2 * sideLength
 
 -- k cells as they stand
 unfoldable pub cellsIn : ℕ → List ℕ → List Level
 cellsIn zero b = []
-cellsIn (suc k) b = levelIn (take 20 b) ∷ cellsIn k (drop 20 b)
+cellsIn (suc k) b = levelIn (take levelLength b) ∷ cellsIn k (drop levelLength b)
 
 abbrev pub emptyCell : Level → Bool
 emptyCell x = cond (eqb (x .price) 0) true (eqb (x .size) 0)
@@ -135,12 +151,12 @@ sideIn s b = ranked s none (cellsIn 4 b)
 
 -- bids, then offers
 unfoldable pub levelsIn : List ℕ → Standing
-levelsIn b = record { bids = sideIn Bid (part b 0 80); offers = sideIn Offer (part b 80 80) }
+levelsIn b = record { bids = sideIn Bid (part b 0 sideLength); offers = sideIn Offer (part b sideLength sideLength) }
 
 -- k cells, the levels first, zeros behind
 unfoldable pub cellsBytes : ℕ → List Level → List ℕ
 cellsBytes zero ls = []
-cellsBytes (suc k) [] = replicate 20 0 ++ cellsBytes k []
+cellsBytes (suc k) [] = replicate levelLength 0 ++ cellsBytes k []
 cellsBytes (suc k) (x ∷ xs) = levelBytes x ++ cellsBytes k xs
 
 unfoldable pub levelsBytes : Standing → List ℕ

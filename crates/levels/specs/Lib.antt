@@ -1,3 +1,2 @@
 pub mod Levels
-pub mod Cells
-pub mod Part
+pub mod code

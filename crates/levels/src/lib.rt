@@ -1,13 +1,12 @@
-// The odd-lot levels of one letter, and what the odd part of a message does to them.
+// The odd-lot levels of one side, and what an item does to them.
 ghost use mathlib.Core.Path.{_≡_};
 ghost use mathlib.Core.Bool.{true, false, cond};
 ghost use Prim.Native.Nat.{_+_, _*_, _≤_};
 ghost use lib.Dec.{eqb};
 ghost use lib.ListN.{length};
 ghost use Rattle.field.specs.Field.{part, splice};
-ghost use Rattle.levels.specs.Levels.{sideIn, itemAt, itemsFrom, itemsBad, oddBad, oddIn};
-ghost use Rattle.levels.specs.Cells.{leads, standing, standingBehind, cellsOf, bytesOf, orderedOf, keptOf, overOf, withoutOf, holdsOf, replacedOf, passed, withItem, clears, noCells, withPart};
-ghost use Rattle.levels.specs.Part.{judgedBy, judgedNumber, answerOf, standingIn, sidesOf, oddAnswer};
+ghost use Rattle.levels.specs.Levels.{sideIn, itemAt, itemLength, sideLength};
+ghost use Rattle.levels.specs.code.Cells.{leads, standing, standingBehind, cellsOf, joinedLevels, orderedOf, keptOf, overOf, withoutOf, holdsOf, replacedOf, passed, withItem, judgedNumber};
 use quote::Level;
 use ranking::Side;
 
@@ -44,13 +43,6 @@ pub struct Changed {
     pub levels: Levels,
 }
 
-/// The answer of an odd part: both sides changed, or the refusal and both as they were.
-pub struct OddAnswer {
-    pub judged: Judged,
-    pub bids: Levels,
-    pub offers: Levels,
-}
-
 // Two levels, the one that ranks first, then the other.
 struct Pair {
     first: Level,
@@ -64,7 +56,8 @@ struct Inserted {
 }
 
 impl Changed {
-    fn pass(levels: Levels) -> Changed
+    /// A pass with these levels.
+    pub fn pass(levels: Levels) -> Changed
         ensures { λ r. ⌜ r ≡ passed (levels .cells) ⌝ }
     {
         Changed {
@@ -80,9 +73,9 @@ impl Item {
 
     const SHARES: usize = 8;
 
-    // Item i of the items' bytes.
-    fn get(items: &[u8], i: usize) -> Item
-        requires { ⌜ 12 * i + 12 ≤ length (now items) ⌝ }
+    /// Item i of the items' bytes.
+    pub fn get(items: &[u8], i: usize) -> Item
+        requires { ⌜ itemLength * i + itemLength ≤ length (now items) ⌝ }
         ensures { λ r. ⌜ r ≡ itemAt (now (items .entry)) i ⌝ }
     {
         let at = Item::LEN * i;
@@ -93,17 +86,17 @@ impl Item {
 }
 
 impl Levels {
-    /// Bytes of one side: four cells of 20.
-    pub const LEN: usize = 80;
+    /// Bytes of one side: four cells.
+    pub const LEN: usize = 4 * Level::LEN;
     /// No level stands.
     pub const EMPTY: Levels = Levels {
         cells: [Level::NONE; 4],
     };
 
-    /// The levels that stand in the 80 bytes at `at`: the cells before the first one that is empty or does not rank strictly behind the one before it.
+    /// The levels that stand in the cells at `at`: the cells before the first one that is empty or does not rank strictly behind the one before it.
     pub fn read(page: &[u8], at: usize, side: Side) -> Levels
-        requires { ⌜ at + 80 ≤ length (now page) ⌝ }
-        ensures { λ r. ⌜ r .cells ≡ cellsOf (sideIn side (part (now (page .entry)) at 80)) ⌝ }
+        requires { ⌜ at + sideLength ≤ length (now page) ⌝ }
+        ensures { λ r. ⌜ r .cells ≡ cellsOf (sideIn side (part (now (page .entry)) at sideLength)) ⌝ }
     {
         let a = standing(Level::get(page, at));
         let b = standing_behind(side, a, Level::get(page, at + Level::LEN));
@@ -115,8 +108,8 @@ impl Levels {
 
     /// Writes all four cells into a page at `at`.
     pub fn put(self, page: &mut [u8], at: usize)
-        requires { ⌜ at + 80 ≤ length (now page) ⌝ }
-        ensures { λ _. ⌜ now (page .exit) ≡ splice (now (page .entry)) at (bytesOf (self .cells)) ⌝ }
+        requires { ⌜ at + sideLength ≤ length (now page) ⌝ }
+        ensures { λ _. ⌜ now (page .exit) ≡ splice (now (page .entry)) at (joinedLevels (self .cells)) ⌝ }
     {
         let cells = self.cells;
         let a = cells[0];
@@ -215,44 +208,6 @@ impl Levels {
             levels: self,
         }
     }
-
-    // The levels after the clear mark.
-    fn cleared(self, side: Side, mark: u8) -> Levels
-        ensures { λ r. ⌜ r ≡ cond (clears mark side) noCells self ⌝ }
-    {
-        if is_cleared(side, mark) {
-            return Levels::EMPTY;
-        }
-        self
-    }
-
-    // One side of an odd part: the clear mark, then n items in order, the first being item `from`. A refusal hands back the levels as they were.
-    fn with_part(
-        self,
-        side: Side,
-        mark: u8,
-        items: &[u8],
-        from: usize,
-        n: usize,
-        time: u64,
-    ) -> Changed
-        requires { ⌜ 12 * (from + n) ≤ length (now items) ⌝ }
-        ensures { λ r. ⌜ r ≡ withPart side mark time (itemsFrom (now (items .entry)) from n) self ⌝ }
-    {
-        let mut next = self.cleared(side, mark);
-        for i in 0..n {
-            let changed = next.with_item(side, Item::get(items, from + i), time);
-            let judged = changed.judged;
-            let Judged::Pass = judged else {
-                return Changed {
-                    judged,
-                    levels: self,
-                };
-            };
-            next = changed.levels;
-        }
-        Changed::pass(next)
-    }
 }
 
 // Whether the first price goes before the second. Price 0 is none, and goes last.
@@ -336,113 +291,4 @@ fn renewed(x: Level, here: Level) -> Level
         return x;
     }
     here
-}
-
-// B clears the bids, S the offers, X both.
-fn is_cleared(side: Side, mark: u8) -> bool
-    ensures { λ r. ⌜ r ≡ clears mark side ⌝ }
-{
-    match side {
-        Side::Bid => match mark {
-            b'B' | b'X' => true,
-            _ => false,
-        },
-        Side::Offer => match mark {
-            b'S' | b'X' => true,
-            _ => false,
-        },
-    }
-}
-
-// Checks 62 and 63, item by item.
-fn judge_items(items: &[u8], n: usize, lot: u32) -> Judged
-    requires { ⌜ 12 * n ≤ length (now items) ⌝ }
-    ensures { λ r. ⌜ r ≡ judgedBy (itemsBad lot (itemsFrom (now (items .entry)) 0 n)) ⌝ }
-{
-    for i in 0..n {
-        let item = Item::get(items, i);
-        if item.price == 0 {
-            return Judged::Refused(62);
-        }
-        if lot <= item.shares {
-            return Judged::Refused(63);
-        }
-    }
-    Judged::Pass
-}
-
-// Checks 60 to 63, in their order.
-fn judge_part(mark: u8, bids: usize, offers: usize, lot: u32, items: &[u8]) -> Judged
-    requires { ⌜ length (now items) ≡ 12 * (bids + offers) ⌝ }
-    ensures { λ r. ⌜ r ≡ judgedBy (oddBad lot (oddIn mark bids offers 0 (now (items .entry)))) ⌝ }
-{
-    match mark {
-        b' ' | b'B' | b'S' | b'X' => {}
-        _ => {
-            return Judged::Refused(60);
-        }
-    }
-    if 4 < bids {
-        return Judged::Refused(61);
-    }
-    if 4 < offers {
-        return Judged::Refused(61);
-    }
-    judge_items(items, bids + offers, lot)
-}
-
-// The answer from the local, its sides as two Levels.
-fn answer(judged: Judged, sides: [[Level; 4]; 2]) -> OddAnswer
-    ensures { λ r. ⌜ r ≡ answerOf judged sides ⌝ }
-{
-    let bids = sides[0];
-    let offers = sides[1];
-    OddAnswer {
-        judged,
-        bids: Levels { cells: bids },
-        offers: Levels { cells: offers },
-    }
-}
-
-/// An odd part on both sides' levels: every check first, then on each side the clear mark and the items in order.
-/// `items` holds the bids, then the offers. A refusal, with its number, hands back both sides as they were.
-pub fn odd_part(
-    mark: u8,
-    bids: usize,
-    offers: usize,
-    lot: u32,
-    time: u64,
-    items: &[u8],
-    old: [[Level; 4]; 2],
-) -> OddAnswer
-    requires { ⌜ length (now items) ≡ 12 * (bids + offers) ⌝ }
-    requires { ⌜ old ≡ sidesOf (standingIn old) ⌝ }
-    ensures { λ r. ⌜ r ≡ oddAnswer lot (standingIn old) (oddIn mark bids offers time (now (items .entry))) ⌝ }
-{
-    let judged = judge_part(mark, bids, offers, lot, items);
-    let Judged::Pass = judged else {
-        return answer(judged, old);
-    };
-    let mut sides = old;
-    let bid_cells = sides[0];
-    let bid_levels = Levels { cells: bid_cells };
-    let bid_part = bid_levels.with_part(Side::Bid, mark, items, 0, bids, time);
-    let bid_judged = bid_part.judged;
-    let Judged::Pass = bid_judged else {
-        return answer(bid_judged, old);
-    };
-    let bid_next = bid_part.levels;
-    let bid_back = bid_next.cells;
-    sides[0] = bid_back;
-    let offer_cells = sides[1];
-    let offer_levels = Levels { cells: offer_cells };
-    let offer_part = offer_levels.with_part(Side::Offer, mark, items, bids, offers, time);
-    let offer_judged = offer_part.judged;
-    let Judged::Pass = offer_judged else {
-        return answer(offer_judged, old);
-    };
-    let offer_next = offer_part.levels;
-    let offer_back = offer_next.cells;
-    sides[1] = offer_back;
-    answer(Judged::Pass, sides)
 }

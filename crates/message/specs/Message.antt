@@ -6,11 +6,12 @@ use mathlib.Core.List.{List, [], _∷_}
 use lib.Dec.{ltb, leb, eqb}
 use lib.ListN.{length, drop}
 use Rattle.field.specs.Field.{part, field}
+use Rattle.field.specs.Ascii.{A, B, C, D, E, F, H, I, K, L, M, N, O, Q, R, T, U, W, five, space}
 use Rattle.lists.specs.Lists.{at, member, all}
 use Rattle.quote.specs.declared.Level.{Level}
 use Rattle.quote.specs.declared.Quote.{Quote}
-use Rattle.levels.specs.Levels.{Standing, Odd, oddIn, oddCode}
-use Rattle.message.specs.Form.{symbolGood, makerGood}
+use Rattle.levels.specs.Levels.{Standing, Odd, itemLength, oddIn, oddCode}
+use Rattle.text.specs.Form.{symbolLength, nameLength, symbolGood, makerGood}
 use Rattle.message.specs.declared.Kind.{Kind}
 use Rattle.message.specs.declared.Kind.the-variants as kind
 use Rattle.message.specs.declared.OddPart.{OddPart}
@@ -19,30 +20,46 @@ use Rattle.message.specs.declared.Message.the-variants as says
 
 -- ---- layout
 
+-- the bytes of a header, of C 5, of a round part and of Q U
+abbrev pub headerLength : ℕ
+headerLength = 20
+
+abbrev pub testLength : ℕ
+testLength = headerLength + 95
+
+abbrev pub roundLength : ℕ
+roundLength = 56
+
+abbrev pub makerLength : ℕ
+makerLength = roundLength + nameLength
+
 -- "Header: 0 category, 1 type, 2 letter, 3 zero, 4-11 timestamp, 12-19 reference number (not read)"
 unfoldable pub controlKind : ℕ → Kind
 controlKind t =
-    cond (member (73 ∷ 84 ∷ []) t) kind.Inquiry
-    (cond (eqb t 67) kind.Close
-    (cond (eqb t 79) kind.Open
-    (cond (eqb t 53) kind.Test kind.Unknown)))
+    cond (member (I ∷ T ∷ []) t) kind.Inquiry
+    (cond (eqb t C) kind.Close
+    (cond (eqb t O) kind.Open
+    (cond (eqb t five) kind.Test kind.Unknown)))
 
 unfoldable pub quoteKind : ℕ → Kind
 quoteKind t =
-    cond (eqb t 75) kind.RoundLot
-    (cond (eqb t 77) kind.OddLot
-    (cond (eqb t 85) kind.Maker kind.Unknown))
+    cond (eqb t K) kind.RoundLot
+    (cond (eqb t M) kind.OddLot
+    (cond (eqb t U) kind.Maker kind.Unknown))
 
 -- C I, C T, C C, C O, C 5, Q K, Q M, Q U
 unfoldable pub kindOf : List ℕ → Kind
-kindOf m = cond (eqb (at m 0) 67) (controlKind (at m 1)) (cond (eqb (at m 0) 81) (quoteKind (at m 1)) kind.Unknown)
+kindOf m = cond (eqb (at m 0) C) (controlKind (at m 1)) (cond (eqb (at m 0) Q) (quoteKind (at m 1)) kind.Unknown)
 
 unfoldable pub timeOf : List ℕ → ℕ
 timeOf m = field m 4 8
 
--- "20-30 symbol", as one number
+-- "20-30 symbol": its bytes, and as one number
+abbrev pub symbolText : List ℕ → List ℕ
+symbolText m = part m headerLength symbolLength
+
 unfoldable pub symbolOf : List ℕ → ℕ
-symbolOf m = field m 20 11
+symbolOf m = field m headerLength symbolLength
 
 -- price 8 and size 4 from i on, with the message's time
 unfoldable pub levelAt : List ℕ → ℕ → Level
@@ -52,29 +69,44 @@ levelAt m i = record { price = field m i 8; size = field m (i + 8) 4; time = tim
 unfoldable pub quoteAt : List ℕ → Quote
 quoteAt m = record { condition = field m 31 1; bid = levelAt m 32; offer = levelAt m 44 }
 
--- "56-59 maker", as one number
+-- "56-59 maker": its bytes, and as one number
+abbrev pub makerText : List ℕ → List ℕ
+makerText m = part m roundLength nameLength
+
 unfoldable pub makerName : List ℕ → ℕ
-makerName m = field m 56 4
+makerName m = field m roundLength nameLength
 
 -- the clear mark at i, the counts behind it, the items from j on
 unfoldable pub oddAt : List ℕ → ℕ → ℕ → OddPart
 oddAt m i j = record { mark = at m i; bids = at m (i + 1); offers = at m (i + 2); time = timeOf m; items = j }
 
+abbrev pub roundLotItems : ℕ
+roundLotItems = 60
+
+abbrev pub oddLotItems : ℕ
+oddLotItems = 36
+
 -- Q K: "56 clear, 57 count of odd bids, 58 of odd offers, 59 zero, from 60 the bids then the offers"
 abbrev pub roundLotOdd : List ℕ → OddPart
-roundLotOdd m = oddAt m 56 60
+roundLotOdd m = oddAt m roundLength roundLotItems
 
 -- Q M: "31 clear, 32 and 33 the counts, 34-35 zero, items from 36"
 abbrev pub oddLotOdd : List ℕ → OddPart
-oddLotOdd m = oddAt m 31 36
+oddLotOdd m = oddAt m 31 oddLotItems
 
--- the odd part with its items, read from the message
+-- the odd part with its items' bytes; in its message they stand behind the counts
+abbrev pub oddWith : OddPart → List ℕ → Odd
+oddWith o b = oddIn (o .mark) (o .bids) (o .offers) (o .time) b
+
 abbrev pub oddOf : List ℕ → OddPart → Odd
-oddOf m o = oddIn (o .mark) (o .bids) (o .offers) (o .time) (drop (o .items) m)
+oddOf m o = oddWith o (drop (o .items) m)
 
 -- "plus 12 per item"
+abbrev pub itemsLength : OddPart → ℕ
+itemsLength o = itemLength * (o .bids + o .offers)
+
 abbrev pub oddLength : OddPart → ℕ
-oddLength o = o .items + 12 * (o .bids + o .offers)
+oddLength o = o .items + itemsLength o
 
 -- ---- what needs no book
 
@@ -84,10 +116,10 @@ sideBad l = eqb (l .price) 0 && ltb 0 (l .size)
 
 -- "Q K takes all but L", of A, B, C, E, F, H, L, N, O, R, U, W; "Q U takes R and L"
 abbrev pub roundConditions : List ℕ
-roundConditions = 65 ∷ 66 ∷ 67 ∷ 69 ∷ 70 ∷ 72 ∷ 78 ∷ 79 ∷ 82 ∷ 85 ∷ 87 ∷ []
+roundConditions = A ∷ B ∷ C ∷ E ∷ F ∷ H ∷ N ∷ O ∷ R ∷ U ∷ W ∷ []
 
 abbrev pub makerConditions : List ℕ
-makerConditions = 76 ∷ 82 ∷ []
+makerConditions = L ∷ R ∷ []
 
 -- 47, then what follows
 unfoldable pub priceFault : Quote → ℕ → ℕ
@@ -99,7 +131,10 @@ quoteFault table q rest = cond (member table (q .condition)) (priceFault q rest)
 
 -- D is FINRA
 abbrev pub isD : ℕ → Bool
-isD l = eqb l 68
+isD l = eqb l D
+
+abbrev pub headerZero : List ℕ → Bool
+headerZero m = eqb (at m 3) 0
 
 -- 42, 43
 abbrev pub checkedForm : Bool → Bool → Message → Message
@@ -107,48 +142,48 @@ checkedForm length zeros next = cond length (cond zeros next (says.Refused 43)) 
 
 -- 45 as far as the message tells
 abbrev pub checkedSymbol : List ℕ → Message → Message
-checkedSymbol m next = cond (symbolGood (part m 20 11)) next (says.Refused 45)
+checkedSymbol m next = cond (symbolGood (symbolText m)) next (says.Refused 45)
 
 unfoldable pub readInquiry : List ℕ → Message
-readInquiry m = checkedForm (eqb (length m) 20) (eqb (at m 3) 0) says.Idle
+readInquiry m = checkedForm (eqb (length m) headerLength) (headerZero m) says.Idle
 
 -- "95 more, hex 20 to 7E in order"
 abbrev pub testByte : List ℕ → ℕ → Bool
-testByte m i = eqb (at m (20 + i)) (32 + i)
+testByte m i = eqb (at m (headerLength + i)) (space + i)
 
 unfoldable pub testBytes : List ℕ → Bool
 testBytes m = all (testByte m) 0 95
 
 unfoldable pub readTest : List ℕ → Message
-readTest m = checkedForm (eqb (length m) 115) (eqb (at m 3) 0 && testBytes m) says.Idle
+readTest m = checkedForm (eqb (length m) testLength) (headerZero m && testBytes m) says.Idle
 
 -- 44: "C C, C O, Q U off D's line; Q K, Q M on it"
 unfoldable pub readFinra : ℕ → ℕ → List ℕ → Message
-readFinra condition letter m = checkedForm (eqb (length m) 20) (eqb (at m 3) 0) (cond (isD letter) (says.Finra condition) (says.Refused 44))
+readFinra condition letter m = checkedForm (eqb (length m) headerLength) (headerZero m) (cond (isD letter) (says.Finra condition) (says.Refused 44))
 
 unfoldable pub readRoundLot : ℕ → List ℕ → Message
 readRoundLot letter m =
-    checkedForm (eqb (length m) (oddLength (roundLotOdd m))) (eqb (at m 3) 0 && eqb (at m 59) 0)
+    checkedForm (eqb (length m) (oddLength (roundLotOdd m))) (headerZero m && eqb (at m 59) 0)
     (cond (isD letter) (says.Refused 44)
     (checkedSymbol m (says.RoundLot (quoteFault roundConditions (quoteAt m) 0) (quoteAt m) (roundLotOdd m))))
 
 unfoldable pub readOddLot : ℕ → List ℕ → Message
 readOddLot letter m =
-    checkedForm (eqb (length m) (oddLength (oddLotOdd m))) (eqb (at m 3) 0 && (eqb (at m 34) 0 && eqb (at m 35) 0))
+    checkedForm (eqb (length m) (oddLength (oddLotOdd m))) (headerZero m && (eqb (at m 34) 0 && eqb (at m 35) 0))
     (cond (isD letter) (says.Refused 44) (checkedSymbol m (says.OddLot (oddLotOdd m))))
 
 -- 46, 47, 48
 unfoldable pub readMaker : ℕ → List ℕ → Message
 readMaker letter m =
-    checkedForm (eqb (length m) 60) (eqb (at m 3) 0)
+    checkedForm (eqb (length m) makerLength) (headerZero m)
     (cond (isD letter)
-    (checkedSymbol m (says.Maker (quoteFault makerConditions (quoteAt m) (cond (makerGood (part m 56 4)) 0 48)) (makerName m) (quoteAt m)))
+    (checkedSymbol m (says.Maker (quoteFault makerConditions (quoteAt m) (cond (makerGood (makerText m)) 0 48)) (makerName m) (quoteAt m)))
     (says.Refused 44))
 
 abbrev pub readBy : ℕ → List ℕ → Kind → Message
 readBy letter m kind.Inquiry = readInquiry m
-readBy letter m kind.Close = readFinra 76 letter m
-readBy letter m kind.Open = readFinra 82 letter m
+readBy letter m kind.Close = readFinra L letter m
+readBy letter m kind.Open = readFinra R letter m
 readBy letter m kind.Test = readTest m
 readBy letter m kind.RoundLot = readRoundLot letter m
 readBy letter m kind.OddLot = readOddLot letter m
@@ -208,14 +243,14 @@ pub data Part : Type 0 where
   -- condition
   finraPart : ℕ → Part
 
-abbrev pub roundOf : List ℕ → Part
-roundOf m = roundPart (symbolOf m) (at m 2) (quoteAt m)
+abbrev pub roundPartOf : List ℕ → Part
+roundPartOf m = roundPart (symbolOf m) (at m 2) (quoteAt m)
 
 abbrev pub oddPartOf : List ℕ → OddPart → Part
 oddPartOf m o = oddPart (symbolOf m) (at m 2) (oddOf m o)
 
-abbrev pub makerOf : List ℕ → Part
-makerOf m = makerPart (symbolOf m) (makerName m) (quoteAt m)
+abbrev pub makerPartOf : List ℕ → Part
+makerPartOf m = makerPart (symbolOf m) (makerName m) (quoteAt m)
 
 -- "Q K with 60 to 64" is partly accepted
 abbrev pub partlyBy : ℕ → Kind → Bool
@@ -234,14 +269,14 @@ partlyTaken c m = partlyBy c (kindOf m)
 -- all parts of an accepted message, the oldest first
 abbrev pub wholeBy : List ℕ → Kind → List Part
 wholeBy m kind.Inquiry = []
-wholeBy m kind.Close = finraPart 76 ∷ []
-wholeBy m kind.Open = finraPart 82 ∷ []
+wholeBy m kind.Close = finraPart L ∷ []
+wholeBy m kind.Open = finraPart R ∷ []
 wholeBy m kind.Test = []
-wholeBy m kind.RoundLot = roundOf m ∷ oddPartOf m (roundLotOdd m) ∷ []
+wholeBy m kind.RoundLot = roundPartOf m ∷ oddPartOf m (roundLotOdd m) ∷ []
 wholeBy m kind.OddLot = oddPartOf m (oddLotOdd m) ∷ []
-wholeBy m kind.Maker = makerOf m ∷ []
+wholeBy m kind.Maker = makerPartOf m ∷ []
 wholeBy m kind.Unknown = []
 
 -- with code 0 the whole; of a Q K with 60 to 64 the round part; else nothing
 unfoldable pub partsOf : ℕ → List ℕ → List Part
-partsOf c m = cond (eqb c 0) (wholeBy m (kindOf m)) (cond (partlyTaken c m) (roundOf m ∷ []) [])
+partsOf c m = cond (eqb c 0) (wholeBy m (kindOf m)) (cond (partlyTaken c m) (roundPartOf m ∷ []) [])

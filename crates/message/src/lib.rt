@@ -1,15 +1,17 @@
 // The reader of one message. It sees that message's bytes and the letter of its line, and nothing else.
 ghost use mathlib.Core.Path.{_≡_};
-ghost use mathlib.Core.Bool.{true, cond};
+ghost use mathlib.Core.Bool.{cond};
 ghost use Prim.Native.Nat.{_+_, _*_, _≤_, _<_};
-ghost use lib.Dec.{eqb};
-ghost use lib.ListN.{length, drop};
-ghost use Rattle.field.specs.Field.{field};
-ghost use Rattle.lists.specs.Lists.{at, every, member, upper};
-ghost use Rattle.message.specs.Form.{space, padded, follows, symbolGood, makerGood};
+ghost use lib.ListN.{length};
+ghost use Rattle.lists.specs.Lists.{at, member};
+ghost use Rattle.text.specs.Form.{makerGood};
 ghost use Rattle.message.specs.Message.{controlKind, quoteKind, kindOf, levelAt, quoteAt, oddAt, roundConditions, makerConditions, sideBad, priceFault, quoteFault, testBytes, readInquiry, readTest, readFinra, readRoundLot, readOddLot, readMaker, messageOf};
+ghost use Rattle.levels.specs.Levels.{itemLength};
+use levels::Item;
 use quote::Level;
 use quote::Quote;
+use text::Maker;
+use text::Symbol;
 
 /// Where each field of a message stands.
 pub struct Layout {}
@@ -27,11 +29,13 @@ impl Layout {
     /// Bytes of a header, and of C I, C T, C C and C O.
     pub const HEADER: usize = 20;
     /// C 5: 95 bytes more than a header.
-    pub const TEST_LEN: usize = 115;
+    pub const TEST_LEN: usize = Layout::HEADER + 95;
+    /// Its first byte, a space.
+    pub const TEST_FIRST: usize = 32;
 
-    pub const SYMBOL: usize = 20;
+    pub const SYMBOL: usize = Layout::HEADER;
 
-    pub const CONDITION: usize = 31;
+    pub const CONDITION: usize = Layout::SYMBOL + Symbol::LEN;
 
     pub const BID: usize = 32;
 
@@ -51,7 +55,7 @@ impl Layout {
     /// Q U.
     pub const MAKER: usize = 56;
 
-    pub const MAKER_LEN: usize = 60;
+    pub const MAKER_LEN: usize = Layout::MAKER + Maker::LEN;
 }
 
 /// The type of a message. C I and C T are alike.
@@ -188,7 +192,7 @@ fn is_test(msg: &[u8]) -> bool
     ensures { λ r. ⌜ r ≡ testBytes (now (msg .entry)) ⌝ }
 {
     for i in 0..95 {
-        if wide(msg[Layout::HEADER + i]) != 32 + i {
+        if wide(msg[Layout::HEADER + i]) != Layout::TEST_FIRST + i {
             return false;
         }
     }
@@ -231,7 +235,7 @@ fn read_round_lot(msg: &[u8], letter: u8) -> Message
     if letter == b'D' {
         return Message::Refused(44);
     }
-    if is_symbol(&msg[20..31]) {
+    if text::is_symbol(&msg[Layout::SYMBOL..Layout::CONDITION]) {
         let quote = quote_at(msg);
         let odd = odd_at(msg, Layout::ROUND_LOT_CLEAR, Layout::ROUND_LOT_ITEMS);
         let fault = round_lot_fault(quote);
@@ -258,7 +262,7 @@ fn read_odd_lot(msg: &[u8], letter: u8) -> Message
     if letter == b'D' {
         return Message::Refused(44);
     }
-    if is_symbol(&msg[20..31]) {
+    if text::is_symbol(&msg[Layout::SYMBOL..Layout::CONDITION]) {
         let odd = odd_at(msg, Layout::ODD_LOT_CLEAR, Layout::ODD_LOT_ITEMS);
         return Message::OddLot(odd);
     }
@@ -277,10 +281,10 @@ fn read_maker(msg: &[u8], letter: u8) -> Message
     if letter != b'D' {
         return Message::Refused(44);
     }
-    if is_symbol(&msg[20..31]) {
+    if text::is_symbol(&msg[Layout::SYMBOL..Layout::CONDITION]) {
         let quote = quote_at(msg);
         let name = field::get32(msg, Layout::MAKER);
-        let rest = name_fault(&msg[56..60]);
+        let rest = name_fault(&msg[Layout::MAKER..Layout::MAKER_LEN]);
         let fault = maker_fault(quote, rest);
         return Message::Maker { fault, name, quote };
     }
@@ -290,9 +294,9 @@ fn read_maker(msg: &[u8], letter: u8) -> Message
 // The length that the counts behind a clear mark ask for, the items starting at `items`.
 fn odd_length(msg: &[u8], clear: usize, items: usize) -> usize
     requires { ⌜ (clear < 1000) × (items < 1000) ⌝ }
-    ensures { λ r. ⌜ r ≡ items + 12 * (at (now (msg .entry)) (clear + 1) + at (now (msg .entry)) (clear + 2)) ⌝ }
+    ensures { λ r. ⌜ r ≡ items + itemLength * (at (now (msg .entry)) (clear + 1) + at (now (msg .entry)) (clear + 2)) ⌝ }
 {
-    items + 12 * (wide(field::byte(msg, clear + 1)) + wide(field::byte(msg, clear + 2)))
+    items + Item::LEN * (wide(field::byte(msg, clear + 1)) + wide(field::byte(msg, clear + 2)))
 }
 
 fn odd_at(msg: &[u8], clear: usize, items: usize) -> OddPart
@@ -361,10 +365,8 @@ fn maker_fault(q: Quote, rest: u8) -> u8
 fn name_fault(s: &[u8]) -> u8
     ensures { λ r. ⌜ r ≡ cond (makerGood (now (s .entry))) 0 48 ⌝ }
 {
-    if is_upper(field::byte(s, 0)) {
-        if is_padded(s, b'A', b'Z') {
-            return 0;
-        }
+    if text::is_maker(s) {
+        return 0;
     }
     48
 }
@@ -408,84 +410,4 @@ fn is_maker_condition(condition: u8) -> bool
         b'L' | b'R' => true,
         _ => false,
     }
-}
-
-/// Whether the bytes are a symbol: 11 of them, A to Z first, then printable bytes, then spaces to the end.
-pub fn is_symbol(s: &[u8]) -> bool
-    ensures { λ r. ⌜ r ≡ symbolGood (now (s .entry)) ⌝ }
-{
-    if s.len() != 11 {
-        return false;
-    }
-    if is_upper(field::byte(s, 0)) {
-        return is_text(s);
-    }
-    false
-}
-
-// Whether printable bytes, then spaces to the end, stand behind the first byte.
-// No branch depends on the bytes: where a symbol ends differs from message to message, and a wrong guess costs more than the rest of the check.
-fn is_text(s: &[u8]) -> bool
-    requires { ⌜ (length (now s) ≡ 11) × (upper (at (now s) 0) ≡ true) ⌝ }
-    ensures { λ r. ⌜ r ≡ padded 33 126 (now (s .entry)) ⌝ }
-{
-    let mut faults = 0u8;
-    for i in 0..10 {
-        faults = faults + fault(s[i], s[i + 1]);
-    }
-    faults == 0
-}
-
-// 0 if x may follow `before`, else how many rules x breaks.
-fn fault(before: u8, x: u8) -> u8
-    ensures { λ r. ⌜ (eqb r 0 ≡ follows before x) × (r ≤ 3) ⌝ }
-{
-    one_unless(x == b' ') * (one_unless(33 <= before) + one_unless(33 <= x) + one_unless(x <= 126))
-}
-
-fn one_unless(t: bool) -> u8
-    ensures { λ r. ⌜ (eqb r 0 ≡ t) × (r ≤ 1) ⌝ }
-{
-    if t {
-        return 0;
-    }
-    1
-}
-
-/// A to Z.
-pub fn is_upper(x: u8) -> bool
-    ensures { λ r. ⌜ r ≡ upper x ⌝ }
-{
-    if x < b'A' {
-        return false;
-    }
-    x <= b'Z'
-}
-
-// Bytes from low to high, then spaces to the end.
-fn is_padded(s: &[u8], low: u8, high: u8) -> bool
-    ensures { λ r. ⌜ r ≡ padded low high (now (s .entry)) ⌝ }
-{
-    for i in 0..s.len() {
-        if s[i] < low {
-            return is_blank(s, i);
-        }
-        if high < s[i] {
-            return is_blank(s, i);
-        }
-    }
-    true
-}
-
-// Spaces from `from` to the end.
-fn is_blank(s: &[u8], from: usize) -> bool
-    requires { ⌜ from ≤ length (now s) ⌝ }
-    ensures { λ r. ⌜ r ≡ every space (drop from (now (s .entry))) ⌝ }
-{
-    for i in from..s.len() {
-        if s[i] != b' ' {
-            return false;
-        }
-    }
-    true
 }

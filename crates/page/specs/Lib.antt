@@ -1,2 +1,3 @@
+pub mod Cut
+pub mod Layout
 pub mod Page
-pub mod Update

@@ -1,12 +1,13 @@
 -- Quotes: which sides count, and their bytes (document 01, "Messages").
 -- Assumes nothing.
-use Prim.Native.Nat.{ℕ, _^_, _<_}
+use Prim.Native.Nat.{ℕ, _+_, _^_, _<_}
 use mathlib.Core.Bool.{Bool, true, false, not, _&&_, cond}
 use mathlib.Core.List.{List, [], _∷_, _++_}
 use mathlib.Core.Option.{Option, none, some}
 use lib.Dec.{eqb, ltb}
 use Rattle.field.specs.Field.{part, field, beBytes}
 use Rattle.field.specs.Low.{low, leBytes}
+use Rattle.field.specs.Ascii.{A, B, E, F, H, O, R, W}
 use Rattle.lists.specs.Lists.{member}
 use Rattle.ranking.specs.declared.Side.{Side}
 use Rattle.ranking.specs.declared.Side.the-variants.{Bid, Offer}
@@ -31,7 +32,7 @@ isBid Offer = false
 
 -- "A, B, H, O, R, W admit both sides, E the offer, F the bid, C, L, N, U neither"; no other byte admits a side
 unfoldable pub admits : Side → ℕ → Bool
-admits s c = cond (member (65 ∷ 66 ∷ 72 ∷ 79 ∷ 82 ∷ 87 ∷ []) c) true (cond (eqb c 69) (not (isBid s)) (cond (eqb c 70) (isBid s) false))
+admits s c = cond (member (A ∷ B ∷ H ∷ O ∷ R ∷ W ∷ []) c) true (cond (eqb c E) (not (isBid s)) (cond (eqb c F) (isBid s) false))
 
 -- "A side counts if price and size are above zero and the condition admits it"
 unfoldable pub counts : Side → Quote → Bool
@@ -55,7 +56,19 @@ levelCandidate name condition l = record { name = name; price = l .price; size =
 unfoldable pub candidateOf : Side → ℕ → Quote → Option Candidate
 candidateOf s n q = cond (counts s q) (some (levelCandidate n (q .condition) (sideOf s q))) none
 
--- ---- bytes; a level's numbers have their lowest byte first
+-- ---- bytes: a level is price 8, size 4, time 8, their lowest byte first; a quote is condition 1, bid, offer
+
+abbrev pub levelLength : ℕ
+levelLength = 20
+
+abbrev pub bidAt : ℕ
+bidAt = 1
+
+abbrev pub offerAt : ℕ
+offerAt = bidAt + levelLength
+
+abbrev pub quoteLength : ℕ
+quoteLength = offerAt + levelLength
 
 unfoldable pub levelIn : List ℕ → Level
 levelIn b = record { price = low b 0 8; size = low b 8 4; time = low b 12 8 }
@@ -64,7 +77,7 @@ unfoldable pub levelBytes : Level → List ℕ
 levelBytes l = leBytes 8 (l .price) ++ leBytes 4 (l .size) ++ leBytes 8 (l .time)
 
 unfoldable pub quoteIn : List ℕ → Quote
-quoteIn b = record { condition = field b 0 1; bid = levelIn (part b 1 20); offer = levelIn (part b 21 20) }
+quoteIn b = record { condition = field b 0 1; bid = levelIn (part b bidAt levelLength); offer = levelIn (part b offerAt levelLength) }
 
 unfoldable pub quoteBytes : Quote → List ℕ
 quoteBytes q = beBytes 1 (q .condition) ++ levelBytes (q .bid) ++ levelBytes (q .offer)

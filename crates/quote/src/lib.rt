@@ -3,10 +3,10 @@ ghost use mathlib.Core.Path.{_≡_};
 ghost use Prim.Native.Nat.{_+_, _≤_};
 ghost use lib.ListN.{length};
 ghost use Rattle.field.specs.Field.{part, splice};
-ghost use Rattle.quote.specs.Quote.{admits, isBid, levelIn, levelBytes, quoteIn, quoteBytes};
+ghost use Rattle.quote.specs.Quote.{levelLength, quoteLength, admits, isBid, levelIn, levelBytes, quoteIn, quoteBytes};
 use ranking::Side;
 
-/// One side of a quote, or one odd-lot level: 20 bytes. Sizes are round lots in a quote and shares in a level.
+/// One side of a quote, or one odd-lot level. Sizes are round lots in a quote and shares in a level.
 pub struct Level {
     pub price: u64,
     pub size: u32,
@@ -29,8 +29,8 @@ impl Level {
 
     /// The level that stands in a page at `at`.
     pub fn get(page: &[u8], at: usize) -> Level
-        requires { ⌜ at + 20 ≤ length (now page) ⌝ }
-        ensures { λ r. ⌜ r ≡ levelIn (part (now (page .entry)) at 20) ⌝ }
+        requires { ⌜ at + levelLength ≤ length (now page) ⌝ }
+        ensures { λ r. ⌜ r ≡ levelIn (part (now (page .entry)) at levelLength) ⌝ }
     {
         Level {
             price: field::low64(page, at),
@@ -41,7 +41,7 @@ impl Level {
 
     /// Writes the level into a page at `at`.
     pub fn put(self, page: &mut [u8], at: usize)
-        requires { ⌜ at + 20 ≤ length (now page) ⌝ }
+        requires { ⌜ at + levelLength ≤ length (now page) ⌝ }
         ensures { λ _. ⌜ now (page .exit) ≡ splice (now (page .entry)) at (levelBytes self) ⌝ }
     {
         field::put_low64(page, at, self.price);
@@ -50,7 +50,7 @@ impl Level {
     }
 }
 
-/// A round-lot quote of a letter or a maker: 41 bytes.
+/// A round-lot quote of a letter or a maker.
 pub struct Quote {
     pub condition: u8,
     pub bid: Level,
@@ -58,17 +58,17 @@ pub struct Quote {
 }
 
 impl Quote {
-    /// Bytes of a quote: condition 1, bid 20, offer 20.
-    pub const LEN: usize = 41;
+    /// Bytes of a quote: condition 1, bid, offer.
+    pub const LEN: usize = Quote::OFFER + Level::LEN;
 
     pub const BID: usize = 1;
 
-    pub const OFFER: usize = 21;
+    pub const OFFER: usize = Quote::BID + Level::LEN;
 
     /// The quote that stands in a page at `at`.
     pub fn get(page: &[u8], at: usize) -> Quote
-        requires { ⌜ at + 41 ≤ length (now page) ⌝ }
-        ensures { λ r. ⌜ r ≡ quoteIn (part (now (page .entry)) at 41) ⌝ }
+        requires { ⌜ at + quoteLength ≤ length (now page) ⌝ }
+        ensures { λ r. ⌜ r ≡ quoteIn (part (now (page .entry)) at quoteLength) ⌝ }
     {
         Quote {
             condition: field::get8(page, at),
@@ -79,7 +79,7 @@ impl Quote {
 
     /// Writes the quote into a page at `at`.
     pub fn put(self, page: &mut [u8], at: usize)
-        requires { ⌜ at + 41 ≤ length (now page) ⌝ }
+        requires { ⌜ at + quoteLength ≤ length (now page) ⌝ }
         ensures { λ _. ⌜ now (page .exit) ≡ splice (now (page .entry)) at (quoteBytes self) ⌝ }
     {
         let bid = self.bid;

@@ -4,17 +4,17 @@ use Prim.Native.Nat.{ℕ}
 use mathlib.Core.Bool.{cond, _&&_}
 use mathlib.Core.List.{List, [], _∷_}
 use lib.Dec.{leb}
-use Rattle.book.specs.Opening.{bookLength}
 use Rattle.book.specs.declared.Report.{Report}
-use Rattle.book.specs.Code.{TakenBlock, taken}
+use Rattle.book.specs.Buffers.{TakenBlock, taken}
+use Rattle.opening.specs.Layout.{bookLength, symbolsMost}
 
 -- 0 where n is not 1 to 64
 unfoldable pub bookLen : ℕ → ℕ
-bookLen n = cond (leb 1 n && leb n 64) (bookLength n) 0
+bookLen n = cond (leb 1 n && leb n symbolsMost) (bookLength n) 0
 
 -- number, gap, next expected, count, accepted, partly accepted, rejected
-abbrev pub numbersOf : Report → List ℕ
-numbersOf r = r .number ∷ r .gap ∷ r .expected ∷ r .count ∷ r .accepted ∷ r .partly ∷ r .rejected ∷ []
+abbrev pub reportNumbers : Report → List ℕ
+reportNumbers r = r .number ∷ r .gap ∷ r .expected ∷ r .count ∷ r .accepted ∷ r .partly ∷ r .rejected ∷ []
 
 pub record TakenNumbers : Type 0 where
   pub number : ℕ
@@ -23,7 +23,7 @@ pub record TakenNumbers : Type 0 where
   pub answer : List ℕ
 
 abbrev pub numbered : TakenBlock → TakenNumbers
-numbered t = record { number = t .report .number; bytes = t .bytes; report = numbersOf (t .report); answer = t .answer }
+numbered t = record { number = t .report .number; bytes = t .bytes; report = reportNumbers (t .report); answer = t .answer }
 
 -- the block call, its report as numbers
 unfoldable pub takenNumbers : List ℕ → ℕ → List ℕ → List ℕ → TakenNumbers

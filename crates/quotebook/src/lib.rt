@@ -1,9 +1,13 @@
 // The C interface: the seven calls under the names of include/quotebook.h. A `&[u8]` is a pointer and a length there.
 ghost use mathlib.Core.Path.{_≡_};
 ghost use Rattle.book.specs.Call.{bare, call, make, add, openLine, startDay, endDay};
-ghost use Rattle.book.specs.Code.{ReadOut, readOut};
-ghost use Rattle.quotebook.specs.Interface.{bookLen, TakenNumbers, takenNumbers};
-use book::Book;
+ghost use Rattle.book.specs.Buffers.{readOut};
+ghost use Rattle.quotebook.specs.Interface.{bookLen, takenNumbers};
+use opening::Book;
+
+const OPENING: u64 = Book::OPENING_LEN as u64;
+
+const PAGE: u64 = Book::PAGE_LEN as u64;
 
 /// Bytes of a book for n symbols; 0 if n is not 1 to 64.
 #[no_mangle]
@@ -13,10 +17,10 @@ pub extern "C" fn qb_book_len(n: u32) -> u64
     if n < 1 {
         return 0;
     }
-    if 64 < n {
+    if Book::N_MAX < n {
         return 0;
     }
-    847 + (n as u64) * 6054
+    OPENING + (n as u64) * PAGE
 }
 
 #[no_mangle]

@@ -13,8 +13,9 @@ use Rattle.lists.specs.Lists.{collect, range}
 use Rattle.ranking.specs.declared.Side.{Side}
 use Rattle.ranking.specs.declared.Side.the-variants.{Bid, Offer}
 use Rattle.ranking.specs.declared.Candidate.{Candidate}
-use Rattle.ranking.specs.Ranking.{ahead, first, lex, low, high, byPrice, bySize, byTime, byName, better, best}
-use Rattle.ranking.specs.Choice.{rankOf, noCandidate, orNone, live, larger, byRest, beats, choose, bestFrom}
+use Rattle.ranking.specs.Ranking.{ahead, first, lex, lower, higher, byPrice, bySize, byTime, byName, better, best}
+use Rattle.ranking.specs.Held.{noCandidate, orNone}
+use Rattle.ranking.specs.code.Choice.{rankOf, live, larger, byRest, beats, choose, bestFrom}
 use Rattle.ranking.proofs.OrderLaws.{either, best-cons, either-either}
 use Rattle.ranking.proofs.RankingLaws.{better-weak}
 use Rattle.ranking.proofs.ChoiceLaws.{rank-zero, rank-some, choose-ahead, choose-none, choose-live}
@@ -47,7 +48,7 @@ last-rule false true = refl
 last-rule false false = refl
 
 rest-is : (x b : Candidate) → byRest x b ≡ lex bySize (lex byTime byName) x b
-unfolding byRest lex high low
+unfolding byRest lex higher lower
 rest-is x b =
     by-first (ltb (b .size) (x .size)) (ltb (x .size) (b .size)) (larger (b .time) (x .time) (larger (b .name) (x .name) false))
     ∙ ap (first (ltb (b .size) (x .size)) (ltb (x .size) (b .size)))

@@ -13,7 +13,8 @@ use Rattle.ranking.specs.declared.Side.{Side}
 use Rattle.ranking.specs.declared.Side.the-variants.{Bid, Offer}
 use Rattle.ranking.specs.declared.Candidate.{Candidate}
 use Rattle.ranking.specs.declared.Sides.{Sides}
-use Rattle.ranking.specs.Choice.{rankOf, noCandidate, orNone, live, larger, byRest, beats, choose, bestFrom, beyondOf, sidesFrom, stepSides}
+use Rattle.ranking.specs.Held.{noCandidate, orNone}
+use Rattle.ranking.specs.code.Choice.{rankOf, live, larger, byRest, beats, choose, bestFrom, beyondOf, sidesFrom, stepSides}
 
 pub larger-more : (a b : ℕ) (r : Bool) → b < a → true ≡ larger a b r
 larger-more a b r h = rw (lt-ltb b a h)

@@ -11,7 +11,7 @@ use borrow.Author.Tests.{ltb-true, ltb-false, le-ltb}
 use Rattle.lists.specs.Lists.{bindOption, consOption, collect}
 use Rattle.lists.proofs.Tests.{clash}
 use Rattle.lists.proofs.Members.{In}
-use Rattle.ranking.specs.Ranking.{first, lex, low, high, pick, best}
+use Rattle.ranking.specs.Ranking.{first, lex, lower, higher, pick, best}
 
 -- a comparison that is a strict weak order
 pub record Weak {A : Type 0} (R : A → A → Bool) : Type 0 where
@@ -71,24 +71,24 @@ module _ {A : Type 0} (P Q : A → A → Bool) where
   lex-ahead a b e = rw e
 
 module _ {A : Type 0} (k : A → ℕ) where
-  pub low-weak : Weak (low k)
-  unfolding low
+  pub low-weak : Weak (lower k)
+  unfolding lower
   low-weak =
       record {
         asym = λ a b e. le-ltb (k b) (k a) (omega (arith, ltb-true (k a) (k b) e));
         steps = λ a b c e f. le-ltb (k a) (k c) (omega (arith, ltb-false (k a) (k b) e, ltb-false (k b) (k c) f));
       }
 
-  pub high-weak : Weak (high k)
-  unfolding high
+  pub high-weak : Weak (higher k)
+  unfolding higher
   high-weak =
       record {
         asym = λ a b e. le-ltb (k a) (k b) (omega (arith, ltb-true (k b) (k a) e));
         steps = λ a b c e f. le-ltb (k c) (k a) (omega (arith, ltb-false (k b) (k a) e, ltb-false (k c) (k b) f));
       }
 
-  pub low-tie : (a b : A) → low k a b ≡ false → low k b a ≡ false → k a ≡ k b
-  unfolding low
+  pub low-tie : (a b : A) → lower k a b ≡ false → lower k b a ≡ false → k a ≡ k b
+  unfolding lower
   low-tie a b e f = omega (arith, ltb-false (k a) (k b) e, ltb-false (k b) (k a) f)
 
 -- ---- the best of a list

@@ -9,11 +9,11 @@ use Rattle.lists.proofs.Tests.{clash}
 use Rattle.ranking.specs.declared.Side.{Side}
 use Rattle.ranking.specs.declared.Side.the-variants.{Bid, Offer}
 use Rattle.ranking.specs.declared.Candidate.{Candidate}
-use Rattle.ranking.specs.Ranking.{ahead, lex, low, high, byPrice, bySize, byTime, byName, better}
+use Rattle.ranking.specs.Ranking.{ahead, lex, lower, higher, byPrice, bySize, byTime, byName, better}
 use Rattle.ranking.proofs.OrderLaws.{Weak, lex-weak, lex-left, lex-right, lex-ahead, low-weak, high-weak, low-tie}
 
 byPrice-weak : (s : Side) → Weak (byPrice s)
-unfolding byPrice low high
+unfolding byPrice lower higher
 byPrice-weak Bid = high-weak (λ (c : Candidate). c .price)
 byPrice-weak Offer = low-weak (λ (c : Candidate). c .price)
 

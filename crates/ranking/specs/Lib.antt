@@ -1,2 +1,3 @@
 pub mod Ranking
-pub mod Choice
+pub mod Held
+pub mod code

@@ -24,23 +24,23 @@ unfoldable pub lex : {A : Type 0} → (A → A → Bool) → (A → A → Bool) 
 lex P Q a b = first (P a b) (P b a) (Q a b)
 
 -- by a number: the lower is better; the higher is better
-unfoldable pub low : {A : Type 0} → (A → ℕ) → A → A → Bool
-low k a b = ltb (k a) (k b)
+unfoldable pub lower : {A : Type 0} → (A → ℕ) → A → A → Bool
+lower k a b = ltb (k a) (k b)
 
-unfoldable pub high : {A : Type 0} → (A → ℕ) → A → A → Bool
-high k a b = ltb (k b) (k a)
+unfoldable pub higher : {A : Type 0} → (A → ℕ) → A → A → Bool
+higher k a b = ltb (k b) (k a)
 
 unfoldable pub byPrice : Side → Candidate → Candidate → Bool
 byPrice s a b = ahead s (a .price) (b .price)
 
 abbrev pub bySize : Candidate → Candidate → Bool
-bySize = high (λ (c : Candidate). c .size)
+bySize = higher (λ (c : Candidate). c .size)
 
 abbrev pub byTime : Candidate → Candidate → Bool
-byTime = low (λ (c : Candidate). c .time)
+byTime = lower (λ (c : Candidate). c .time)
 
 abbrev pub byName : Candidate → Candidate → Bool
-byName = low (λ (c : Candidate). c .name)
+byName = lower (λ (c : Candidate). c .name)
 
 -- "highest bid or lowest offer, then larger size, earlier time, lower maker name"; letters likewise
 unfoldable pub better : Side → Candidate → Candidate → Bool

@@ -1,7 +1,7 @@
 // Which candidate is better.
 ghost use mathlib.Core.Path.{_≡_};
 ghost use lib.Dec.{ltb};
-ghost use Rattle.ranking.specs.Choice.{rankOf, larger, byRest, choose, beyondOf};
+ghost use Rattle.ranking.specs.code.Choice.{rankOf, larger, byRest, choose, beyondOf};
 
 /// Bids or offers. Every definition, law and loop that serves both takes it as a parameter.
 pub enum Side {

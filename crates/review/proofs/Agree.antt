@@ -12,19 +12,21 @@ use Rattle.lists.proofs.Tests.{Cut, equal, apart, cut}
 use Rattle.message.specs.Message.{Part}
 use Rattle.entries.specs.Entries.{entriesOf, entriesBy, finraBest}
 use Rattle.entries.specs.Publication.{publication}
-use Rattle.entries.specs.Page.{occupied}
-use Rattle.page.specs.Page.{Reading, findMaker, knownBy, knownOf}
-use Rattle.book.specs.Call.{Listed, isListed, lotOf, findReading, listedOf}
+use Rattle.page.specs.Page.{occupied}
+use Rattle.makers.specs.Makers.{findMaker}
+use Rattle.update.specs.Parts.{Reading, knownBy, knownOf}
+use Rattle.work.specs.Work.{Listed, isListed, lotOf, findReading, listedOf}
 use Rattle.review.specs.Reviewer.{quoteOf, makerOf, makersOf, levelsOf, reviewedBy, knownTo}
 use Rattle.review.proofs.CellLaws.{Sole}
 use Rattle.review.proofs.HistoryLaws.{same-count, same-finra}
 use Rattle.review.proofs.SilentLaws.{Silent, silent-maker, silent-makers, silent-levels}
+use Rattle.page.specs.Layout.{makerCount}
 
 -- a reading is as the history has its symbol
 pub record Good (h : List Part) (r : Reading) : Type 0 where
   pub quotes : (l : ℕ) → r .quotes l ≡ quoteOf h (r .symbol) l
   pub sole : Sole (r .cells)
-  pub size : length (r .cells) ≡ 16
+  pub size : length (r .cells) ≡ makerCount
   pub makers : (m : ℕ) → findMaker m (r .cells) ≡ makerOf h (r .symbol) m
   pub levels : (l : ℕ) → r .levels l ≡ levelsOf h (r .symbol) l
   pub entries : r .entries ≡ publication (entriesOf (r .quotes) (occupied (r .cells)) (r .levels))

@@ -5,16 +5,18 @@ use mathlib.Core.Path.{_≡_, refl, sym, ap, _∙_}
 use mathlib.Core.Bool.{Bool, true, false, cond}
 use mathlib.Core.List.{List, []}
 use mathlib.Core.Option.{Option, none, some}
-use Rattle.field.specs.Field.{Bytes, field}
+use Rattle.field.specs.Field.{Bytes}
 use Rattle.lists.specs.declared.Found.{Found}
 use Rattle.lists.specs.declared.Found.the-variants.{At, Nothing}
-use Rattle.page.proofs.EntryLaws.{bytes-every}
+use Rattle.update.proofs.EntryLaws.{bytes-every}
 use Rattle.block.specs.Block.{messagesOf}
-use Rattle.book.specs.declared.Line.{Line}
-use Rattle.book.specs.Opening.{linesIn, restIn, pageAt, pagesIn, pagePlace}
-use Rattle.book.specs.Call.{take, listedOf, numberOf, done, letterOf, toldOn, call}
-use Rattle.book.proofs.OpeningLaws.{Sound}
-use Rattle.book.proofs.PageLaws.{place-hit}
+use Rattle.opening.specs.declared.Line.{Line}
+use Rattle.opening.specs.Opening.{linesIn, restIn, pageAt, pagesIn, pagePlace}
+use Rattle.line.specs.Line.{done}
+use Rattle.book.specs.Call.{take, numberOf, letterOf, call}
+use Rattle.work.specs.Work.{listedOf, toldOn}
+use Rattle.opening.proofs.OpeningLaws.{Sound}
+use Rattle.opening.proofs.PageLaws.{place-hit}
 use Rattle.book.proofs.NumberLaws.{number-same, take-done}
 use Rattle.review.specs.Reviewer.{parts, toldR, Review, restAfter, symbolsAfter, historyAfter, reviewCall}
 use Rattle.review.specs.Lists.{areBytes}
@@ -24,6 +26,7 @@ use Rattle.review.proofs.CallLaws.{Held, Agrees, viewOf, view-is, call-
 use Rattle.review.proofs.AnswerLaws.{told-line}
 use Rattle.review.proofs.FrameLaws.{block-frame}
 use Rattle.review.proofs.PlaceLaws.{placeIn, place-is}
+use Rattle.page.specs.Layout.{pageSymbol}
 
 -- book and reviewer take the same messages
 taken-view : (n : ℕ) (b : List ℕ) (h : List (List ℕ)) → Sound n b → Bytes b → Core (parts h) (pagesIn b) → (i : ℕ) (k : List ℕ) (room : ℕ) → Bytes k
@@ -65,6 +68,6 @@ module _ (n : ℕ) (b : List ℕ) (v : Review) (a : Agrees n b v) (i : ℕ) (k :
     where
       go : (o : Found) → pagePlace b s ≡ o → bytesAt after o ≡ bytesAt b o
       go (At j) e =
-          let q : field (pageAt b j) 0 11 ≡ s = place-hit b s j e .1 in
+          let q : pageSymbol (pageAt b j) ≡ s = place-hit b s j e .1 in
           block-frame b i k room j (ap (touched (takenOn b i k room)) q ∙ ap (λ (ms : List (List ℕ)). touched ms s) taken-same ∙ t)
       go Nothing e = refl

@@ -9,12 +9,14 @@ use lib.Dec.{eqb}
 use Rattle.field.specs.Field.{Bytes, be}
 use Rattle.lists.proofs.Tests.{clash}
 use Rattle.block.specs.Block.{messagesOf}
-use Rattle.page.proofs.EntryLaws.{bytes-every}
-use Rattle.book.specs.declared.Line.{Line}
-use Rattle.book.specs.Opening.{linesIn, restIn, pagesIn}
-use Rattle.book.specs.Call.{Call, make, add, openLine, startDay, endDay, take, read, Listed, isListed, findReading, listedOf, numberOf, done, bare, lineAnswer, published, letterOf, answerOf, toldOn, entriesIn, publishedOn, numberOn, answerOn, call}
-use Rattle.book.proofs.OpeningLaws.{Sound, sound-is}
-use Rattle.book.proofs.LineLaws.{line-upper, line-open}
+use Rattle.update.proofs.EntryLaws.{bytes-every}
+use Rattle.opening.specs.declared.Line.{Line}
+use Rattle.opening.specs.Opening.{linesIn, restIn, pagesIn}
+use Rattle.line.specs.Line.{done}
+use Rattle.book.specs.Call.{Call, make, add, openLine, startDay, endDay, take, read, numberOf, bare, lineAnswer, published, letterOf, answerOf, entriesIn, publishedOn, numberOn, answerOn, call}
+use Rattle.work.specs.Work.{Listed, isListed, findReading, listedOf, toldOn}
+use Rattle.opening.proofs.OpeningLaws.{Sound, sound-is}
+use Rattle.opening.proofs.LineLaws.{line-upper, line-open}
 use Rattle.book.proofs.NumberLaws.{number-same, read-done}
 use Rattle.review.specs.Reviewer.{parts, reviewed, toldR, Review, reviewAnswer}
 use Rattle.review.specs.Lists.{blockIsBytes}

@@ -14,6 +14,7 @@ use Rattle.review.proofs.Rows.{allTold, Row, answered, Answered, end, _
 use Rattle.review.proofs.Cases as Cases
 use Rattle.review.proofs.Shared as Shared
 use Rattle.review.proofs.Checks as Checks
+use Rattle.review.proofs.Bounds as Bounds
 
 abbrev pub OnBook : List Row → Type 0
 OnBook [] = Unit {0}
@@ -43,3 +44,7 @@ shared = on-book Shared.table refl Shared.cases
 pub checks : OnBook Checks.table
 unfolding Checks.table blocksAreBytes every beBytes
 checks = on-book Checks.table refl Checks.cases
+
+pub bounds : OnBook Bounds.table
+unfolding Bounds.table blocksAreBytes every beBytes
+bounds = on-book Bounds.table refl Bounds.cases

@@ -12,14 +12,14 @@ use Rattle.lists.specs.Lists.{at, member, upper}
 use Rattle.lists.proofs.Tests.{Cut, equal, apart, cut}
 use Rattle.message.specs.declared.Kind.{Kind}
 use Rattle.message.specs.declared.Kind.the-variants as kind
-use Rattle.message.specs.Message.{kindOf, symbolOf, oddAt, Known, codeOf, Part, roundOf, wholeBy, partlyTaken, partsOf, roundLotOdd, oddLotOdd}
+use Rattle.message.specs.Message.{kindOf, symbolOf, oddAt, Known, codeOf, Part, roundPartOf, wholeBy, partlyTaken, partsOf, roundLotOdd, oddLotOdd, roundLength, roundLotItems, oddLotItems}
 use Rattle.block.specs.Block.{countIn, messageAt, messagesFrom, messagesOf}
-use Rattle.page.specs.Page.{Reading, knownOf}
-use Rattle.book.specs.Opening.{pagesIn}
-use Rattle.book.specs.Call.{findReading, partOn, partsOn, codeOn, messageOn, messagesOn, flagsOf, publications, toldOn}
-use Rattle.book.proofs.OpeningLaws.{Sound}
-use Rattle.book.proofs.PageLaws.{OpeningKept, opening-none, opening-then, kept-sound}
-use Rattle.book.proofs.PartLaws.{PartGood, PartDone, part-done}
+use Rattle.update.specs.Parts.{Reading, knownOf}
+use Rattle.opening.specs.Opening.{pagesIn}
+use Rattle.work.specs.Work.{findReading, partOn, partsOn, codeOn, messageOn, messagesOn, flagsOf, publications, toldOn}
+use Rattle.opening.proofs.OpeningLaws.{Sound}
+use Rattle.opening.proofs.PageLaws.{OpeningKept, opening-none, opening-then, kept-sound}
+use Rattle.work.proofs.PartLaws.{PartGood, PartDone, part-done}
 use Rattle.review.proofs.FitLaws.{quote-fits, name-fits, odd-message}
 use Rattle.review.proofs.CodeLaws.{Takes, takes-whole, takes-partly, letter-is, OddTaken, round-taken, odd-taken, MakerTaken, maker-taken}
 use Rattle.review.proofs.KeptLaws.{partly-is}
@@ -35,7 +35,7 @@ module _ (e : Known) (letter : ℕ) (m : List ℕ) (u : upper letter ≡ true) (
   up : Takes c → upper (at m 2) ≡ true
   up t = rw (letter-is e letter m c t x) u
 
-  round-good : (t : Takes c) → OddTaken e letter m c t (roundLotOdd m) → PartGood (roundOf m)
+  round-good : (t : Takes c) → OddTaken e letter m c t (roundLotOdd m) → PartGood (roundPartOf m)
   unfolding oddAt
   round-good t r = (up t, quote-fits m by (omega (arith, r .size)))
 
@@ -48,11 +48,11 @@ module _ (e : Known) (letter : ℕ) (m : List ℕ) (u : upper letter ≡ true) (
   whole-good z kind.RoundLot k =
       let t : Takes c = takes-whole c z in
       let r : OddTaken e letter m c t (roundLotOdd m) = round-taken e letter m c t x k in
-      (round-good t r, ((up t, odd-message m by 56 60 (omega arith) (r .size) (e .lot) (e .levels letter) (r .odd ∙ z)), tt))
+      (round-good t r, ((up t, odd-message m by roundLength roundLotItems (omega arith) (r .size) (e .lot) (e .levels letter) (r .odd ∙ z)), tt))
   whole-good z kind.OddLot k =
       let t : Takes c = takes-whole c z in
       let r : OddTaken e letter m c t (oddLotOdd m) = odd-taken e letter m c t x k in
-      ((up t, odd-message m by 31 36 (omega arith) (r .size) (e .lot) (e .levels letter) (r .odd ∙ z)), tt)
+      ((up t, odd-message m by 31 oddLotItems (omega arith) (r .size) (e .lot) (e .levels letter) (r .odd ∙ z)), tt)
   whole-good z kind.Maker k =
       let t : Takes c = takes-whole c z in
       let r : MakerTaken e letter m c t = maker-taken e letter m c t x k in
@@ -63,7 +63,7 @@ module _ (e : Known) (letter : ℕ) (m : List ℕ) (u : upper letter ≡ true) (
   unfolding partsOf
   parts-good = go (cut c 0) (partlyTaken c m) refl
     where
-      go : Cut c 0 → (p : Bool) → partlyTaken c m ≡ p → AllPartGood (cond (eqb c 0) (wholeBy m (kindOf m)) (cond p (roundOf m ∷ []) []))
+      go : Cut c 0 → (p : Bool) → partlyTaken c m ≡ p → AllPartGood (cond (eqb c 0) (wholeBy m (kindOf m)) (cond p (roundPartOf m ∷ []) []))
       go (equal t z) p f = rw t (whole-good z (kindOf m) refl)
       go (apart t z) true f =
           let r = partly-is c m f in

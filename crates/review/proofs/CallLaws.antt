@@ -12,23 +12,25 @@ use Rattle.field.specs.Field.{Bytes, be, part, field, splice}
 use Rattle.field.proofs.Laws.{field-lt, length-part, bytes-part}
 use Rattle.lists.specs.Lists.{mapOption}
 use Rattle.lists.proofs.Tests.{clash}
-use Rattle.message.specs.Form.{letterGood}
+use Rattle.text.specs.Form.{letterGood, symbolLength}
 use Rattle.block.specs.Block.{countIn, sequenceIn, messagesOf, idleBlock}
 use Rattle.block.specs.Sequence.{gapOf, nextOf, arrivalOf}
 use Rattle.block.specs.declared.Arrival.the-variants.{Taken, Duplicate}
-use Rattle.page.specs.Page.{emptied}
-use Rattle.page.proofs.Model.{blankReading, blanked}
-use Rattle.page.proofs.EntryLaws.{bytes-every}
-use Rattle.page.proofs.BlankLaws.{emptied-kept, emptied-reads}
-use Rattle.book.specs.declared.Line.{Line}
-use Rattle.book.specs.Opening.{symbolsOf, countOf, lineAt, lineIn, linesIn, restIn, pagesIn, eachPage, restartLines}
-use Rattle.book.specs.Call.{Call, make, add, openLine, startDay, endDay, take, read, Listed, listedOf, numberOf, done, nextBy, advanced, letterOf, messagesOn, advanceOn, afterCall, call}
-use Rattle.book.proofs.OpeningLaws.{Sound, rest-by}
-use Rattle.book.proofs.PageLaws.{OpeningKept, kept-sound, each-kept, each-reads}
-use Rattle.book.proofs.LineLaws.{LineFits, line-upper, line-open, lined, lined-pages, lined-rest}
-use Rattle.book.proofs.DayLaws.{dayed-pages, dayed-rest, relined-sound, relined-pages, relined-rest}
-use Rattle.book.proofs.FreshLaws.{fresh-rest, fresh-pages}
-use Rattle.book.proofs.AddLaws.{added, added-rest, added-pages}
+use Rattle.update.specs.Parts.{emptied}
+use Rattle.update.proofs.Model.{blankReading, blanked}
+use Rattle.update.proofs.EntryLaws.{bytes-every}
+use Rattle.update.proofs.BlankLaws.{emptied-kept, emptied-reads}
+use Rattle.opening.specs.declared.Line.{Line}
+use Rattle.opening.specs.Opening.{symbolsOf, countOf, lineIn, linesIn, restIn, pagesIn, eachPage, restartLines}
+use Rattle.line.specs.Line.{done, nextBy, advanced}
+use Rattle.book.specs.Call.{Call, make, add, openLine, startDay, endDay, take, read, numberOf, letterOf, advanceOn, afterCall, call}
+use Rattle.work.specs.Work.{Listed, listedOf, messagesOn}
+use Rattle.opening.proofs.OpeningLaws.{Sound, rest-by}
+use Rattle.opening.proofs.PageLaws.{OpeningKept, kept-sound, each-kept, each-reads}
+use Rattle.opening.proofs.LineLaws.{LineFits, line-upper, line-open, lined, lined-pages, lined-rest}
+use Rattle.opening.proofs.DayLaws.{dayed-pages, dayed-rest, relined-sound, relined-pages, relined-rest}
+use Rattle.opening.proofs.FreshLaws.{fresh-rest, fresh-pages}
+use Rattle.opening.proofs.AddLaws.{added, added-rest, added-pages}
 use Rattle.book.proofs.NumberLaws.{number-same, page-free, AddDone, add-done, open-done, take-done, symbol-eleven}
 use Rattle.book.proofs.SoundLaws.{Stays, call-stays}
 use Rattle.review.specs.Reviewer.{parts, messagesR, Review, setLine, restart, restAfter, symbolsAfter, historyAfter, reviewCall}
@@ -37,6 +39,7 @@ use Rattle.review.proofs.Agree.{Core}
 use Rattle.review.proofs.ListLaws.{core-none, emptied-listed, core-emptied, added-listed, core-added}
 use Rattle.review.proofs.WorkLaws.{messagesReading, messages-core, messages-listed}
 use Rattle.review.proofs.BytesLaws.{Done, messages-bytes, messages-done}
+use Rattle.opening.specs.Layout.{dayAt, lineLength, lineCount, lineAt}
 
 -- what the book's bytes and the reviewer share
 pub record Held (b : List ℕ) (v : Review) : Type 0 where
@@ -62,20 +65,20 @@ view-is b v a = λ i. record { rest = a .rest i; symbols = a .listed i; history 
 -- what a line's bytes hold fits them
 line-fits : (n : ℕ) (b : List ℕ) → Sound n b → Bytes b → (i : ℕ) (x : Line) → linesIn b i ≡ some x → LineFits x
 unfolding linesIn lineIn
-line-fits n b sd y i x e = let g = line-open b i x e in go (g .0) (ltb i 64) (letterGood (field (part b (lineAt i) 13) 0 1)) e
+line-fits n b sd y i x e = let g = line-open b i x e in go (g .0) (ltb i lineCount) (letterGood (field (part b (lineAt i) lineLength) 0 1)) e
   where
-    go : i < 64 → (t u : Bool)
-        → cond t (cond u (some (record { letter = field (part b (lineAt i) 13) 0 1; expected = field (part b (lineAt i) 13) 1 4; count = field (part b (lineAt i) 13) 5 8 })) none) none ≡ some x
+    go : i < lineCount → (t u : Bool)
+        → cond t (cond u (some (record { letter = field (part b (lineAt i) lineLength) 0 1; expected = field (part b (lineAt i) lineLength) 1 4; count = field (part b (lineAt i) lineLength) 5 8 })) none) none ≡ some x
         → LineFits x
     go l true true q =
-        let r : List ℕ = part b (lineAt i) 13 in
-        let w : length (part b (lineAt i) 13) ≡ 13 = length-part b (lineAt i) 13 (omega (arith, sd .size)) in
-        let z : Bytes (part b (lineAt i) 13) = bytes-part b (lineAt i) 13 y in
-        let p : _≡_ {A = Line} (record { letter = field (part b (lineAt i) 13) 0 1; expected = field (part b (lineAt i) 13) 1 4; count = field (part b (lineAt i) 13) 5 8 }) x = cc in
+        let r : List ℕ = part b (lineAt i) lineLength in
+        let w : length (part b (lineAt i) lineLength) ≡ lineLength = length-part b (lineAt i) lineLength (omega (arith, sd .size)) in
+        let z : Bytes (part b (lineAt i) lineLength) = bytes-part b (lineAt i) lineLength y in
+        let p : _≡_ {A = Line} (record { letter = field (part b (lineAt i) lineLength) 0 1; expected = field (part b (lineAt i) lineLength) 1 4; count = field (part b (lineAt i) lineLength) 5 8 }) x = cc in
         record {
           good = line-open b i x e .1;
-          expected = rw (sym p) (field-lt (part b (lineAt i) 13) 1 4 (omega arith) z);
-          count = rw (sym p) (field-lt (part b (lineAt i) 13) 5 8 (omega arith) z);
+          expected = rw (sym p) (field-lt (part b (lineAt i) lineLength) 1 4 (omega arith) z);
+          count = rw (sym p) (field-lt (part b (lineAt i) lineLength) 5 8 (omega arith) z);
         }
     go l true false q = clash (cc)
     go l false u q = clash (cc)
@@ -117,7 +120,7 @@ module _ (n : ℕ) (b : List ℕ) (h : List (List ℕ)) (sd : Sound n b) (y : By
   unfolding afterCall restAfter symbolsAfter historyAfter
   after-add x l d =
       let g : AddDone (restIn b) ls x l = add-done (restIn b) ls x l d in
-      let w : length x ≡ 11 = symbol-eleven x (g .good) in
+      let w : length x ≡ symbolLength = symbol-eleven x (g .good) in
       let r : countOf b < n = page-free n b sd (g .room) in
       let p : pagesIn (added n b sd x l w r) ≡ pagesIn b ++ (blankReading (be x) l ∷ []) = added-pages n b sd x l w r in
       record { rest = added-rest n b sd x l w r; listed = ap listedOf p ∙ added-listed (pagesIn b) (be x) l; core = rw p (core-added (parts h) (pagesIn b) (be x) l c (g .new)) }
@@ -141,12 +144,12 @@ module _ (n : ℕ) (b : List ℕ) (h : List (List ℕ)) (sd : Sound n b) (y : By
       let b₁ : List ℕ = eachPage emptied 0 (symbolsOf b) b in
       let k : OpeningKept b b₁ = each-kept n emptied (λ p w. emptied-kept p w) b sd in
       let s₁ : Sound n b₁ = kept-sound b b₁ k n sd in
-      let s₂ : Sound n (restartLines 0 64 b₁) = relined-sound n b₁ s₁ in
-      let p : pagesIn (splice (restartLines 0 64 b₁) 10 (1 ∷ [])) ≡ map blanked (pagesIn b) =
-      dayed-pages n (restartLines 0 64 b₁) s₂ 1 (lit≤ tt) ∙ relined-pages n b₁ s₁ ∙ each-reads n emptied (λ p w. emptied-kept p w) b sd blanked (λ p w. emptied-reads p w) in
+      let s₂ : Sound n (restartLines 0 lineCount b₁) = relined-sound n b₁ s₁ in
+      let p : pagesIn (splice (restartLines 0 lineCount b₁) dayAt (1 ∷ [])) ≡ map blanked (pagesIn b) =
+      dayed-pages n (restartLines 0 lineCount b₁) s₂ 1 (lit≤ tt) ∙ relined-pages n b₁ s₁ ∙ each-reads n emptied (λ p w. emptied-kept p w) b sd blanked (λ p w. emptied-reads p w) in
       let r : restIn b₁ ≡ restIn b = rest-by b b₁ (k .front) in
       record {
-        rest = dayed-rest n (restartLines 0 64 b₁) s₂ 1 (lit≤ tt)
+        rest = dayed-rest n (restartLines 0 lineCount b₁) s₂ 1 (lit≤ tt)
             ∙ (λ i. record { n = relined-rest n b₁ s₁ i .n; lines = relined-rest n b₁ s₁ i .lines; day = true })
             ∙ (λ i. record { n = r i .n; lines = λ j. mapOption restart (r i .lines j); day = true });
         listed = ap listedOf p ∙ emptied-listed (pagesIn b);
@@ -156,7 +159,7 @@ module _ (n : ℕ) (b : List ℕ) (h : List (List ℕ)) (sd : Sound n b) (y : By
   after-end : Then endDay
   unfolding afterCall restAfter symbolsAfter historyAfter
   after-end =
-      let p : pagesIn (splice b 10 (0 ∷ [])) ≡ pagesIn b = dayed-pages n b sd 0 (lit≤ tt) in
+      let p : pagesIn (splice b dayAt (0 ∷ [])) ≡ pagesIn b = dayed-pages n b sd 0 (lit≤ tt) in
       record { rest = dayed-rest n b sd 0 (lit≤ tt); listed = ap listedOf p; core = rw p c }
 
   after-take : (i : ℕ) (x : List ℕ) (k : ℕ) → Bytes x → IsDone (take i x k) → Then (take i x k)
@@ -174,7 +177,7 @@ module _ (n : ℕ) (b : List ℕ) (h : List (List ℕ)) (sd : Sound n b) (y : By
       go (some r) e =
           let b₁ : List ℕ = messagesOn (r .letter) (messagesOf x) b in
           let f : LineFits r = line-fits n b sd y i r e in
-          let l : i < 64 = line-open b i r e .0 in
+          let l : i < lineCount = line-open b i r e .0 in
           let t : Done b b₁ (messagesReading (r .letter) (messagesOf x) (pagesIn b)) =
           messages-done n (r .letter) (line-upper r (f .good)) (messagesOf x) b (messages-bytes x z) sd y in
           let s₁ : Sound n b₁ = kept-sound b b₁ (t .kept) n sd in

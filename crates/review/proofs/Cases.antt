@@ -5,7 +5,7 @@ use mathlib.Core.Path.{refl}
 use mathlib.Core.List.{List, [], _∷_, _++_}
 use lib.ListN.{replicate}
 use Rattle.book.specs.Call.{Call, take}
-use Rattle.review.proofs.Rows.{odds, item, oddLot, refused, accepted, partly, rejected, national, odd, nothing, shown, zt, roundOf, noOdd, plain, unknown, onN, onP, look, Row, inDay, answered, Answered, end, _▹_}
+use Rattle.review.proofs.Rows.{odds, item, oddLot, refused, accepted, partly, rejected, gap, national, odd, nothing, shown, zt, roundOf, noOdd, plain, unknown, onN, onP, look, Row, inDay, answered, Answered, end, _▹_}
 
 -- odd bids under a clear mark
 abbrev bids : ℕ → ℕ → List ℕ → List ℕ
@@ -32,10 +32,6 @@ abbrev fourShown : ℕ → ℕ → List (List ℕ)
 fourShown s lots =
     accepted (s + 1) s 16 ∷ best 78 lots 78 (odd 78 10012000 3) ∷ accepted (s + 2) (s + 1) 16 ∷ best 78 lots 78 (odd 78 10011000 2)
     ∷ accepted (s + 3) (s + 2) 16 ∷ best 78 lots 78 (odd 78 10010000 1) ∷ accepted (s + 4) (s + 3) 16 ∷ best 78 lots 78 nothing ∷ []
-
--- a gap: number 70, d, next expected number, count, one message rejected with 40
-abbrev gap : ℕ → ℕ → ℕ → List ℕ
-gap d expected count = 70 ∷ d ∷ expected ∷ count ∷ 0 ∷ 0 ∷ 1 ∷ 0 ∷ 40 ∷ 0 ∷ 0 ∷ []
 
 unfoldable pub table : List Row
 table =

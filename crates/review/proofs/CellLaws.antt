@@ -16,9 +16,9 @@ use Rattle.lists.proofs.Members.{In, Distinct}
 use Rattle.quote.specs.declared.Quote.{Quote}
 use Rattle.quote.specs.Quote.{emptyQuote}
 use Rattle.entries.specs.Entries.{Maker}
-use Rattle.entries.specs.Page.{occupied}
-use Rattle.page.specs.Page.{named, findMaker}
-use Rattle.page.proofs.Model.{asMaker, rewrite, allocate, standing, makerPut, marked, markAll}
+use Rattle.page.specs.Page.{occupied}
+use Rattle.makers.specs.Makers.{named, findMaker}
+use Rattle.update.proofs.Model.{asMaker, rewrite, allocate, standing, makerPut, marked, markAll}
 
 -- no two cells have one name
 abbrev pub Sole : List (Option Maker) → Type 0

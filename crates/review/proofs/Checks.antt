@@ -1,36 +1,16 @@
 -- Numbers and codes in their checking order: operator, line and participant. Like `Shared`, rows of whole answers.
 -- Assumes nothing.
-use Prim.Native.Nat.{ℕ, _+_}
+use Prim.Native.Nat.{ℕ}
 use mathlib.Core.Path.{refl}
 use mathlib.Core.List.{List, [], _∷_, _++_}
 use lib.ListN.{replicate, set}
 use Rattle.field.specs.Field.{beBytes}
-use Rattle.lists.specs.Lists.{range}
 use Rattle.book.specs.Call.{make, add, openLine, startDay, endDay, take, read}
-use Rattle.review.proofs.Rows.{header, quoted, odds, item, oddLot, maker, control, framed, sealed, block, only, refused, accepted, partly, rejected, nothing, shown, zt, roundOf, noOdd, plain, unknown, onN, onP, onD, look, Row, inDay, fromMake, answered, Answered, end, _▹_}
+use Rattle.review.proofs.Rows.{header, quoted, odds, item, maker, control, integrity, test, framed, sealed, block, only, refused, accepted, partly, rejected, twoRejected, nothing, shown, none, zt, roundOf, noOdd, plain, levels, unknown, onN, onP, onD, look, Row, inDay, fromMake, answered, Answered, end, _▹_}
 
 -- this many bytes, then spaces to eleven
 abbrev symbol : List ℕ → ℕ → List ℕ
 symbol bytes spaces = bytes ++ replicate spaces 32
-
-abbrev none : List ℕ
-none = shown nothing nothing nothing nothing nothing nothing
-
--- a line integrity message by N, 20 bytes
-abbrev integrity : List ℕ
-integrity = control 84 78
-
--- C 5: 95 more bytes, hex 20 to 7E in order
-abbrev test : List ℕ
-test = control 53 78 ++ range 95 32
-
--- two messages rejected with 40
-abbrev twoRejected : ℕ → ℕ → List ℕ
-twoRejected expected count = 0 ∷ 0 ∷ expected ∷ count ∷ 0 ∷ 0 ∷ 2 ∷ 0 ∷ 40 ∷ 0 ∷ 0 ∷ 1 ∷ 40 ∷ 0 ∷ 0 ∷ []
-
--- a Q M of ZT by N: clear mark, counts, items
-abbrev levels : ℕ → ℕ → ℕ → List ℕ → List ℕ
-levels mark bids offers items = oddLot 78 8 zt (odds mark bids offers (0 ∷ 0 ∷ []) items)
 
 -- a Q U of ZT by a letter: condition, bid and offer, name
 abbrev makerBy : ℕ → ℕ → ℕ → ℕ → ℕ → ℕ → List ℕ → List ℕ

@@ -8,16 +8,15 @@ use native.Mathlib.Omega.{arith}
 use lib.Dec.{eqb, lit<, lit≤}
 use lib.ListN.{length}
 use borrow.Author.Tests.{eqb-true}
-use Rattle.field.specs.Field.{part}
 use Rattle.lists.specs.Lists.{at, member}
 use Rattle.quote.specs.declared.Quote.{Quote}
 use Rattle.levels.specs.Levels.{oddCode}
-use Rattle.message.specs.Form.{symbolGood, makerGood}
+use Rattle.text.specs.Form.{symbolGood, makerGood}
 use Rattle.message.specs.declared.Kind.the-variants as kind
 use Rattle.message.specs.declared.Message.{Message}
 use Rattle.message.specs.declared.Message.the-variants as says
 use Rattle.message.specs.declared.OddPart.{OddPart}
-use Rattle.message.specs.Message.{kindOf, quoteAt, makerName, roundLotOdd, oddLotOdd, oddOf, oddLength, sideBad, roundConditions, makerConditions, priceFault, quoteFault, isD, readRoundLot, readOddLot, readMaker, readBy, isUnknown, messageOf, Known, makerCode, codeBy, codeOf}
+use Rattle.message.specs.Message.{kindOf, quoteAt, makerName, roundLotOdd, oddLotOdd, oddOf, oddLength, sideBad, roundConditions, makerConditions, priceFault, quoteFault, isD, readRoundLot, readOddLot, readMaker, readBy, isUnknown, messageOf, Known, makerCode, codeBy, codeOf, makerLength, symbolText, makerText, headerZero}
 
 -- ---- checks that were passed
 
@@ -90,9 +89,9 @@ module _ (e : Known) (letter : ℕ) (m : List ℕ) (c : ℕ) (t : Takes c) where
   round-taken q k =
       let a : codeBy e letter m (readRoundLot letter m) ≡ c = rw k at (spoken q .1) in
       let a2 = past (eqb (length m) (oddLength (roundLotOdd m))) _ 42 (lit≤ tt) (lit< tt) a in
-      let a3 = past (eqb (at m 3) 0 && eqb (at m 59) 0) _ 43 (lit≤ tt) (lit< tt) (a2 .1) in
+      let a3 = past (headerZero m && eqb (at m 59) 0) _ 43 (lit≤ tt) (lit< tt) (a2 .1) in
       let a4 = past-not (isD letter) _ 44 (lit≤ tt) (lit< tt) (a3 .1) in
-      let a5 = past (symbolGood (part m 20 11)) _ 45 (lit≤ tt) (lit< tt) (a4 .1) in
+      let a5 = past (symbolGood (symbolText m)) _ 45 (lit≤ tt) (lit< tt) (a4 .1) in
       let a6 = listed (e .listed) _ (a5 .1) in
       let a7 = fault roundConditions (quoteAt m) true _ (a6 .1) in
       record { size = eqb-true _ _ (a2 .0); known = a6 .0; odd = a7 .1 }
@@ -103,15 +102,15 @@ module _ (e : Known) (letter : ℕ) (m : List ℕ) (c : ℕ) (t : Takes c) where
   odd-taken q k =
       let a : codeBy e letter m (readOddLot letter m) ≡ c = rw k at (spoken q .1) in
       let a2 = past (eqb (length m) (oddLength (oddLotOdd m))) _ 42 (lit≤ tt) (lit< tt) a in
-      let a3 = past (eqb (at m 3) 0 && (eqb (at m 34) 0 && eqb (at m 35) 0)) _ 43 (lit≤ tt) (lit< tt) (a2 .1) in
+      let a3 = past (headerZero m && (eqb (at m 34) 0 && eqb (at m 35) 0)) _ 43 (lit≤ tt) (lit< tt) (a2 .1) in
       let a4 = past-not (isD letter) _ 44 (lit≤ tt) (lit< tt) (a3 .1) in
-      let a5 = past (symbolGood (part m 20 11)) _ 45 (lit≤ tt) (lit< tt) (a4 .1) in
+      let a5 = past (symbolGood (symbolText m)) _ 45 (lit≤ tt) (lit< tt) (a4 .1) in
       let a6 = listed (e .listed) _ (a5 .1) in
       record { size = eqb-true _ _ (a2 .0); known = a6 .0; odd = a6 .1 }
 
   -- of a Q U that is taken
   pub record MakerTaken : Type 0 where
-    pub size : length m ≡ 60
+    pub size : length m ≡ makerLength
     pub known : e .listed ≡ true
     pub condition : member makerConditions (quoteAt m .condition) ≡ true
     pub room : makerCode e (makerName m) ≡ c
@@ -120,10 +119,10 @@ module _ (e : Known) (letter : ℕ) (m : List ℕ) (c : ℕ) (t : Takes c) where
   unfolding readMaker
   maker-taken q k =
       let a : codeBy e letter m (readMaker letter m) ≡ c = rw k at (spoken q .1) in
-      let a2 = past (eqb (length m) 60) _ 42 (lit≤ tt) (lit< tt) a in
-      let a3 = past (eqb (at m 3) 0) _ 43 (lit≤ tt) (lit< tt) (a2 .1) in
+      let a2 = past (eqb (length m) makerLength) _ 42 (lit≤ tt) (lit< tt) a in
+      let a3 = past (headerZero m) _ 43 (lit≤ tt) (lit< tt) (a2 .1) in
       let a4 = past (isD letter) _ 44 (lit≤ tt) (lit< tt) (a3 .1) in
-      let a5 = past (symbolGood (part m 20 11)) _ 45 (lit≤ tt) (lit< tt) (a4 .1) in
+      let a5 = past (symbolGood (symbolText m)) _ 45 (lit≤ tt) (lit< tt) (a4 .1) in
       let a6 = listed (e .listed) _ (a5 .1) in
-      let a7 = fault makerConditions (quoteAt m) (makerGood (part m 56 4)) _ (a6 .1) in
+      let a7 = fault makerConditions (quoteAt m) (makerGood (makerText m)) _ (a6 .1) in
       record { size = eqb-true _ _ (a2 .0); known = a6 .0; condition = a7 .0; room = a7 .1 }

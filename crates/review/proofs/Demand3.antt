@@ -14,18 +14,22 @@ use Rattle.field.specs.Field.{beBytes}
 use Rattle.lists.specs.Lists.{member}
 use Rattle.lists.proofs.Members.{In}
 use Rattle.entries.specs.Entries.{entriesOf}
-use Rattle.entries.proofs.PublicationLaws.{length-publication}
-use Rattle.book.specs.Call.{Call, make, read, Listed, done, call, answers, bytesAfter}
+use Rattle.entries.proofs.LengthLaws.{length-publication}
+use Rattle.line.specs.Line.{done}
+use Rattle.book.specs.Call.{Call, make, read, call, answers, bytesAfter}
+use Rattle.work.specs.Work.{Listed}
 use Rattle.review.specs.Reviewer.{quoteOf, makersOf, levelsOf, parts, reviewedBy, reviewed, freshReview, reviewAnswers, reviewAfter}
 use Rattle.review.specs.Lists.{blocksAreBytes}
 use Rattle.review.specs.Numbers.{numbersOf}
 use Rattle.review.proofs.RunLaws.{answers-agree, reads-agree}
 use Rattle.review.proofs.NumberLaws.{number-known}
 use Rattle.review.proofs.ReportLaws.{number-told, refused-same}
+use Rattle.entries.specs.Publication.{publicationLength}
+use Rattle.text.specs.Form.{symbolLength}
 
 -- the eleven bytes of a symbol that the reviewer holds
 abbrev pub symbolBytes : Listed → List ℕ
-symbolBytes x = beBytes 11 (x .symbol)
+symbolBytes x = beBytes symbolLength (x .symbol)
 
 -- of memory m, lent for n symbols, and the calls cs after the make
 pub record Agreed (m : List ℕ) (n : ℕ) (cs : List Call) : Type 0 where
@@ -33,15 +37,15 @@ pub record Agreed (m : List ℕ) (n : ℕ) (cs : List Call) : Type 0 where
   pub told : answers (call m (make n) .bytes) cs ≡ reviewAnswers (freshReview n) cs
   -- (b) then, for each symbol that the reviewer holds, a read into a buffer of 96 answers 0 and gives the bytes that the reviewer works out anew
   pub shown : (x : Listed) → In x (reviewAfter (freshReview n) cs .symbols)
-      → (call (bytesAfter (call m (make n) .bytes) cs) (read (symbolBytes x) 96) .answer .number ≡ 0)
-      × (call (bytesAfter (call m (make n) .bytes) cs) (read (symbolBytes x) 96) .answer .publication ≡ reviewed (reviewAfter (freshReview n) cs .history) (x .symbol))
+      → (call (bytesAfter (call m (make n) .bytes) cs) (read (symbolBytes x) publicationLength) .answer .number ≡ 0)
+      × (call (bytesAfter (call m (make n) .bytes) cs) (read (symbolBytes x) publicationLength) .answer .publication ≡ reviewed (reviewAfter (freshReview n) cs .history) (x .symbol))
 
 -- for all memory m and all n for which make answers 0, and all lists of calls, in any order, whose blocks are bytes
 pub demand3 : (m : List ℕ) (n : ℕ) → call m (make n) .answer .number ≡ 0 → (cs : List Call) → blocksAreBytes cs ≡ true → Agreed m n cs
 demand3 m n made cs bytes = record { told = answers-agree m n made cs bytes; shown = reads-agree m n made cs bytes }
 
 -- those bytes are 96
-pub reviewed-length : (h : List (List ℕ)) (s : ℕ) → length (reviewed h s) ≡ 96
+pub reviewed-length : (h : List (List ℕ)) (s : ℕ) → length (reviewed h s) ≡ publicationLength
 unfolding reviewedBy
 reviewed-length h s = length-publication (entriesOf (quoteOf (parts h) s) (makersOf (parts h) s) (levelsOf (parts h) s))
 

@@ -14,9 +14,10 @@ use Rattle.lists.specs.Lists.{at, member}
 use Rattle.lists.proofs.Tests.{clash}
 use Rattle.quote.specs.Quote.{LevelFits, QuoteFits}
 use Rattle.levels.specs.declared.Item.{Item}
-use Rattle.levels.specs.Levels.{Standing, Odd, oddOn, itemsBad, oddBad, fifth, oddCode, itemAt, itemsFrom, oddIn}
+use Rattle.levels.specs.Levels.{Standing, Odd, oddOn, itemsBad, oddBad, fifth, oddCode, itemAt, itemsFrom, oddIn, itemLength, clearMarks}
 use Rattle.levels.proofs.LevelLaws.{ItemGood, ItemsGood, OddGood}
-use Rattle.message.specs.Message.{timeOf, levelAt, quoteAt, makerName, oddAt, oddOf, oddLength}
+use Rattle.message.specs.Message.{timeOf, levelAt, quoteAt, makerName, oddAt, oddOf, oddLength, roundLength, roundLotItems}
+use Rattle.text.specs.Form.{nameLength}
 
 -- ---- numbers fit their bytes
 
@@ -29,13 +30,13 @@ module _ (m : List ℕ) (b : Bytes m) where
   unfolding levelAt
   level-fits i h k = record { price = field-lt m i 8 (omega arith) b; size = field-lt m (i + 8) 4 (omega arith) b; time = time-fits k }
 
-  pub quote-fits : 56 ≤ length m → QuoteFits (quoteAt m)
+  pub quote-fits : roundLength ≤ length m → QuoteFits (quoteAt m)
   unfolding quoteAt
   quote-fits h = record { condition = field-lt m 31 1 (omega arith) b; bid = level-fits 32 (omega arith) (omega arith); offer = level-fits 44 (omega arith) (omega arith) }
 
-  pub name-fits : 60 ≤ length m → makerName m < 256 ^ 4
+  pub name-fits : roundLotItems ≤ length m → makerName m < 256 ^ 4
   unfolding makerName
-  name-fits h = field-lt m 56 4 (omega arith) b
+  name-fits h = field-lt m roundLength nameLength (omega arith) b
 
 -- ---- an odd part with code 0 has priced items
 
@@ -61,7 +62,7 @@ bad-append lot (x ∷ xs) ys z = go (eqb (x .price) 0) (leb lot (x .shares)) (ba
 -- 60 and 61 passed
 bad-items : (lot : ℕ) (o : Odd) → oddBad lot o ≡ 0 → (itemsBad lot (o .bids) ≡ 0) × (itemsBad lot (o .offers) ≡ 0)
 unfolding oddBad
-bad-items lot o z = go (member (32 ∷ 66 ∷ 83 ∷ 88 ∷ []) (o .mark)) (leb (length (o .bids)) 4 && leb (length (o .offers)) 4) z
+bad-items lot o z = go (member clearMarks (o .mark)) (leb (length (o .bids)) 4 && leb (length (o .offers)) 4) z
   where
     go : (s t : Bool) → _≡_ {A = ℕ} (cond s (cond t (itemsBad lot (o .bids ++ o .offers)) 61) 60) 0 → (itemsBad lot (o .bids) ≡ 0) × (itemsBad lot (o .offers) ≡ 0)
     go true true z = bad-append lot (o .bids) (o .offers) z
@@ -69,20 +70,20 @@ bad-items lot o z = go (member (32 ∷ 66 ∷ 83 ∷ 88 ∷ []) (o .mark)) (leb 
     go false t z = absurd (omega arith)
 
 module _ (b : List ℕ) (by : Bytes b) (t : ℕ) (fits : t < 256 ^ 8) (lot : ℕ) where
-  items-fit : (n i : ℕ) → 12 * (i + n) ≤ length b → itemsBad lot (itemsFrom b i n) ≡ 0 → ItemsGood t (itemsFrom b i n)
+  items-fit : (n i : ℕ) → itemLength * (i + n) ≤ length b → itemsBad lot (itemsFrom b i n) ≡ 0 → ItemsGood t (itemsFrom b i n)
   unfolding itemsFrom itemAt itemsBad
   items-fit zero i h z = tt
-  items-fit (suc n) i h z = go (eqb (field b (12 * i) 8) 0) refl (leb lot (field b (12 * i + 8) 4)) (items-fit n (i + 1) (omega arith)) z
+  items-fit (suc n) i h z = go (eqb (field b (itemLength * i) 8) 0) refl (leb lot (field b (itemLength * i + 8) 4)) (items-fit n (i + 1) (omega arith)) z
     where
-      go : (s : Bool) → eqb (field b (12 * i) 8) 0 ≡ s → (u : Bool) → (itemsBad lot (itemsFrom b (i + 1) n) ≡ 0 → ItemsGood t (itemsFrom b (i + 1) n))
+      go : (s : Bool) → eqb (field b (itemLength * i) 8) 0 ≡ s → (u : Bool) → (itemsBad lot (itemsFrom b (i + 1) n) ≡ 0 → ItemsGood t (itemsFrom b (i + 1) n))
           → _≡_ {A = ℕ} (cond s 62 (cond u 63 (itemsBad lot (itemsFrom b (i + 1) n)))) 0
-          → ItemGood t (record { price = field b (12 * i) 8; shares = field b (12 * i + 8) 4 }) × ItemsGood t (itemsFrom b (i + 1) n)
+          → ItemGood t (record { price = field b (itemLength * i) 8; shares = field b (itemLength * i + 8) 4 }) × ItemsGood t (itemsFrom b (i + 1) n)
       go true e u down z = absurd (omega arith)
       go false e true down z = absurd (omega arith)
       go false e false down z =
-          (record { priced = e; fits = record { price = field-lt b (12 * i) 8 (omega arith) by; size = field-lt b (12 * i + 8) 4 (omega arith) by; time = fits } }, down z)
+          (record { priced = e; fits = record { price = field-lt b (itemLength * i) 8 (omega arith) by; size = field-lt b (itemLength * i + 8) 4 (omega arith) by; time = fits } }, down z)
 
-  odd-fits : (mark bids offers : ℕ) → 12 * (bids + offers) ≤ length b → oddBad lot (oddIn mark bids offers t b) ≡ 0 → OddGood (oddIn mark bids offers t b)
+  odd-fits : (mark bids offers : ℕ) → itemLength * (bids + offers) ≤ length b → oddBad lot (oddIn mark bids offers t b) ≡ 0 → OddGood (oddIn mark bids offers t b)
   unfolding oddIn
   odd-fits mark bids offers h z =
       let r = bad-items lot (record { mark = mark; bids = itemsFrom b 0 bids; offers = itemsFrom b bids offers; time = t }) z in

@@ -8,7 +8,8 @@ use mathlib.Core.Bool.{true, false}
 use mathlib.Core.List.{List}
 use lib.ListN.{length}
 use Rattle.lists.proofs.Members.{In}
-use Rattle.book.specs.Call.{Call, make, take, Listed, isListed, call, bytesAfter}
+use Rattle.book.specs.Call.{Call, make, take, call, bytesAfter}
+use Rattle.work.specs.Work.{Listed, isListed}
 use Rattle.review.specs.Reviewer.{freshReview, reviewAfter}
 use Rattle.review.specs.Lists.{areBytes, blocksAreBytes}
 use Rattle.review.specs.Frame.{touched, takenR, pageOf}
@@ -16,11 +17,12 @@ use Rattle.review.proofs.CallLaws.{Agrees}
 use Rattle.review.proofs.RunLaws.{after-agrees}
 use Rattle.review.proofs.PlaceLaws.{listed-in, listed-page}
 use Rattle.review.proofs.AgreedFrame.{agreed-frame}
+use Rattle.page.specs.Layout.{pageLength}
 
 -- of memory m, lent for n symbols, the calls cs after the make, and a block on line i after them
 pub record Framed (m : List ℕ) (n : ℕ) (cs : List Call) (i : ℕ) (block : List ℕ) (room : ℕ) : Type 0 where
   -- each symbol that the reviewer holds has a page
-  pub page : (x : Listed) → In x (reviewAfter (freshReview n) cs .symbols) → length (pageOf (bytesAfter (call m (make n) .bytes) cs) (x .symbol)) ≡ 6054
+  pub page : (x : Listed) → In x (reviewAfter (freshReview n) cs .symbols) → length (pageOf (bytesAfter (call m (make n) .bytes) cs) (x .symbol)) ≡ pageLength
   -- and no byte of it changes, if no accepted or partly accepted message touches it
   pub same : (s : ℕ) → touched (takenR (reviewAfter (freshReview n) cs) i block room) s ≡ false
       → pageOf (call (bytesAfter (call m (make n) .bytes) cs) (take i block room) .bytes) s ≡ pageOf (bytesAfter (call m (make n) .bytes) cs) s

@@ -8,29 +8,31 @@ use mathlib.Core.Option.{Option, none, some}
 use lib.Dec.{eqb}
 use lib.ListN.{length}
 use borrow.Author.Tests.{eq-eqb}
-use Rattle.field.specs.Field.{field}
 use Rattle.lists.specs.Lists.{upper}
 use Rattle.lists.proofs.Tests.{clash, Cut, equal, apart, cut}
 use Rattle.message.specs.declared.Kind.{Kind}
 use Rattle.message.specs.declared.Kind.the-variants as kind
-use Rattle.message.specs.Message.{kindOf, symbolOf, Part, roundPart, oddPart, makerPart, finraPart, roundOf, partlyTaken, wholeBy, partsOf}
+use Rattle.message.specs.Message.{kindOf, symbolOf, Part, roundPart, oddPart, makerPart, finraPart, roundPartOf, partlyTaken, wholeBy, partsOf}
 use Rattle.block.specs.Block.{messagesOf}
-use Rattle.page.specs.Page.{knownOf, roundOn, oddOnPage, makerOn}
-use Rattle.page.proofs.EntryLaws.{Kept}
-use Rattle.page.proofs.SlotLaws.{round-kept, odd-kept}
-use Rattle.page.proofs.MakerLaws.{maker-kept}
-use Rattle.page.proofs.SpokenLaws.{Shaped, AllShaped, shaped}
-use Rattle.book.specs.declared.Line.{Line}
-use Rattle.book.specs.Opening.{symbolsOf, sound, linesIn, restIn, pageAt, pagesIn, onPage}
-use Rattle.book.specs.Call.{take, listedOf, findReading, done, advanced, letterOf, partOn, partsOn, codeOn, messageOn, messagesOn, toldOn, advanceOn, afterCall, numberOn, call}
-use Rattle.book.proofs.OpeningLaws.{Sound, sound-of}
-use Rattle.book.proofs.PageLaws.{kept-sound, place-hit, on-other}
-use Rattle.book.proofs.PartLaws.{part-kept}
-use Rattle.book.proofs.LineLaws.{line-upper, line-open, lined-page}
+use Rattle.update.specs.Parts.{knownOf, roundOn, oddOnPage, makerOn}
+use Rattle.update.proofs.EntryLaws.{Kept}
+use Rattle.update.proofs.SlotLaws.{round-kept, odd-kept}
+use Rattle.update.proofs.MakerLaws.{maker-kept}
+use Rattle.update.proofs.SpokenLaws.{Shaped, AllShaped, shaped}
+use Rattle.opening.specs.declared.Line.{Line}
+use Rattle.opening.specs.Opening.{symbolsOf, sound, linesIn, restIn, pageAt, pagesIn, onPage}
+use Rattle.line.specs.Line.{done, advanced}
+use Rattle.book.specs.Call.{take, letterOf, advanceOn, afterCall, numberOn, call}
+use Rattle.work.specs.Work.{listedOf, findReading, partOn, partsOn, codeOn, messageOn, messagesOn, toldOn}
+use Rattle.opening.proofs.OpeningLaws.{Sound, sound-of}
+use Rattle.opening.proofs.PageLaws.{kept-sound, place-hit, on-other}
+use Rattle.work.proofs.PartLaws.{part-kept}
+use Rattle.opening.proofs.LineLaws.{line-upper, line-open, lined-page}
 use Rattle.book.proofs.NumberLaws.{number-same, unsound, take-done}
-use Rattle.book.proofs.SoundLaws.{message-kept, messages-kept}
+use Rattle.work.proofs.KeptLaws.{message-kept, messages-kept}
 use Rattle.review.specs.Frame.{touchesBy, touches, touched, takenOf, takenOn}
 use Rattle.review.proofs.KeptLaws.{partly-is}
+use Rattle.page.specs.Layout.{pageLength, pageSymbol}
 
 -- ---- a part of another symbol
 
@@ -45,25 +47,25 @@ NoneTouches [] s = Unit {0}
 NoneTouches (p ∷ ps) s = (partTouches p s ≡ false) × NoneTouches ps s
 
 module _ (n j : ℕ) where
-  abbrev symbolAt : List ℕ → ℕ
-  symbolAt b = field (pageAt b j) 0 11
+  abbrev symbolHere : List ℕ → ℕ
+  symbolHere b = pageSymbol (pageAt b j)
 
-  on-framed : (b : List ℕ) → Sound n b → (t : ℕ) (h : List ℕ → List ℕ) → ((p : List ℕ) → length p ≡ 6054 → Kept p (h p)) → eqb t (symbolAt b) ≡ false → pageAt (onPage t h b) j ≡ pageAt b j
-  on-framed b sd t h keeps e = on-other n b sd t h keeps j (λ z. clash (sym (eq-eqb t (symbolAt b) (sym (place-hit b t j z .1))) ∙ e))
+  on-framed : (b : List ℕ) → Sound n b → (t : ℕ) (h : List ℕ → List ℕ) → ((p : List ℕ) → length p ≡ pageLength → Kept p (h p)) → eqb t (symbolHere b) ≡ false → pageAt (onPage t h b) j ≡ pageAt b j
+  on-framed b sd t h keeps e = on-other n b sd t h keeps j (λ z. clash (sym (eq-eqb t (symbolHere b) (sym (place-hit b t j z .1))) ∙ e))
 
-  part-framed : (p : Part) (b : List ℕ) → Sound n b → Shaped p → partTouches p (symbolAt b) ≡ false → pageAt (partOn p b) j ≡ pageAt b j
+  part-framed : (p : Part) (b : List ℕ) → Sound n b → Shaped p → partTouches p (symbolHere b) ≡ false → pageAt (partOn p b) j ≡ pageAt b j
   unfolding partOn
   part-framed (roundPart t l q) b sd u e = on-framed b sd t (roundOn l q) (λ p w. round-kept p w l u q) e
   part-framed (oddPart t l o) b sd u e = on-framed b sd t (oddOnPage l o) (λ p w. odd-kept p w l u o) e
   part-framed (makerPart t m q) b sd u e = on-framed b sd t (makerOn m q) (λ p w. maker-kept m q p w) e
   part-framed (finraPart c) b sd u e = clash e
 
-  parts-framed : (ps : List Part) (b : List ℕ) → Sound n b → AllShaped ps → (s : ℕ) → s ≡ symbolAt b → NoneTouches ps s → pageAt (partsOn ps b) j ≡ pageAt b j
+  parts-framed : (ps : List Part) (b : List ℕ) → Sound n b → AllShaped ps → (s : ℕ) → s ≡ symbolHere b → NoneTouches ps s → pageAt (partsOn ps b) j ≡ pageAt b j
   unfolding partsOn
   parts-framed [] b sd u s q e = refl
   parts-framed (p ∷ ps) b sd u s q e =
       let f : pageAt (partOn p b) j ≡ pageAt b j = part-framed p b sd (u .0) (ap (partTouches p) (sym q) ∙ e .0) in
-      parts-framed ps (partOn p b) (kept-sound b (partOn p b) (part-kept n p b sd (u .0)) n sd) (u .1) s (q ∙ ap (λ (l : List ℕ). field l 0 11) (sym f)) (e .1) ∙ f
+      parts-framed ps (partOn p b) (kept-sound b (partOn p b) (part-kept n p b sd (u .0)) n sd) (u .1) s (q ∙ ap (λ (l : List ℕ). pageSymbol l) (sym f)) (e .1) ∙ f
 
 -- ---- one message
 
@@ -87,7 +89,7 @@ unfolding partsOf
 parts-none c m s h = go (cut c 0) (partlyTaken c m) refl h
   where
     go : Cut c 0 → (p : Bool) → partlyTaken c m ≡ p → (cond (eqb c 0) true p ≡ true → touches m s ≡ false)
-        → NoneTouches (cond (eqb c 0) (wholeBy m (kindOf m)) (cond p (roundOf m ∷ []) [])) s
+        → NoneTouches (cond (eqb c 0) (wholeBy m (kindOf m)) (cond p (roundPartOf m ∷ []) [])) s
     go (equal t z) p f h = rw t (whole-none m s (kindOf m) (h (rw t)))
     go (apart t z) true f h =
         let k : kindOf m ≡ kind.RoundLot = partly-is c m f .0 in
@@ -96,7 +98,7 @@ parts-none c m s h = go (cut c 0) (partlyTaken c m) refl h
     go (apart t z) false f h = rw t tt
 
 module _ (n j letter : ℕ) (u : upper letter ≡ true) (s : ℕ) where
-  message-framed : (m b : List ℕ) → Sound n b → s ≡ field (pageAt b j) 0 11 → (takes (codeOn letter m b) m ≡ true → touches m s ≡ false) → pageAt (messageOn letter m b) j ≡ pageAt b j
+  message-framed : (m b : List ℕ) → Sound n b → s ≡ pageSymbol (pageAt b j) → (takes (codeOn letter m b) m ≡ true → touches m s ≡ false) → pageAt (messageOn letter m b) j ≡ pageAt b j
   message-framed m b sd q h =
       parts-framed n j (partsOf (codeOn letter m b) m) b sd (shaped (knownOf (findReading (symbolOf m) (pagesIn b))) letter m u) s q (parts-none (codeOn letter m b) m s h)
 
@@ -111,23 +113,23 @@ module _ (n j letter : ℕ) (u : upper letter ≡ true) (s : ℕ) where
       go false e = ((λ y. refl), e)
   touched-head false m ms e = ((λ y. clash (sym y)), e)
 
-  messages-framed : (ms : List (List ℕ)) (b : List ℕ) → Sound n b → s ≡ field (pageAt b j) 0 11 → touched (takenOf ms (toldOn b letter ms)) s ≡ false → pageAt (messagesOn letter ms b) j ≡ pageAt b j
+  messages-framed : (ms : List (List ℕ)) (b : List ℕ) → Sound n b → s ≡ pageSymbol (pageAt b j) → touched (takenOf ms (toldOn b letter ms)) s ≡ false → pageAt (messagesOn letter ms b) j ≡ pageAt b j
   unfolding messagesOn toldOn takenOf
   messages-framed [] b sd q e = refl
   messages-framed (m ∷ ms) b sd q e =
       let h = touched-head (takes (codeOn letter m b) m) m (takenOf ms (toldOn (messageOn letter m b) letter ms)) e in
       let f : pageAt (messageOn letter m b) j ≡ pageAt b j = message-framed m b sd q (h .0) in
-      messages-framed ms (messageOn letter m b) (kept-sound b (messageOn letter m b) (message-kept n letter u m b sd) n sd) (q ∙ ap (λ (l : List ℕ). field l 0 11) (sym f)) (h .1) ∙ f
+      messages-framed ms (messageOn letter m b) (kept-sound b (messageOn letter m b) (message-kept n letter u m b sd) n sd) (q ∙ ap (λ (l : List ℕ). pageSymbol l) (sym f)) (h .1) ∙ f
 
 -- ---- a block
 
 sound-framed : (n : ℕ) (b : List ℕ) → Sound n b → (i : ℕ) (k : List ℕ) (room j : ℕ) → done (numberOn b (take i k room)) ≡ true
-    → touched (takenOf (messagesOf k) (toldOn b (letterOf (linesIn b i)) (messagesOf k))) (field (pageAt b j) 0 11) ≡ false
+    → touched (takenOf (messagesOf k) (toldOn b (letterOf (linesIn b i)) (messagesOf k))) (pageSymbol (pageAt b j)) ≡ false
     → pageAt (advanceOn i k (linesIn b i) (messagesOn (letterOf (linesIn b i)) (messagesOf k) b)) j ≡ pageAt b j
 unfolding restIn
 sound-framed n b sd i k room j d = go (linesIn b i) refl
   where
-    go : (o : Option Line) → linesIn b i ≡ o → touched (takenOf (messagesOf k) (toldOn b (letterOf o) (messagesOf k))) (field (pageAt b j) 0 11) ≡ false
+    go : (o : Option Line) → linesIn b i ≡ o → touched (takenOf (messagesOf k) (toldOn b (letterOf o) (messagesOf k))) (pageSymbol (pageAt b j)) ≡ false
         → pageAt (advanceOn i k o (messagesOn (letterOf o) (messagesOf k) b)) j ≡ pageAt b j
     go none e t = absurd (take-done (restIn b) (listedOf (pagesIn b)) i k room (rw (number-same n b sd (take i k room)) at d) e)
     go (some r) e t =
@@ -135,14 +137,14 @@ sound-framed n b sd i k room j d = go (linesIn b i) refl
         let u : upper (r .letter) ≡ true = line-upper r (g .1) in
         let b₁ : List ℕ = messagesOn (r .letter) (messagesOf k) b in
         lined-page n b₁ (kept-sound b b₁ (messages-kept n (r .letter) u (messagesOf k) b sd) n sd) i (g .0) (advanced r k) j
-        ∙ messages-framed n j (r .letter) u (field (pageAt b j) 0 11) (messagesOf k) b sd refl t
+        ∙ messages-framed n j (r .letter) u (pageSymbol (pageAt b j)) (messagesOf k) b sd refl t
 
-pub block-frame : (b : List ℕ) (i : ℕ) (k : List ℕ) (room j : ℕ) → touched (takenOn b i k room) (field (pageAt b j) 0 11) ≡ false → pageAt (call b (take i k room) .bytes) j ≡ pageAt b j
+pub block-frame : (b : List ℕ) (i : ℕ) (k : List ℕ) (room j : ℕ) → touched (takenOn b i k room) (pageSymbol (pageAt b j)) ≡ false → pageAt (call b (take i k room) .bytes) j ≡ pageAt b j
 unfolding call takenOn afterCall
 block-frame b i k room j t = on (sound b) refl
   where
     go : sound b ≡ true → (d : Bool) → done (numberOn b (take i k room)) ≡ d
-        → touched (cond d (takenOf (messagesOf k) (toldOn b (letterOf (linesIn b i)) (messagesOf k))) []) (field (pageAt b j) 0 11) ≡ false
+        → touched (cond d (takenOf (messagesOf k) (toldOn b (letterOf (linesIn b i)) (messagesOf k))) []) (pageSymbol (pageAt b j)) ≡ false
         → pageAt (cond d (advanceOn i k (linesIn b i) (messagesOn (letterOf (linesIn b i)) (messagesOf k) b)) b) j ≡ pageAt b j
     go e true d t = sound-framed (symbolsOf b) b (sound-of b e) i k room j d t
     go e false d t = refl

@@ -8,7 +8,7 @@ use mathlib.Core.List.{List, [], _∷_}
 use mathlib.Core.Option.{Option, none, some}
 use lib.Dec.{eqb}
 use lib.ListN.{length}
-use Rattle.lists.specs.Lists.{collect, consOption, mapOption}
+use Rattle.lists.specs.Lists.{collect, consOption, mapOption, member}
 use Rattle.lists.proofs.Tests.{clash, Cut, equal, apart, cut}
 use Rattle.lists.proofs.Members.{In, Distinct, in-collect, collect-in, same-length}
 use Rattle.quote.specs.declared.Quote.{Quote}
@@ -16,10 +16,10 @@ use Rattle.quote.specs.Quote.{emptyQuote, withCondition}
 use Rattle.levels.specs.Levels.{Odd}
 use Rattle.message.specs.Message.{Part, roundPart, oddPart, makerPart, finraPart}
 use Rattle.entries.specs.Entries.{Maker, finraBest}
-use Rattle.entries.specs.Page.{occupied}
-use Rattle.page.specs.Page.{findMaker}
-use Rattle.page.proofs.Model.{standing, marked}
-use Rattle.review.specs.Reviewer.{lastOf, conditionOf, standingQuote, makerOf, elem, insert, namesOf, makersOf}
+use Rattle.page.specs.Page.{occupied}
+use Rattle.makers.specs.Makers.{findMaker}
+use Rattle.update.proofs.Model.{standing, marked}
+use Rattle.review.specs.Reviewer.{lastOf, conditionOf, standingQuote, makerOf, withName, namesOf, makersOf}
 use Rattle.review.proofs.CellLaws.{Sole, in-find, find-in, occupied-distinct}
 use Rattle.entries.proofs.FinraLaws.{finra-same}
 
@@ -61,47 +61,49 @@ maker-odd t k o h s m = refl
 
 -- ---- which makers the history has
 
-elem-in : (n : ℕ) (xs : List ℕ) → elem n xs ≡ true → In n xs
-elem-in n [] e = clash (sym e)
-elem-in n (x ∷ xs) e = go (cut x n) (elem-in n xs)
+member-in : (n : ℕ) (xs : List ℕ) → member xs n ≡ true → In n xs
+unfolding member
+member-in n [] e = clash (sym e)
+member-in n (x ∷ xs) e = go (cut n x) (member-in n xs)
   where
-    go : Cut x n → (elem n xs ≡ true → In n xs) → In n (x ∷ xs)
-    go (equal t p) down = inl (sym p)
+    go : Cut n x → (member xs n ≡ true → In n xs) → In n (x ∷ xs)
+    go (equal t p) down = inl p
     go (apart t p) down = inr (down (rw t at e))
 
-in-elem : (n : ℕ) (xs : List ℕ) → In n xs → elem n xs ≡ true
-in-elem n [] m = absurd m
-in-elem n (x ∷ xs) (inl p) = go (cut x n)
+in-member : (n : ℕ) (xs : List ℕ) → In n xs → member xs n ≡ true
+unfolding member
+in-member n [] m = absurd m
+in-member n (x ∷ xs) (inl p) = go (cut n x)
   where
-    go : Cut x n → cond (eqb x n) true (elem n xs) ≡ true
+    go : Cut n x → cond (eqb n x) true (member xs n) ≡ true
     go (equal t q) = rw t
-    go (apart t q) = absurd (q (sym p))
-in-elem n (x ∷ xs) (inr m) = go (eqb x n) (in-elem n xs m)
+    go (apart t q) = absurd (q p)
+in-member n (x ∷ xs) (inr m) = go (eqb n x) (in-member n xs m)
   where
-    go : (t : Bool) → elem n xs ≡ true → cond t true (elem n xs) ≡ true
+    go : (t : Bool) → member xs n ≡ true → cond t true (member xs n) ≡ true
     go true e = refl
     go false e = e
 
-insert-new : (n : ℕ) (xs : List ℕ) → In n (insert n xs)
-insert-new n xs = go (elem n xs) refl
+name-new : (n : ℕ) (xs : List ℕ) → In n (withName n xs)
+name-new n xs = go (member xs n) refl
   where
-    go : (t : Bool) → elem n xs ≡ t → In n (cond t xs (n ∷ xs))
-    go true e = elem-in n xs e
+    go : (t : Bool) → member xs n ≡ t → In n (cond t xs (n ∷ xs))
+    go true e = member-in n xs e
     go false e = inl refl
 
-insert-old : (n k : ℕ) (xs : List ℕ) → In k xs → In k (insert n xs)
-insert-old n k xs m = go (elem n xs)
+name-old : (n k : ℕ) (xs : List ℕ) → In k xs → In k (withName n xs)
+name-old n k xs m = go (member xs n)
   where
     go : (t : Bool) → In k (cond t xs (n ∷ xs))
     go true = m
     go false = inr m
 
-insert-distinct : (n : ℕ) (xs : List ℕ) → Distinct (λ (k : ℕ). k) xs → Distinct (λ (k : ℕ). k) (insert n xs)
-insert-distinct n xs d = go (elem n xs) refl
+name-distinct : (n : ℕ) (xs : List ℕ) → Distinct (λ (k : ℕ). k) xs → Distinct (λ (k : ℕ). k) (withName n xs)
+name-distinct n xs d = go (member xs n) refl
   where
-    go : (t : Bool) → elem n xs ≡ t → Distinct (λ (k : ℕ). k) (cond t xs (n ∷ xs))
+    go : (t : Bool) → member xs n ≡ t → Distinct (λ (k : ℕ). k) (cond t xs (n ∷ xs))
     go true e = d
-    go false e = (λ y m p. clash (sym (in-elem y xs m) ∙ ap (λ (k : ℕ). elem k xs) p ∙ e), d)
+    go false e = (λ y m p. clash (sym (in-member y xs m) ∙ ap (λ (k : ℕ). member xs k) p ∙ e), d)
 
 last-named : (h : List Part) (s m : ℕ) (q : Quote) → lastOf h s m ≡ some q → In m (namesOf h s)
 unfolding lastOf namesOf
@@ -112,9 +114,9 @@ last-named (makerPart t k r ∷ h) s m q e = go (eqb t s) (cut k m) (last-named 
   where
     go : (b : Bool) → Cut k m → (lastOf h s m ≡ some q → In m (namesOf h s))
         → cond (b && eqb k m) (some r) (lastOf h s m) ≡ some q
-        → In m (cond b (insert k (namesOf h s)) (namesOf h s))
-    go true (equal u p) down e = rw (sym p) (insert-new k (namesOf h s))
-    go true (apart u p) down e = insert-old k m (namesOf h s) (down (rw u at e))
+        → In m (cond b (withName k (namesOf h s)) (namesOf h s))
+    go true (equal u p) down e = rw (sym p) (name-new k (namesOf h s))
+    go true (apart u p) down e = name-old k m (namesOf h s) (down (rw u at e))
     go false c down e = down e
 last-named (finraPart c ∷ h) s m q e = last-named h s m q e
 
@@ -125,8 +127,8 @@ names-distinct (roundPart t k r ∷ h) s = names-distinct h s
 names-distinct (oddPart t k o ∷ h) s = names-distinct h s
 names-distinct (makerPart t k r ∷ h) s = go (eqb t s) (names-distinct h s)
   where
-    go : (b : Bool) → Distinct (λ (k : ℕ). k) (namesOf h s) → Distinct (λ (k : ℕ). k) (cond b (insert k (namesOf h s)) (namesOf h s))
-    go true d = insert-distinct k (namesOf h s) d
+    go : (b : Bool) → Distinct (λ (k : ℕ). k) (namesOf h s) → Distinct (λ (k : ℕ). k) (cond b (withName k (namesOf h s)) (namesOf h s))
+    go true d = name-distinct k (namesOf h s) d
     go false d = d
 names-distinct (finraPart c ∷ h) s = names-distinct h s
 

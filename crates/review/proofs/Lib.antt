@@ -24,5 +24,8 @@ pub mod Rows
 pub mod Cases
 pub mod Shared
 pub mod Checks
+pub mod Bounds
+pub mod Openings
+pub mod Statements
 pub mod BookCases
 pub mod Run

@@ -11,13 +11,14 @@ use borrow.Author.Tests.{ne-eqb}
 use Rattle.lists.proofs.Tests.{clash, Cut, equal, apart, cut}
 use Rattle.message.specs.Message.{Part}
 use Rattle.entries.specs.Entries.{Maker}
-use Rattle.page.specs.Page.{Reading}
-use Rattle.page.proofs.Model.{worked, blankReading, blanked}
-use Rattle.book.specs.Call.{Listed, isListed, listing, listedOf}
+use Rattle.update.specs.Parts.{Reading}
+use Rattle.update.proofs.Model.{worked, blankReading, blanked}
+use Rattle.work.specs.Work.{Listed, isListed, listing, listedOf}
 use Rattle.review.proofs.CellLaws.{empty-find, empty-sole}
 use Rattle.review.proofs.SilentLaws.{Silent, silent-quote, silent-maker, silent-levels}
 use Rattle.review.proofs.Agree.{Good, AllGood, Apart, Core}
 use Rattle.review.proofs.PartLaws.{map-listed}
+use Rattle.page.specs.Layout.{makerCount}
 
 -- ---- a symbol with nothing
 
@@ -26,9 +27,9 @@ unfolding blankReading worked
 blank-good s k h q =
     record {
       quotes = λ l. sym (silent-quote s l h q);
-      sole = empty-sole 16;
-      size = length-replicate {A = Option Maker} 16 none;
-      makers = λ m. empty-find m 16 ∙ sym (silent-maker s m h q);
+      sole = empty-sole makerCount;
+      size = length-replicate {A = Option Maker} makerCount none;
+      makers = λ m. empty-find m makerCount ∙ sym (silent-maker s m h q);
       levels = λ l. sym (silent-levels s l h q);
       entries = refl;
     }

@@ -7,27 +7,32 @@ use mathlib.Core.List.{List, [], _∷_, _++_}
 use mathlib.Core.Option.{Option, none, some}
 use lib.Dec.{ltb, leb, eqb}
 use lib.ListN.{length}
-use Rattle.field.specs.Field.{be, part, field}
+use Rattle.field.specs.Field.{be, field}
 use Rattle.lists.specs.Lists.{at, member, isSome}
 use Rattle.quote.specs.declared.Quote.{Quote}
 use Rattle.levels.specs.declared.Item.{Item}
-use Rattle.levels.specs.Levels.{Standing, Odd, oddOn, itemsBad, oddBad, fifth, oddCode}
-use Rattle.message.specs.Form.{symbolGood, makerGood, letterGood}
+use Rattle.levels.specs.Levels.{Standing, Odd, oddOn, itemsBad, oddBad, fifth, oddCode, clearMarks}
+use Rattle.text.specs.Form.{symbolGood, makerGood, letterGood}
 use Rattle.message.specs.declared.Kind.{Kind}
 use Rattle.message.specs.declared.Kind.the-variants as kind
 use Rattle.message.specs.declared.Message.{Message}
 use Rattle.message.specs.declared.Message.the-variants as says
-use Rattle.message.specs.Message.{kindOf, quoteAt, makerName, roundLotOdd, oddLotOdd, oddOf, oddLength, sideBad, roundConditions, makerConditions, priceFault, quoteFault, isD, testBytes, readInquiry, readTest, readFinra, readRoundLot, readOddLot, readMaker, readBy, isUnknown, messageOf, Known, makerCode, codeBy, codeOf}
-use Rattle.block.specs.Block.{countIn, sequenceIn, checksumOf, lengthGood, tableGood, controlAmong, checked, idleBlock}
+use Rattle.message.specs.Message.{kindOf, quoteAt, makerName, roundLotOdd, oddLotOdd, oddOf, oddLength, sideBad, roundConditions, makerConditions, priceFault, quoteFault, isD, testBytes, readInquiry, readTest, readFinra, readRoundLot, readOddLot, readMaker, readBy, isUnknown, messageOf, Known, makerCode, codeBy, codeOf, headerLength, testLength, makerLength, symbolText, makerText, headerZero}
+use Rattle.block.specs.Block.{countIn, sequenceIn, checksumOf, lengthGood, tableGood, controlAmong, checked, idleBlock, answerLength}
 use Rattle.block.specs.Sequence.{arrivalOf}
 use Rattle.block.specs.declared.Checked.{Checked}
 use Rattle.block.specs.declared.Checked.the-variants as checks
 use Rattle.block.specs.declared.Arrival.{Arrival}
 use Rattle.block.specs.declared.Arrival.the-variants.{Taken, Duplicate}
-use Rattle.book.specs.declared.Line.{Line}
-use Rattle.book.specs.Opening.{sound, Rest, restIn, pagesIn}
-use Rattle.book.specs.Call.{Call, make, add, openLine, startDay, endDay, take, read, Listed, isListed, listedOf, lots, arrivalNumberOf, lineNumber, checkedNumberOf, blockNumber, onLine, numberOf, makeGood, isMake, numberOn}
+use Rattle.opening.specs.declared.Line.{Line}
+use Rattle.opening.specs.Opening.{sound, Rest, restIn, pagesIn}
+use Rattle.line.specs.Line.{arrivalNumberOf, lineNumber, checkedNumberOf, blockNumber, onLine}
+use Rattle.book.specs.Call.{Call, make, add, openLine, startDay, endDay, take, read, lots, numberOf, makeGood, isMake, numberOn}
+use Rattle.work.specs.Work.{Listed, isListed, listedOf}
 use Rattle.review.specs.Numbers.{numbersOf, codes}
+use Rattle.entries.specs.Publication.{publicationLength}
+use Rattle.opening.specs.Layout.{lineCount}
+use Rattle.page.specs.Layout.{makerCount}
 
 -- a number is in a table
 pub data Among (table : List ℕ) : ℕ → Type 0 where
@@ -61,7 +66,7 @@ odd-known lot v o = either (eqb (oddBad lot o) 0) (fifth-known (oddOn o v)) bad
 
     bad : Among codes (oddBad lot o)
     bad =
-        either (member (32 ∷ 66 ∷ 83 ∷ 88 ∷ []) (o .mark))
+        either (member clearMarks (o .mark))
         (either (leb (length (o .bids)) 4 && leb (length (o .offers)) 4) (items-known lot (o .bids ++ o .offers)) (in-codes 61 refl)) (in-codes 60 refl)
 
 fault-known : (table : List ℕ) (q : Quote) (rest : ℕ) → Among codes rest → Among codes (quoteFault table q rest)
@@ -95,29 +100,29 @@ module _ (e : Known) (letter : ℕ) (m : List ℕ) where
 
   room-known : (name : ℕ) → Among codes (makerCode e name)
   unfolding makerCode member
-  room-known name = either (e .stands name) (in-codes 0 refl) (either (ltb (e .count) 16) (in-codes 0 refl) (in-codes 49 refl))
+  room-known name = either (e .stands name) (in-codes 0 refl) (either (ltb (e .count) makerCount) (in-codes 0 refl) (in-codes 49 refl))
 
   read-known : (k : Kind) → Coded (readBy letter m k)
   unfolding readInquiry readTest readFinra readRoundLot readOddLot readMaker member
-  read-known kind.Inquiry = form (eqb (length m) 20) (eqb (at m 3) 0) (coded (in-codes 0 refl))
-  read-known kind.Close = form (eqb (length m) 20) (eqb (at m 3) 0) (one (isD letter) (coded (in-codes 0 refl)) (refuse 44 refl))
-  read-known kind.Open = form (eqb (length m) 20) (eqb (at m 3) 0) (one (isD letter) (coded (in-codes 0 refl)) (refuse 44 refl))
-  read-known kind.Test = form (eqb (length m) 115) (eqb (at m 3) 0 && testBytes m) (coded (in-codes 0 refl))
+  read-known kind.Inquiry = form (eqb (length m) headerLength) (headerZero m) (coded (in-codes 0 refl))
+  read-known kind.Close = form (eqb (length m) headerLength) (headerZero m) (one (isD letter) (coded (in-codes 0 refl)) (refuse 44 refl))
+  read-known kind.Open = form (eqb (length m) headerLength) (headerZero m) (one (isD letter) (coded (in-codes 0 refl)) (refuse 44 refl))
+  read-known kind.Test = form (eqb (length m) testLength) (headerZero m && testBytes m) (coded (in-codes 0 refl))
   read-known kind.RoundLot =
-      form (eqb (length m) (oddLength (roundLotOdd m))) (eqb (at m 3) 0 && eqb (at m 59) 0)
+      form (eqb (length m) (oddLength (roundLotOdd m))) (headerZero m && eqb (at m 59) 0)
       (one (isD letter) (refuse 44 refl)
-      (one (symbolGood (part m 20 11))
+      (one (symbolGood (symbolText m))
       (coded (faulted (fault-known roundConditions (quoteAt m) 0 (in-codes 0 refl)) (odd-known (e .lot) (e .levels letter) (oddOf m (roundLotOdd m)))))
       (refuse 45 refl)))
   read-known kind.OddLot =
-      form (eqb (length m) (oddLength (oddLotOdd m))) (eqb (at m 3) 0 && (eqb (at m 34) 0 && eqb (at m 35) 0))
+      form (eqb (length m) (oddLength (oddLotOdd m))) (headerZero m && (eqb (at m 34) 0 && eqb (at m 35) 0))
       (one (isD letter) (refuse 44 refl)
-      (one (symbolGood (part m 20 11)) (coded (either (e .listed) (odd-known (e .lot) (e .levels letter) (oddOf m (oddLotOdd m))) (in-codes 45 refl))) (refuse 45 refl)))
+      (one (symbolGood (symbolText m)) (coded (either (e .listed) (odd-known (e .lot) (e .levels letter) (oddOf m (oddLotOdd m))) (in-codes 45 refl))) (refuse 45 refl)))
   read-known kind.Maker =
-      form (eqb (length m) 60) (eqb (at m 3) 0)
+      form (eqb (length m) makerLength) (headerZero m)
       (one (isD letter)
-      (one (symbolGood (part m 20 11))
-      (coded (faulted (fault-known makerConditions (quoteAt m) _ (either (makerGood (part m 56 4)) (in-codes 0 refl) (in-codes 48 refl))) (room-known (makerName m))))
+      (one (symbolGood (symbolText m))
+      (coded (faulted (fault-known makerConditions (quoteAt m) _ (either (makerGood (makerText m)) (in-codes 0 refl) (in-codes 48 refl))) (room-known (makerName m))))
       (refuse 45 refl))
       (refuse 44 refl))
   read-known kind.Unknown = refuse 40 refl
@@ -170,11 +175,11 @@ number-of r ls (add s k) =
     either (symbolGood s)
     (either (member lots k) (either (isListed (be s) ls) (among refl) (either (ltb (length ls) (r .n)) (among refl) (among refl))) (among refl))
     (among refl)
-number-of r ls (openLine i l) = either (ltb i 64 && letterGood l) (either (isSome (r .lines i)) (among refl) (among refl)) (among refl)
+number-of r ls (openLine i l) = either (ltb i lineCount && letterGood l) (either (isSome (r .lines i)) (among refl) (among refl)) (among refl)
 number-of r ls startDay = either (r .day) (among refl) (among refl)
 number-of r ls endDay = either (r .day) (among refl) (among refl)
-number-of r ls (take i b room) = either (ltb room 180) (among refl) (on-known i b room (r .day) (r .lines i))
-number-of r ls (read s room) = either (ltb room 96) (among refl) (either (symbolGood s && isListed (be s) ls) (among refl) (among refl))
+number-of r ls (take i b room) = either (ltb room answerLength) (among refl) (on-known i b room (r .day) (r .lines i))
+number-of r ls (read s room) = either (ltb room publicationLength) (among refl) (either (symbolGood s && isListed (be s) ls) (among refl) (among refl))
 
 sounded : (b : List ℕ) (c : Call) → isMake c ≡ false → member (numbersOf c) 1 ≡ true → Among (numbersOf c) (numberOn b c)
 unfolding numberOn

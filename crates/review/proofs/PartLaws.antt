@@ -13,9 +13,10 @@ use Rattle.quote.specs.declared.Quote.{Quote}
 use Rattle.levels.specs.Levels.{Odd, oddOn}
 use Rattle.message.specs.Message.{Part, roundPart, oddPart, makerPart, finraPart}
 use Rattle.entries.specs.Entries.{Maker}
-use Rattle.page.specs.Page.{Reading, findMaker}
-use Rattle.page.proofs.Model.{standing, makerPut, marked, worked, roundReading, oddReading, makerReading, finraReading, onReading, partReading}
-use Rattle.book.specs.Call.{Listed, isListed, findReading, listing, listedOf}
+use Rattle.makers.specs.Makers.{findMaker}
+use Rattle.update.specs.Parts.{Reading}
+use Rattle.update.proofs.Model.{standing, makerPut, marked, worked, roundReading, oddReading, makerReading, finraReading, onReading, partReading}
+use Rattle.work.specs.Work.{Listed, isListed, findReading, listing, listedOf}
 use Rattle.review.specs.Reviewer.{quoteOf, makerOf, levelsOf}
 use Rattle.review.proofs.CellLaws.{Room, put-other, put-same, put-sole, put-length, mark-find, mark-sole, mark-length}
 use Rattle.review.proofs.HistoryLaws.{maker-maker, maker-finra, maker-round, maker-odd}

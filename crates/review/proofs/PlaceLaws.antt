@@ -15,14 +15,15 @@ use Rattle.lists.specs.declared.Found.{Found}
 use Rattle.lists.specs.declared.Found.the-variants.{At, Nothing}
 use Rattle.lists.proofs.Tests.{clash}
 use Rattle.lists.proofs.Members.{In}
-use Rattle.page.specs.Page.{Reading, readingOf}
-use Rattle.book.specs.Opening.{countOf, pageAt, pagesIn, pagePlace}
-use Rattle.book.specs.Call.{Listed, isListed, listedOf}
-use Rattle.book.proofs.OpeningLaws.{Sound, length-page}
-use Rattle.page.proofs.SearchLaws.{isAt}
-use Rattle.book.proofs.PageLaws.{place-hit}
-use Rattle.book.proofs.PlaceLaws.{listed-at}
+use Rattle.update.specs.Parts.{Reading, readingOf}
+use Rattle.opening.specs.Opening.{countOf, pageAt, pagesIn, pagePlace}
+use Rattle.work.specs.Work.{Listed, isListed, listedOf}
+use Rattle.opening.proofs.OpeningLaws.{Sound, length-page}
+use Rattle.update.proofs.SearchLaws.{isAt}
+use Rattle.opening.proofs.PageLaws.{place-hit}
+use Rattle.work.proofs.PlaceLaws.{listed-at}
 use Rattle.review.specs.Frame.{bytesAt, pageOf}
+use Rattle.page.specs.Layout.{pageLength}
 
 abbrev pub placeIn : ℕ → ℕ → List Listed → Found
 placeIn s i [] = Nothing
@@ -49,10 +50,10 @@ listed-in x (y ∷ xs) (inr m) = go (eqb (y .symbol) (x .symbol)) (listed-in x x
     go false e = e
 
 -- a symbol that is listed has a page
-pub listed-page : (n : ℕ) (b : List ℕ) → Sound n b → (s : ℕ) → isListed s (listedOf (pagesIn b)) ≡ true → length (pageOf b s) ≡ 6054
+pub listed-page : (n : ℕ) (b : List ℕ) → Sound n b → (s : ℕ) → isListed s (listedOf (pagesIn b)) ≡ true → length (pageOf b s) ≡ pageLength
 unfolding pageOf
 listed-page n b sd s e = go (pagePlace b s) refl
   where
-    go : (o : Found) → pagePlace b s ≡ o → length (bytesAt b o) ≡ 6054
+    go : (o : Found) → pagePlace b s ≡ o → length (bytesAt b o) ≡ pageLength
     go (At k) p = length-page n b sd k (omega (arith, place-hit b s k p .0, sd .count))
     go Nothing p = clash (sym e ∙ listed-at b s ∙ ap isAt p)

@@ -11,10 +11,15 @@ use lib.ListN.{length}
 use borrow.Author.Tests.{leb-true, eqb-true, le-leb, eq-eqb}
 use Rattle.levels.specs.Levels.{Standing, Odd, oddOn, fifth, oddCode}
 use Rattle.block.specs.Block.{messagesOf}
-use Rattle.book.specs.declared.Line.{Line}
-use Rattle.book.specs.Opening.{bookLength, sound, Rest, restIn}
-use Rattle.book.specs.Call.{Call, make, add, openLine, startDay, endDay, take, read, done, Told, Answer, bare, quads, report, gapTold, advanced, lineAnswer, letterOf, answerOf, toldOn, publishedOn, makeGood, isMake, numberOn, call}
+use Rattle.opening.specs.declared.Line.{Line}
+use Rattle.opening.specs.Opening.{sound, Rest, restIn}
+use Rattle.line.specs.Line.{done, gapTold, advanced}
+use Rattle.book.specs.Call.{Call, make, add, openLine, startDay, endDay, take, read, Answer, bare, report, lineAnswer, letterOf, answerOf, publishedOn, makeGood, isMake, numberOn, call}
+use Rattle.told.specs.Told.{quads}
+use Rattle.work.specs.Work.{toldOn}
+use Rattle.told.specs.declared.Told.{Told}
 use Rattle.review.proofs.FitLaws.{odd-zero}
+use Rattle.opening.specs.Layout.{bookLength, symbolsMost}
 
 -- ---- the number
 
@@ -106,17 +111,17 @@ refused-empty b c e = go (isMake c) (sound b)
 -- ---- make
 
 -- make answers 0 exactly if n is 1 to 64 and the length is right
-pub made-exactly : (m : List ℕ) (n : ℕ) → 1 ≤ n → n ≤ 64 → length m ≡ bookLength n → call m (make n) .answer .number ≡ 0
+pub made-exactly : (m : List ℕ) (n : ℕ) → 1 ≤ n → n ≤ symbolsMost → length m ≡ bookLength n → call m (make n) .answer .number ≡ 0
 unfolding call numberOn makeGood
-made-exactly m n low up l = rw (le-leb 1 n low, le-leb n 64 up, eq-eqb (length m) (bookLength n) l)
+made-exactly m n low up l = rw (le-leb 1 n low, le-leb n symbolsMost up, eq-eqb (length m) (bookLength n) l)
 
-pub made-only : (m : List ℕ) (n : ℕ) → call m (make n) .answer .number ≡ 0 → (1 ≤ n) × (n ≤ 64) × (length m ≡ bookLength n)
+pub made-only : (m : List ℕ) (n : ℕ) → call m (make n) .answer .number ≡ 0 → (1 ≤ n) × (n ≤ symbolsMost) × (length m ≡ bookLength n)
 unfolding call numberOn makeGood
-made-only m n = go (leb 1 n) refl (leb n 64) refl (eqb (length m) (bookLength n)) refl
+made-only m n = go (leb 1 n) refl (leb n symbolsMost) refl (eqb (length m) (bookLength n)) refl
   where
-    go : (a : Bool) → leb 1 n ≡ a → (b : Bool) → leb n 64 ≡ b → (c : Bool) → eqb (length m) (bookLength n) ≡ c
-        → _≡_ {A = ℕ} (cond (a && (b && c)) 0 2) 0 → (1 ≤ n) × (n ≤ 64) × (length m ≡ bookLength n)
-    go true x true y true z e = (leb-true 1 n x, leb-true n 64 y, eqb-true (length m) (bookLength n) z)
+    go : (a : Bool) → leb 1 n ≡ a → (b : Bool) → leb n symbolsMost ≡ b → (c : Bool) → eqb (length m) (bookLength n) ≡ c
+        → _≡_ {A = ℕ} (cond (a && (b && c)) 0 2) 0 → (1 ≤ n) × (n ≤ symbolsMost) × (length m ≡ bookLength n)
+    go true x true y true z e = (leb-true 1 n x, leb-true n symbolsMost y, eqb-true (length m) (bookLength n) z)
     go true x true y false z e = absurd (omega arith)
     go true x false y c z e = absurd (omega arith)
     go false x b y c z e = absurd (omega arith)

@@ -6,17 +6,21 @@ use mathlib.Core.List.{List, [], _∷_, _++_}
 use lib.ListN.{length, replicate}
 use Rattle.field.specs.Field.{beBytes}
 use Rattle.field.specs.Field as Field
+use Rattle.lists.specs.Lists.{range}
 use Rattle.lists.specs.Lists as Lists
 use Rattle.ranking.specs.Ranking as Ranking
 use Rattle.quote.specs.Quote as Quote
 use Rattle.levels.specs.Levels as Levels
 use Rattle.entries.specs.Entries as Entries
 use Rattle.entries.specs.Publication as Publication
-use Rattle.message.specs.Form as Form
+use Rattle.text.specs.Form as Form
 use Rattle.message.specs.Message as Message
 use Rattle.block.specs.Block as Block
 use Rattle.block.specs.Sequence as Sequence
+use Rattle.line.specs.Line as Line
 use Rattle.book.specs.Call as Call
+use Rattle.told.specs.Told as Told
+use Rattle.work.specs.Work as Work
 use Rattle.book.specs.Call.{Call, add, openLine, startDay, take, read, Answer}
 use Rattle.review.specs.Reviewer as Reviewer
 use Rattle.review.specs.Reviewer.{freshReview, reviewAnswers}
@@ -49,6 +53,14 @@ maker letter time quote name = header 81 85 letter time ++ (quote ++ name)
 
 abbrev pub control : ℕ → ℕ → List ℕ
 control type letter = header 67 type letter 0
+
+-- C T by N, 20 bytes
+abbrev pub integrity : List ℕ
+integrity = control 84 78
+
+-- C 5 by N: 95 more bytes, hex 20 to 7E in order
+abbrev pub test : List ℕ
+test = control 53 78 ++ range 95 32
 
 -- ---- blocks
 
@@ -101,6 +113,14 @@ partly expected count code flags = 0 ∷ 0 ∷ expected ∷ count ∷ 0 ∷ 1 �
 abbrev pub rejected : ℕ → ℕ → ℕ → List ℕ
 rejected expected count code = 0 ∷ 0 ∷ expected ∷ count ∷ 0 ∷ 0 ∷ 1 ∷ 0 ∷ code ∷ 0 ∷ 0 ∷ []
 
+-- two messages rejected with 40
+abbrev pub twoRejected : ℕ → ℕ → List ℕ
+twoRejected expected count = 0 ∷ 0 ∷ expected ∷ count ∷ 0 ∷ 0 ∷ 2 ∷ 0 ∷ 40 ∷ 0 ∷ 0 ∷ 1 ∷ 40 ∷ 0 ∷ 0 ∷ []
+
+-- a gap: number 70, d, next expected number, count, one message rejected with 40
+abbrev pub gap : ℕ → ℕ → ℕ → List ℕ
+gap d expected count = 70 ∷ d ∷ expected ∷ count ∷ 0 ∷ 0 ∷ 1 ∷ 0 ∷ 40 ∷ 0 ∷ 0 ∷ []
+
 -- ---- a publication: six entries of a name of 4 bytes, a price and a size
 
 abbrev pub entry : ℕ → ℕ → ℕ → ℕ → ℕ → ℕ → List ℕ
@@ -119,11 +139,18 @@ nothing = 32 ∷ 32 ∷ 32 ∷ 32 ∷ replicate 12 0
 abbrev pub shown : List ℕ → List ℕ → List ℕ → List ℕ → List ℕ → List ℕ → List ℕ
 shown nbid noffer fbid foffer obid ooffer = replicate 7 0 ++ (nbid ++ (noffer ++ (fbid ++ (foffer ++ (obid ++ ooffer)))))
 
+abbrev pub none : List ℕ
+none = shown nothing nothing nothing nothing nothing nothing
+
 -- ---- a day
 
 -- ZT and nine spaces
 abbrev pub zt : List ℕ
 zt = 90 ∷ 84 ∷ replicate 9 32
+
+-- AB and nine spaces
+abbrev pub ab : List ℕ
+ab = 65 ∷ 66 ∷ replicate 9 32
 
 -- a Q K of ZT by a letter at a time: a condition, bid and offer, an odd part
 abbrev pub roundOf : ℕ → ℕ → ℕ → ℕ → ℕ → ℕ → ℕ → List ℕ → List ℕ
@@ -135,6 +162,33 @@ noOdd = odds 32 0 0 (0 ∷ []) []
 -- bid 10.00 for so many lots, offer 10.02 for 2, condition R
 abbrev pub plain : ℕ → ℕ → ℕ → List ℕ → List ℕ
 plain letter time lots odd = roundOf letter time 82 10000000 lots 10020000 2 odd
+
+-- a Q M of ZT by a letter at a time, and by N at 8: clear mark, counts, items
+abbrev pub levelsBy : ℕ → ℕ → ℕ → ℕ → ℕ → List ℕ → List ℕ
+levelsBy letter time mark bids offers items = oddLot letter time zt (odds mark bids offers (0 ∷ 0 ∷ []) items)
+
+abbrev pub levels : ℕ → ℕ → ℕ → List ℕ → List ℕ
+levels mark bids offers items = levelsBy 78 8 mark bids offers items
+
+-- a Q U of ZT on D's line: time, condition, bid and offer, the name's first byte and three spaces
+abbrev pub makerOf : ℕ → ℕ → ℕ → ℕ → ℕ → ℕ → ℕ → List ℕ
+makerOf time c b bs o os name = maker 68 time (quoted zt c b bs o os) (name ∷ 32 ∷ 32 ∷ 32 ∷ [])
+
+-- bid 10.00 for so many lots, offer 10.02 for 2, condition R
+abbrev pub standing : ℕ → ℕ → ℕ → List ℕ
+standing time lots name = makerOf time 82 10000000 lots 10020000 2 name
+
+-- eight makers with the names from this one on
+abbrev pub eight : ℕ → List (List ℕ)
+eight k =
+    standing 7 3 k ∷ standing 7 3 (k + 1) ∷ standing 7 3 (k + 2) ∷ standing 7 3 (k + 3)
+    ∷ standing 7 3 (k + 4) ∷ standing 7 3 (k + 5) ∷ standing 7 3 (k + 6) ∷ standing 7 3 (k + 7) ∷ []
+
+-- a block of eight accepted messages, of which only the first changed anything
+abbrev pub eightTold : ℕ → ℕ → ℕ → List ℕ
+eightTold expected count flags =
+    0 ∷ 0 ∷ expected ∷ count ∷ 8 ∷ 0 ∷ 0 ∷ 0 ∷ 0 ∷ flags ∷ 0 ∷ 1 ∷ 0 ∷ 0 ∷ 0 ∷ 2 ∷ 0 ∷ 0 ∷ 0 ∷ 3 ∷ 0 ∷ 0 ∷ 0
+    ∷ 4 ∷ 0 ∷ 0 ∷ 0 ∷ 5 ∷ 0 ∷ 0 ∷ 0 ∷ 6 ∷ 0 ∷ 0 ∷ 0 ∷ 7 ∷ 0 ∷ 0 ∷ 0 ∷ []
 
 -- a message of an unknown type, code 40
 abbrev pub unknown : List ℕ
@@ -178,7 +232,7 @@ fromMake n cs told = record { n = n; calls = cs; answers = told }
 
 -- what the reviewer answers, worked out by the definitions named here
 unfoldable pub answered : ℕ → List Call → List (List ℕ)
-unfolding Field.be Field.beBytes Field.part Field.field Lists.sum Lists.member Lists.every Lists.all Ranking.lex Ranking.low Ranking.high Ranking.byPrice Ranking.better Quote.admits Quote.counts Quote.emptyQuote Quote.withCondition Quote.candidateOf Levels.without Levels.insert Levels.itemOn Levels.itemsOn Levels.clearedBy Levels.oddOn Levels.itemsBad Levels.oddBad Levels.oddCode Levels.itemAt Levels.itemsFrom Levels.oddIn Entries.letters Entries.makerCandidate Entries.finraBest Entries.asD Entries.letterCandidate Entries.nationalBest Entries.oddCandidate Entries.letterLevels Entries.oddBest Entries.entriesBy Entries.entriesOf Publication.noEntry Publication.publication Publication.changeFlags Form.padded Form.symbolGood Form.makerGood Message.controlKind Message.quoteKind Message.kindOf Message.timeOf Message.symbolOf Message.levelAt Message.quoteAt Message.makerName Message.oddAt Message.priceFault Message.quoteFault Message.readInquiry Message.testBytes Message.readTest Message.readFinra Message.readRoundLot Message.readOddLot Message.readMaker Message.messageOf Message.makerCode Message.codeOf Message.partlyTaken Block.checksumOf Block.startAt Block.messageAt Block.messagesFrom Block.messagesOf Block.lengthGood Block.spaced Block.tableGood Block.controlAmong Block.checked Block.idleBlock Sequence.gapOf Sequence.nextOf Sequence.arrivalOf Call.isListed Call.lotOf Call.lineNumber Call.blockNumber Call.numberOf Call.done Call.quads Call.tally Call.gapTold Call.advanced Call.answerOf Call.flagsOf Reviewer.parts Reviewer.quoteOf Reviewer.lastOf Reviewer.conditionOf Reviewer.makerOf Reviewer.namesOf Reviewer.makersOf Reviewer.levelsOf Reviewer.reviewedBy Reviewer.knownTo Reviewer.restAfter Reviewer.symbolsAfter Reviewer.historyAfter Reviewer.reviewCall Reviewer.reviewAnswer
+unfolding Field.be Field.beBytes Field.part Field.field Lists.sum Lists.member Lists.every Lists.all Ranking.lex Ranking.lower Ranking.higher Ranking.byPrice Ranking.better Quote.admits Quote.counts Quote.emptyQuote Quote.withCondition Quote.candidateOf Levels.without Levels.insert Levels.itemOn Levels.itemsOn Levels.clears Levels.clearedBy Levels.oddOn Levels.itemsBad Levels.oddBad Levels.oddCode Levels.itemAt Levels.itemsFrom Levels.oddIn Entries.letters Entries.makerCandidate Entries.finraBest Entries.asD Entries.letterCandidate Entries.nationalBest Entries.oddCandidate Entries.letterLevels Entries.oddBest Entries.entriesBy Entries.entriesOf Publication.noEntry Publication.publication Publication.changeFlags Form.padded Form.symbolGood Form.makerGood Message.controlKind Message.quoteKind Message.kindOf Message.timeOf Message.symbolOf Message.levelAt Message.quoteAt Message.makerName Message.oddAt Message.priceFault Message.quoteFault Message.readInquiry Message.testBytes Message.readTest Message.readFinra Message.readRoundLot Message.readOddLot Message.readMaker Message.messageOf Message.makerCode Message.codeOf Message.partlyTaken Block.checksumOf Block.startAt Block.messageAt Block.messagesFrom Block.messagesOf Block.lengthGood Block.spaced Block.tableGood Block.controlAmong Block.checked Block.idleBlock Sequence.gapOf Sequence.nextOf Sequence.arrivalOf Work.isListed Work.lotOf Line.lineNumber Line.blockNumber Call.numberOf Line.done Told.quads Told.tally Line.gapTold Line.advanced Call.answerOf Work.flagsOf Reviewer.parts Reviewer.quoteOf Reviewer.lastOf Reviewer.conditionOf Reviewer.makerOf Reviewer.namesOf Reviewer.makersOf Reviewer.levelsOf Reviewer.reviewedBy Reviewer.knownTo Reviewer.restAfter Reviewer.symbolsAfter Reviewer.historyAfter Reviewer.reviewCall Reviewer.reviewAnswer
 answered n cs = allTold (reviewAnswers (freshReview n) cs)
 
 -- every row is answered as it says

@@ -12,16 +12,20 @@ use borrow.Author.Tests.{leb-true, eq-eqb}
 use Rattle.field.specs.Field.{be, beBytes}
 use Rattle.lists.proofs.Tests.{and-true}
 use Rattle.lists.proofs.Members.{In}
-use Rattle.message.specs.Form.{symbolGood}
-use Rattle.book.specs.Opening.{bookLength, freshBytes}
-use Rattle.book.specs.Call.{Call, make, add, openLine, startDay, endDay, take, read, Listed, isListed, listedOf, numberOf, done, Answer, answerOf, makeGood, numberOn, afterCall, call, bytesAfter, answers}
-use Rattle.book.proofs.FreshLaws.{fresh-sound, fresh-bytes, fresh-rest, fresh-pages}
+use Rattle.text.specs.Form.{symbolGood, symbolLength}
+use Rattle.opening.specs.Opening.{freshBytes}
+use Rattle.line.specs.Line.{done}
+use Rattle.book.specs.Call.{Call, make, add, openLine, startDay, endDay, take, read, numberOf, Answer, answerOf, makeGood, numberOn, afterCall, call, bytesAfter, answers}
+use Rattle.work.specs.Work.{Listed, isListed, listedOf}
+use Rattle.opening.proofs.FreshLaws.{fresh-sound, fresh-bytes, fresh-rest, fresh-pages}
 use Rattle.book.proofs.NumberLaws.{add-done, symbol-back}
 use Rattle.review.specs.Reviewer.{parts, reviewed, Review, freshReview, restAfter, symbolsAfter, historyAfter, reviewCall, reviewAnswer, reviewAfter, reviewAnswers}
 use Rattle.review.specs.Lists.{blockIsBytes, blocksAreBytes}
 use Rattle.review.proofs.ListLaws.{core-none}
 use Rattle.review.proofs.CallLaws.{Agrees, call-agrees}
 use Rattle.review.proofs.AnswerLaws.{call-answer}
+use Rattle.entries.specs.Publication.{publicationLength}
+use Rattle.opening.specs.Layout.{bookLength, symbolsMost}
 
 -- ---- a list of calls
 
@@ -59,12 +63,12 @@ made-agrees : (m : List ℕ) (n : ℕ) → call m (make n) .answer .number ≡ 0
 unfolding makeGood parts listedOf
 made-agrees m n e =
     let g : makeGood m n ≡ true = made-good m n e in
-    let a = and-true (leb 1 n) (leb n 64 && eqb (length m) (bookLength n)) g in
-    let c = and-true (leb n 64) (eqb (length m) (bookLength n)) (a .1) in
+    let a = and-true (leb 1 n) (leb n symbolsMost && eqb (length m) (bookLength n)) g in
+    let c = and-true (leb n symbolsMost) (eqb (length m) (bookLength n)) (a .1) in
     rw (made-bytes m n g)
     (record {
-      sound = fresh-sound n (leb-true 1 n (a .0)) (leb-true n 64 (c .0));
-      bytes = fresh-bytes n (leb-true n 64 (c .0));
+      sound = fresh-sound n (leb-true 1 n (a .0)) (leb-true n symbolsMost (c .0));
+      bytes = fresh-bytes n (leb-true n symbolsMost (c .0));
       held = record { rest = fresh-rest n; listed = ap listedOf (fresh-pages n); core = rw (fresh-pages n) core-none };
     })
 
@@ -78,7 +82,7 @@ module _ (m : List ℕ) (n : ℕ) (made : call m (make n) .answer .number ≡ 0)
 -- ---- the eleven bytes of a symbol that is held
 
 abbrev Well : Listed → Type 0
-Well x = (symbolGood (beBytes 11 (x .symbol)) ≡ true) × (be (beBytes 11 (x .symbol)) ≡ x .symbol)
+Well x = (symbolGood (beBytes symbolLength (x .symbol)) ≡ true) × (be (beBytes symbolLength (x .symbol)) ≡ x .symbol)
 
 abbrev Wells : List Listed → Type 0
 Wells [] = Unit {0}
@@ -92,7 +96,7 @@ after-wells : (v : Review) (c : Call) → done (numberOf (v .rest) (v .symbols) 
 unfolding symbolsAfter
 after-wells v (make n) d w = tt
 after-wells v (add s k) d w =
-    let b : beBytes 11 (be s) ≡ s = symbol-back s (add-done (v .rest) (v .symbols) s k d .good) in
+    let b : beBytes symbolLength (be s) ≡ s = symbol-back s (add-done (v .rest) (v .symbols) s k d .good) in
     snoc-wells (v .symbols) (record { symbol = be s; lot = k }) w (ap symbolGood b ∙ add-done (v .rest) (v .symbols) s k d .good, ap be b)
 after-wells v (openLine i l) d w = w
 after-wells v startDay d w = w
@@ -126,7 +130,7 @@ well-in x (y ∷ xs) w (inr m) = let r = well-in x xs (w .1) m in (r .0, go (eqb
 -- ---- reads
 
 read-answer : (v : Review) (s : List ℕ) → symbolGood s ≡ true → isListed (be s) (v .symbols) ≡ true
-    → (reviewAnswer v (read s 96) .number ≡ 0) × (reviewAnswer v (read s 96) .publication ≡ reviewed (v .history) (be s))
+    → (reviewAnswer v (read s publicationLength) .number ≡ 0) × (reviewAnswer v (read s publicationLength) .publication ≡ reviewed (v .history) (be s))
 unfolding reviewAnswer answerOf numberOf done
 read-answer v s g h = (rw (g, h), rw (g, h))
 
@@ -138,11 +142,11 @@ module _ (m : List ℕ) (n : ℕ) (made : call m (make n) .answer .number ≡ 0)
   v = reviewAfter (freshReview n) cs
 
   pub reads-agree : (x : Listed) → In x (v .symbols)
-      → (call b (read (beBytes 11 (x .symbol)) 96) .answer .number ≡ 0) × (call b (read (beBytes 11 (x .symbol)) 96) .answer .publication ≡ reviewed (v .history) (x .symbol))
+      → (call b (read (beBytes symbolLength (x .symbol)) publicationLength) .answer .number ≡ 0) × (call b (read (beBytes symbolLength (x .symbol)) publicationLength) .answer .publication ≡ reviewed (v .history) (x .symbol))
   reads-agree x i =
-      let s : List ℕ = beBytes 11 (x .symbol) in
+      let s : List ℕ = beBytes symbolLength (x .symbol) in
       let w = well-in x (v .symbols) (run-wells (freshReview n) cs tt) i in
-      let p : call b (read (beBytes 11 (x .symbol)) 96) .answer ≡ reviewAnswer v (read (beBytes 11 (x .symbol)) 96) =
-      call-answer n b v (read (beBytes 11 (x .symbol)) 96) refl (after-agrees m n made cs z) in
-      let r = read-answer v (beBytes 11 (x .symbol)) (w .0 .0) (ap (λ (k : ℕ). isListed k (v .symbols)) (w .0 .1) ∙ w .1) in
+      let p : call b (read (beBytes symbolLength (x .symbol)) publicationLength) .answer ≡ reviewAnswer v (read (beBytes symbolLength (x .symbol)) publicationLength) =
+      call-answer n b v (read (beBytes symbolLength (x .symbol)) publicationLength) refl (after-agrees m n made cs z) in
+      let r = read-answer v (beBytes symbolLength (x .symbol)) (w .0 .0) (ap (λ (k : ℕ). isListed k (v .symbols)) (w .0 .1) ∙ w .1) in
       (ap (λ (a : Answer). a .number) p ∙ r .0, ap (λ (a : Answer). a .publication) p ∙ r .1 ∙ ap (reviewed (v .history)) (w .0 .1))

@@ -1,12 +1,11 @@
 -- Rules that the book and the reviewer share, so that the theorem cannot see a mistake in them: conditions, makers, levels, best entries, days.
 -- Each row has whole answers: every number of a report, every answer byte, all 96 bytes of a read.
 -- Assumes nothing.
-use Prim.Native.Nat.{ℕ, _+_}
+use Prim.Native.Nat.{ℕ}
 use mathlib.Core.Path.{refl}
 use mathlib.Core.List.{List, [], _∷_, _++_}
-use lib.ListN.{replicate}
 use Rattle.book.specs.Call.{make, add, openLine, startDay, endDay, take, read}
-use Rattle.review.proofs.Rows.{quoted, odds, item, oddLot, maker, control, block, only, refused, accepted, partly, rejected, entry, national, odd, nothing, shown, zt, roundOf, noOdd, plain, onN, onP, onD, look, Row, inDay, fromMake, answered, Answered, end, _▹_}
+use Rattle.review.proofs.Rows.{quoted, odds, item, maker, control, block, only, refused, accepted, partly, rejected, entry, national, odd, nothing, shown, none, zt, ab, roundOf, noOdd, plain, levelsBy, makerOf, standing, eight, eightTold, onN, onP, onD, look, Row, inDay, fromMake, answered, Answered, end, _▹_}
 
 -- ---- conditions: a Q K by N with this condition, its flags, the national bid and offer
 
@@ -24,41 +23,10 @@ condition c flags b o =
 
 -- ---- makers
 
--- a Q U of ZT on D's line: time, condition, bid and offer, the name's first byte and three spaces
-abbrev makerOf : ℕ → ℕ → ℕ → ℕ → ℕ → ℕ → ℕ → List ℕ
-makerOf time c b bs o os name = maker 68 time (quoted zt c b bs o os) (name ∷ 32 ∷ 32 ∷ 32 ∷ [])
-
--- bid 10.00 for so many lots, offer 10.02 for 2, condition R
-abbrev standing : ℕ → ℕ → ℕ → List ℕ
-standing time lots name = makerOf time 82 10000000 lots 10020000 2 name
-
 abbrev finra : ℕ → ℕ → ℕ → List ℕ
 finra name price size = entry name 32 32 32 price size
 
--- eight makers with the names from this one on
-abbrev eight : ℕ → List (List ℕ)
-eight k =
-    standing 7 3 k ∷ standing 7 3 (k + 1) ∷ standing 7 3 (k + 2) ∷ standing 7 3 (k + 3)
-    ∷ standing 7 3 (k + 4) ∷ standing 7 3 (k + 5) ∷ standing 7 3 (k + 6) ∷ standing 7 3 (k + 7) ∷ []
-
--- a block of eight accepted messages, of which only the first changed anything
-abbrev eightTold : ℕ → ℕ → ℕ → List ℕ
-eightTold expected count flags =
-    0 ∷ 0 ∷ expected ∷ count ∷ 8 ∷ 0 ∷ 0 ∷ 0 ∷ 0 ∷ flags ∷ 0 ∷ 1 ∷ 0 ∷ 0 ∷ 0 ∷ 2 ∷ 0 ∷ 0 ∷ 0 ∷ 3 ∷ 0 ∷ 0 ∷ 0
-    ∷ 4 ∷ 0 ∷ 0 ∷ 0 ∷ 5 ∷ 0 ∷ 0 ∷ 0 ∷ 6 ∷ 0 ∷ 0 ∷ 0 ∷ 7 ∷ 0 ∷ 0 ∷ 0 ∷ []
-
--- AB and nine spaces
-abbrev ab : List ℕ
-ab = 65 ∷ 66 ∷ replicate 9 32
-
-abbrev none : List ℕ
-none = shown nothing nothing nothing nothing nothing nothing
-
 -- ---- levels
-
--- a Q M of ZT by a letter at a time: clear mark, counts, items
-abbrev levels : ℕ → ℕ → ℕ → ℕ → ℕ → List ℕ → List ℕ
-levels letter time mark bids offers items = oddLot letter time zt (odds mark bids offers (0 ∷ 0 ∷ []) items)
 
 -- N's plain quote, and these odd entries
 abbrev besides : List ℕ → List ℕ → List ℕ
@@ -82,7 +50,7 @@ table =
     -- six entries present, and six that are none, byte by byte
     ∷ inDay
     (look ∷ onN 1 (plain 78 6 3 noOdd ∷ []) ∷ onD 1 (maker 68 7 (quoted zt 82 9990000 1 10030000 4) (65 ∷ 66 ∷ 67 ∷ 68 ∷ []) ∷ [])
-    ∷ onP 1 (levels 80 8 32 1 1 (item 10010000 5 ++ item 10015000 6) ∷ []) ∷ look ∷ [])
+    ∷ onP 1 (levelsBy 80 8 32 1 1 (item 10010000 5 ++ item 10015000 6) ∷ []) ∷ look ∷ [])
     ((0 ∷ 0 ∷ 0 ∷ 0 ∷ 0 ∷ 0 ∷ 0
     ∷ 32 ∷ 32 ∷ 32 ∷ 32 ∷ 0 ∷ 0 ∷ 0 ∷ 0 ∷ 0 ∷ 0 ∷ 0 ∷ 0 ∷ 0 ∷ 0 ∷ 0 ∷ 0 ∷ 32 ∷ 32 ∷ 32 ∷ 32 ∷ 0 ∷ 0 ∷ 0 ∷ 0 ∷ 0 ∷ 0 ∷ 0 ∷ 0 ∷ 0 ∷ 0 ∷ 0 ∷ 0
     ∷ 32 ∷ 32 ∷ 32 ∷ 32 ∷ 0 ∷ 0 ∷ 0 ∷ 0 ∷ 0 ∷ 0 ∷ 0 ∷ 0 ∷ 0 ∷ 0 ∷ 0 ∷ 0 ∷ 32 ∷ 32 ∷ 32 ∷ 32 ∷ 0 ∷ 0 ∷ 0 ∷ 0 ∷ 0 ∷ 0 ∷ 0 ∷ 0 ∷ 0 ∷ 0 ∷ 0 ∷ 0
@@ -124,30 +92,30 @@ table =
     ∷ accepted 6 5 15 ∷ accepted 7 6 5 ∷ shown (national 68 82 10000000 3) nothing (finra 65 10000000 3) nothing nothing nothing ∷ none ∷ [])
     -- clear marks B, S and X, alone and before an item
     ∷ inDay
-    (onN 1 (plain 78 7 3 (odds 32 1 1 (0 ∷ []) (item 10010000 5 ++ item 10015000 6)) ∷ []) ∷ look ∷ onN 2 (levels 78 8 66 0 0 [] ∷ []) ∷ look
-    ∷ onN 3 (levels 78 8 32 1 0 (item 10010000 5) ∷ []) ∷ onN 4 (levels 78 8 83 0 0 [] ∷ []) ∷ look ∷ onN 5 (levels 78 8 32 0 1 (item 10015000 6) ∷ [])
-    ∷ onN 6 (levels 78 8 88 0 0 [] ∷ []) ∷ look ∷ onN 7 (levels 78 8 88 1 1 (item 10010000 5 ++ item 10015000 6) ∷ []) ∷ look ∷ [])
+    (onN 1 (plain 78 7 3 (odds 32 1 1 (0 ∷ []) (item 10010000 5 ++ item 10015000 6)) ∷ []) ∷ look ∷ onN 2 (levelsBy 78 8 66 0 0 [] ∷ []) ∷ look
+    ∷ onN 3 (levelsBy 78 8 32 1 0 (item 10010000 5) ∷ []) ∷ onN 4 (levelsBy 78 8 83 0 0 [] ∷ []) ∷ look ∷ onN 5 (levelsBy 78 8 32 0 1 (item 10015000 6) ∷ [])
+    ∷ onN 6 (levelsBy 78 8 88 0 0 [] ∷ []) ∷ look ∷ onN 7 (levelsBy 78 8 88 1 1 (item 10010000 5 ++ item 10015000 6) ∷ []) ∷ look ∷ [])
     (accepted 2 1 51 ∷ besides (odd 78 10010000 5) (odd 78 10015000 6) ∷ accepted 3 2 16 ∷ besides nothing (odd 78 10015000 6)
     ∷ accepted 4 3 16 ∷ accepted 5 4 32 ∷ besides (odd 78 10010000 5) nothing ∷ accepted 6 5 32
     ∷ accepted 7 6 48 ∷ besides nothing nothing ∷ accepted 8 7 48 ∷ besides (odd 78 10010000 5) (odd 78 10015000 6) ∷ [])
     -- a 64 under the other side's clear does nothing on either side; under its own side's clear the item finds room
     ∷ inDay
     (onN 1 (plain 78 7 3 (odds 32 4 1 (0 ∷ []) (fourBids ++ item 10015000 6)) ∷ []) ∷ onN 2 (plain 78 7 3 (odds 83 1 0 (0 ∷ []) (item 10014000 1)) ∷ []) ∷ look
-    ∷ onN 3 (levels 78 8 83 1 0 (item 10014000 1) ∷ []) ∷ look ∷ onN 4 (levels 78 8 66 1 0 (item 10014000 1) ∷ []) ∷ look ∷ [])
+    ∷ onN 3 (levelsBy 78 8 83 1 0 (item 10014000 1) ∷ []) ∷ look ∷ onN 4 (levelsBy 78 8 66 1 0 (item 10014000 1) ∷ []) ∷ look ∷ [])
     (accepted 2 1 51 ∷ partly 3 2 64 0 ∷ besides (odd 78 10013000 4) (odd 78 10015000 6) ∷ rejected 4 3 64 ∷ besides (odd 78 10013000 4) (odd 78 10015000 6)
     ∷ accepted 5 4 16 ∷ besides (odd 78 10014000 1) (odd 78 10015000 6) ∷ [])
     -- zero shares of a known and of an unknown price; a known price is replaced; a removal before makes room, one behind does not
     ∷ inDay
-    (onN 1 (plain 78 7 3 (odds 32 4 0 (0 ∷ []) fourBids) ∷ []) ∷ onN 2 (levels 78 8 32 1 0 (item 10013000 0) ∷ []) ∷ look ∷ onN 3 (levels 78 8 32 1 0 (item 10013000 0) ∷ [])
-    ∷ onN 4 (levels 78 8 32 1 0 (item 10012000 9) ∷ []) ∷ look ∷ onN 5 (levels 78 8 32 1 0 (item 10013000 4) ∷ [])
-    ∷ onN 6 (levels 78 8 32 2 0 (item 10014000 1 ++ item 10010000 0) ∷ []) ∷ onN 7 (levels 78 8 32 2 0 (item 10010000 0 ++ item 10014000 1) ∷ []) ∷ look ∷ [])
+    (onN 1 (plain 78 7 3 (odds 32 4 0 (0 ∷ []) fourBids) ∷ []) ∷ onN 2 (levelsBy 78 8 32 1 0 (item 10013000 0) ∷ []) ∷ look ∷ onN 3 (levelsBy 78 8 32 1 0 (item 10013000 0) ∷ [])
+    ∷ onN 4 (levelsBy 78 8 32 1 0 (item 10012000 9) ∷ []) ∷ look ∷ onN 5 (levelsBy 78 8 32 1 0 (item 10013000 4) ∷ [])
+    ∷ onN 6 (levelsBy 78 8 32 2 0 (item 10014000 1 ++ item 10010000 0) ∷ []) ∷ onN 7 (levelsBy 78 8 32 2 0 (item 10010000 0 ++ item 10014000 1) ∷ []) ∷ look ∷ [])
     (accepted 2 1 19 ∷ accepted 3 2 16 ∷ besides (odd 78 10012000 3) nothing ∷ accepted 4 3 0
     ∷ accepted 5 4 16 ∷ besides (odd 78 10012000 9) nothing ∷ accepted 6 5 16 ∷ rejected 7 6 64 ∷ accepted 8 7 16 ∷ besides (odd 78 10014000 1) nothing ∷ [])
     -- odd best: any level where no national stands; larger shares, earlier time (a replaced level has the new one), lower letter, better price; then priced beyond the national
     ∷ inDay
-    (onN 1 (levels 78 8 32 1 0 (item 9000000 5) ∷ []) ∷ onP 1 (levels 80 9 32 1 0 (item 9000000 6) ∷ []) ∷ look ∷ onN 2 (levels 78 8 32 1 0 (item 9000000 6) ∷ []) ∷ look
-    ∷ onN 3 (levels 78 10 32 1 0 (item 9000000 6) ∷ []) ∷ look ∷ onN 4 (levels 78 9 32 1 0 (item 9000000 6) ∷ []) ∷ look
-    ∷ onN 5 (levels 78 9 32 1 1 (item 9010000 1 ++ item 9050000 1) ∷ []) ∷ onP 2 (levels 80 9 32 0 1 (item 9040000 1) ∷ []) ∷ look
+    (onN 1 (levelsBy 78 8 32 1 0 (item 9000000 5) ∷ []) ∷ onP 1 (levelsBy 80 9 32 1 0 (item 9000000 6) ∷ []) ∷ look ∷ onN 2 (levelsBy 78 8 32 1 0 (item 9000000 6) ∷ []) ∷ look
+    ∷ onN 3 (levelsBy 78 10 32 1 0 (item 9000000 6) ∷ []) ∷ look ∷ onN 4 (levelsBy 78 9 32 1 0 (item 9000000 6) ∷ []) ∷ look
+    ∷ onN 5 (levelsBy 78 9 32 1 1 (item 9010000 1 ++ item 9050000 1) ∷ []) ∷ onP 2 (levelsBy 80 9 32 0 1 (item 9040000 1) ∷ []) ∷ look
     ∷ onP 3 (roundOf 80 9 82 9010000 1 9040000 1 noOdd ∷ []) ∷ look ∷ onP 4 (roundOf 80 9 82 9009999 1 9040001 1 noOdd ∷ []) ∷ look ∷ [])
     (accepted 2 1 16 ∷ accepted 2 1 16 ∷ shown nothing nothing nothing nothing (odd 80 9000000 6) nothing
     ∷ accepted 3 2 16 ∷ shown nothing nothing nothing nothing (odd 78 9000000 6) nothing ∷ accepted 4 3 16 ∷ shown nothing nothing nothing nothing (odd 80 9000000 6) nothing
@@ -157,14 +125,14 @@ table =
     ∷ accepted 5 4 51 ∷ shown (national 80 82 9009999 1) (national 80 82 9040001 1) nothing nothing (odd 78 9010000 1) (odd 80 9040000 1) ∷ [])
     -- the messages of a block one after another: accepted, partly accepted and rejected
     ∷ inDay
-    (onN 1 (plain 78 7 3 (odds 32 4 0 (0 ∷ []) fourBids) ∷ plain 78 7 4 (odds 32 1 0 (0 ∷ []) (item 10014000 1)) ∷ levels 78 8 32 1 0 (item 10014000 1)
-    ∷ levels 78 8 32 1 0 (item 10013000 0) ∷ levels 78 8 32 1 0 (item 10014000 1) ∷ plain 80 7 3 noOdd ∷ []) ∷ look ∷ [])
+    (onN 1 (plain 78 7 3 (odds 32 4 0 (0 ∷ []) fourBids) ∷ plain 78 7 4 (odds 32 1 0 (0 ∷ []) (item 10014000 1)) ∷ levelsBy 78 8 32 1 0 (item 10014000 1)
+    ∷ levelsBy 78 8 32 1 0 (item 10013000 0) ∷ levelsBy 78 8 32 1 0 (item 10014000 1) ∷ plain 80 7 3 noOdd ∷ []) ∷ look ∷ [])
     ((0 ∷ 0 ∷ 7 ∷ 6 ∷ 3 ∷ 1 ∷ 2 ∷ 0 ∷ 0 ∷ 19 ∷ 0 ∷ 1 ∷ 64 ∷ 1 ∷ 0 ∷ 2 ∷ 64 ∷ 0 ∷ 0 ∷ 3 ∷ 0 ∷ 16 ∷ 0 ∷ 4 ∷ 0 ∷ 16 ∷ 0 ∷ 5 ∷ 41 ∷ 0 ∷ 0 ∷ [])
     ∷ shown (national 78 82 10000000 4) (offer 82) nothing nothing (odd 78 10014000 1) nothing ∷ [])
     -- End of Day keeps the quotes; Start of Day empties quotes, makers and levels and sets every line's next expected number to 1 and its count to 0
     ∷ inDay
     (onN 1 (plain 78 7 3 (odds 32 4 0 (0 ∷ []) fourBids) ∷ []) ∷ onD 1 (standing 8 3 65 ∷ []) ∷ endDay ∷ look ∷ onN 2 (plain 78 7 3 noOdd ∷ []) ∷ startDay ∷ look
-    ∷ onN 1 (levels 78 8 32 1 0 (item 10014000 1) ∷ []) ∷ look ∷ onD 1 (control 79 68 ∷ []) ∷ look ∷ [])
+    ∷ onN 1 (levelsBy 78 8 32 1 0 (item 10014000 1) ∷ []) ∷ look ∷ onD 1 (control 79 68 ∷ []) ∷ look ∷ [])
     (accepted 2 1 19 ∷ accepted 2 1 12 ∷ only 0 ∷ shown (bid 82) (offer 82) (finra 65 10000000 3) (finra 65 10020000 2) (odd 78 10013000 4) nothing ∷ refused 20 2 1 ∷ only 0 ∷ none
     ∷ accepted 2 1 16 ∷ shown nothing nothing nothing nothing (odd 78 10014000 1) nothing ∷ accepted 2 1 0 ∷ shown nothing nothing nothing nothing (odd 78 10014000 1) nothing ∷ [])
     -- make again: another n is 2 and changes nothing, the same n leaves no symbols, no lines and a closed day

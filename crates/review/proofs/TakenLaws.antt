@@ -16,14 +16,18 @@ use Rattle.entries.specs.Publication.{sameEntry, flag, changeFlags}
 use Rattle.message.specs.declared.Kind.{Kind}
 use Rattle.message.specs.declared.Kind.the-variants as kind
 use Rattle.message.specs.Message.{kindOf, symbolOf, partlyBy, partlyTaken}
-use Rattle.block.specs.Block.{countIn, messagesFrom, messagesOf}
+use Rattle.block.specs.Block.{countIn, messagesFrom, messagesOf, messagesMost, answerLength}
 use Rattle.block.specs.declared.Checked.the-variants as checks
 use Rattle.block.proofs.CheckLaws.{Passed, passed}
-use Rattle.page.specs.Page.{knownOf}
-use Rattle.page.proofs.CellLaws.{member-below}
-use Rattle.book.specs.declared.Line.{Line}
-use Rattle.book.specs.Opening.{sound, Rest, restIn, pagesIn}
-use Rattle.book.specs.Call.{take, Listed, findReading, listedOf, blockNumber, onLine, numberOf, done, Told, Answer, bare, quads, tally, isAccepted, isPartly, isRejected, lineAnswer, letterOf, answerOf, flagsOf, publications, codeOn, messageOn, toldOn, publishedOn, numberOn, call}
+use Rattle.update.specs.Parts.{knownOf}
+use Rattle.update.proofs.CellLaws.{member-below}
+use Rattle.opening.specs.declared.Line.{Line}
+use Rattle.opening.specs.Opening.{sound, Rest, restIn, pagesIn}
+use Rattle.line.specs.Line.{blockNumber, onLine, done}
+use Rattle.book.specs.Call.{take, numberOf, Answer, bare, lineAnswer, letterOf, answerOf, publishedOn, numberOn, call}
+use Rattle.told.specs.Told.{quads, tally, isAccepted, isPartly, isRejected}
+use Rattle.work.specs.Work.{Listed, findReading, listedOf, flagsOf, publications, codeOn, messageOn, toldOn}
+use Rattle.told.specs.declared.Told.{Told}
 use Rattle.book.proofs.NumberLaws.{unsound}
 use Rattle.book.proofs.TakenLaws.{taken-passes}
 use Rattle.review.specs.Numbers.{codes}
@@ -165,7 +169,7 @@ quad-at i (t ∷ ts) c (suc j) h =
 -- the answer to a taken block
 pub record BlockTold (k : List ℕ) (a : Answer) : Type 0 where
   pub some : 1 ≤ countIn k
-  pub few : countIn k ≤ 45
+  pub few : countIn k ≤ messagesMost
   -- each message is accepted, partly accepted or rejected
   pub counts : a .accepted + a .partly + a .rejected ≡ countIn k
   pub size : length (a .answers) ≡ 4 * countIn k
@@ -200,7 +204,7 @@ done-nine q d = go (cut q 9)
 take-told : (b : List ℕ) (r : Rest) (ls : List Listed) (i : ℕ) (k : List ℕ) (room : ℕ) → done (numberOf r ls (take i k room)) ≡ true
     → BlockTold k (answerOf r (toldOn b) (publishedOn b) (numberOf r ls (take i k room)) (take i k room))
 unfolding answerOf numberOf done
-take-told b r ls i k room d = go (ltb room 180) (r .lines i) d
+take-told b r ls i k room d = go (ltb room answerLength) (r .lines i) d
   where
     go : (t : Bool) (o : Option Line) → done (cond t 9 (onLine (r .day) k o)) ≡ true
         → BlockTold k (cond {A = Answer} (eqb (cond t 9 (onLine (r .day) k o)) 9) (bare (cond t 9 (onLine (r .day) k o))) (lineAnswer (cond t 9 (onLine (r .day) k o)) k (toldOn b (letterOf o) (messagesOf k)) o))

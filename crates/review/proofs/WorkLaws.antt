@@ -13,11 +13,13 @@ use Rattle.lists.specs.Lists.{isSome}
 use Rattle.lists.proofs.Tests.{clash, Cut, equal, apart, cut}
 use Rattle.message.specs.declared.Kind.{Kind}
 use Rattle.message.specs.declared.Kind.the-variants as kind
-use Rattle.message.specs.Message.{kindOf, symbolOf, makerName, oddAt, Known, makerCode, codeOf, Part, roundOf, wholeBy, partlyTaken, partsOf, roundLotOdd}
-use Rattle.entries.specs.Page.{occupied}
-use Rattle.page.specs.Page.{Reading, findMaker, knownBy, knownOf}
-use Rattle.page.proofs.Model.{partReading}
-use Rattle.book.specs.Call.{Listed, isListed, findReading, listedOf, Told, flagsOf, publications}
+use Rattle.message.specs.Message.{kindOf, symbolOf, makerName, oddAt, Known, makerCode, codeOf, Part, roundPartOf, wholeBy, partlyTaken, partsOf, roundLotOdd, roundLotItems}
+use Rattle.page.specs.Page.{occupied}
+use Rattle.makers.specs.Makers.{findMaker}
+use Rattle.update.specs.Parts.{Reading, knownBy, knownOf}
+use Rattle.update.proofs.Model.{partReading}
+use Rattle.work.specs.Work.{Listed, isListed, findReading, listedOf, flagsOf, publications}
+use Rattle.told.specs.declared.Told.{Told}
 use Rattle.review.specs.Reviewer.{parts, reviewed, codeR, messageR, messagesR, entriesR, toldR}
 use Rattle.review.proofs.CellLaws.{Room}
 use Rattle.review.proofs.SilentLaws.{names}
@@ -25,6 +27,7 @@ use Rattle.review.proofs.Agree.{Good, good-reviewed, AllGood, Core, Rea
 use Rattle.review.proofs.PartLaws.{RoomFor, cellsIn, core-part, part-listed}
 use Rattle.review.proofs.CodeLaws.{Takes, takes-whole, takes-partly, OddTaken, round-taken, odd-taken, MakerTaken, maker-taken}
 use Rattle.review.proofs.KeptLaws.{onto, partly-is, kept-parts}
+use Rattle.page.specs.Layout.{makerCount}
 
 -- ---- the book's work, on readings
 
@@ -89,16 +92,16 @@ module _ (h : List Part) (rs : List Reading) (g : AllGood h rs) (s : ℕ) where
   unfolding makerCode knownOf knownBy Room
   room-of m k e = go (reading-of s h rs g) k e
     where
-      at : (r : Reading) → Good h r → (b : Bool) → isSome (findMaker m (r .cells)) ≡ b → (d : Bool) → ltb (length (occupied (r .cells))) 16 ≡ d
+      at : (r : Reading) → Good h r → (b : Bool) → isSome (findMaker m (r .cells)) ≡ b → (d : Bool) → ltb (length (occupied (r .cells))) makerCount ≡ d
           → _≡_ {A = ℕ} (cond b 0 (cond d 0 49)) 0 → (isSome (findMaker m (r .cells)) ≡ true) ⊎ (length (occupied (r .cells)) < length (r .cells))
       at r d true y u z e = inl y
-      at r d false y true z e = inr (omega (arith, d .size, ltb-true (length (occupied (r .cells))) 16 z))
+      at r d false y true z e = inr (omega (arith, d .size, ltb-true (length (occupied (r .cells))) makerCount z))
       at r d false y false z e = absurd (omega arith)
 
-      go : ReadingOf s h rs → knownOf (findReading s rs) .listed ≡ true → _≡_ {A = ℕ} (cond (knownOf (findReading s rs) .stands m) 0 (cond (ltb (knownOf (findReading s rs) .count) 16) 0 49)) 0
+      go : ReadingOf s h rs → knownOf (findReading s rs) .listed ≡ true → _≡_ {A = ℕ} (cond (knownOf (findReading s rs) .stands m) 0 (cond (ltb (knownOf (findReading s rs) .count) makerCount) 0 49)) 0
           → (isSome (findMaker m (cellsIn (findReading s rs))) ≡ true) ⊎ (length (occupied (cellsIn (findReading s rs))) < length (cellsIn (findReading s rs)))
       go (missing a b) k e = clash (sym (rw a at k))
-      go (found r a b w d) k e = rw a (at r d (isSome (findMaker m (r .cells))) refl (ltb (length (occupied (r .cells))) 16) refl (rw a at e))
+      go (found r a b w d) k e = rw a (at r d (isSome (findMaker m (r .cells))) refl (ltb (length (occupied (r .cells))) makerCount) refl (rw a at e))
 
 -- ---- one message
 
@@ -135,7 +138,7 @@ module _ (letter : ℕ) (m : List ℕ) (h : List Part) (rs : List Reading) (g : 
   unfolding partsOf
   message-ready = go (cut c 0) (partlyTaken c m) refl
     where
-      go : Cut c 0 → (p : Bool) → partlyTaken c m ≡ p → AllReady (cond (eqb c 0) (wholeBy m (kindOf m)) (cond p (roundOf m ∷ []) [])) rs
+      go : Cut c 0 → (p : Bool) → partlyTaken c m ≡ p → AllReady (cond (eqb c 0) (wholeBy m (kindOf m)) (cond p (roundPartOf m ∷ []) [])) rs
       go (equal t z) p f = rw t (whole-ready z)
       go (apart t z) true f =
           let r = partly-is c m f in
@@ -143,7 +146,7 @@ module _ (letter : ℕ) (m : List ℕ) (h : List Part) (rs : List Reading) (g : 
       go (apart t z) false f = rw t tt
 
   -- a Q K that is taken has 60 bytes or more
-  long : Takes c → kindOf m ≡ kind.RoundLot → 60 ≤ length m
+  long : Takes c → kindOf m ≡ kind.RoundLot → roundLotItems ≤ length m
   unfolding oddAt
   long t k = let r : OddTaken e letter m c t (roundLotOdd m) = round-taken e letter m c t x k in omega (arith, r .size)
 

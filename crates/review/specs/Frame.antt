@@ -10,8 +10,12 @@ use Rattle.message.specs.declared.Kind.{Kind}
 use Rattle.message.specs.declared.Kind.the-variants as kind
 use Rattle.message.specs.Message.{kindOf, symbolOf}
 use Rattle.block.specs.Block.{messagesOf}
-use Rattle.book.specs.Opening.{linesIn, pageAt, pagePlace}
-use Rattle.book.specs.Call.{take, numberOf, done, letterOf, Told, isAccepted, isPartly, toldOn, numberOn}
+use Rattle.opening.specs.Opening.{linesIn, pageAt, pagePlace}
+use Rattle.line.specs.Line.{done}
+use Rattle.book.specs.Call.{take, numberOf, letterOf, numberOn}
+use Rattle.told.specs.Told.{isAccepted, isPartly}
+use Rattle.work.specs.Work.{toldOn}
+use Rattle.told.specs.declared.Told.{Told}
 use Rattle.review.specs.Reviewer.{Review, toldR}
 
 -- "A message names the symbol in its bytes 20-30, if its type has one"; FINRA Open and Close go to every page

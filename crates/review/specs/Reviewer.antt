@@ -2,14 +2,14 @@
 -- history, and works every number, code, flag and entry out anew from these. The history is the accepted messages as bytes, the newest first.
 -- Assumes nothing.
 use Prim.Native.Nat.{ℕ}
-use mathlib.Core.Bool.{Bool, true, false, _&&_, cond}
+use mathlib.Core.Bool.{true, false, _&&_, cond}
 use mathlib.Core.List.{List, [], _∷_, _++_, map}
 use mathlib.Core.Option.{Option, none, some}
 use lib.Dec.{eqb}
-use lib.ListN.{length}
-use lib.ListN.{take as firstOf}
+use lib.ListN.{length, take as prefix}
 use Rattle.field.specs.Field.{be}
-use Rattle.lists.specs.Lists.{mapOption, orElse, isSome, collect}
+use Rattle.field.specs.Ascii.{L, R}
+use Rattle.lists.specs.Lists.{mapOption, orElse, isSome, collect, member}
 use Rattle.quote.specs.declared.Quote.{Quote}
 use Rattle.quote.specs.Quote.{noQuote, emptyQuote, withCondition}
 use Rattle.levels.specs.Levels.{Standing, noLevels, oddOn}
@@ -18,23 +18,25 @@ use Rattle.entries.specs.Publication.{publication}
 use Rattle.block.specs.Block.{messagesOf}
 use Rattle.message.specs.declared.Kind.{Kind}
 use Rattle.message.specs.declared.Kind.the-variants as kind
-use Rattle.message.specs.Message.{kindOf, symbolOf, roundLotOdd, oddLotOdd, roundOf, oddPartOf, Known, codeOf, partlyTaken, Part, roundPart, oddPart, makerPart, finraPart}
-use Rattle.message.specs.Message as message
-use Rattle.book.specs.declared.Line.{Line}
-use Rattle.book.specs.Opening.{Rest}
-use Rattle.book.specs.Call.{Call, make, add, openLine, startDay, endDay, take, read, Listed, isListed, lotOf, numberOf, done, advanced, letterOf, Told, Answer, answerOf, flagsOf}
+use Rattle.message.specs.Message.{roundLength, kindOf, symbolOf, roundLotOdd, oddLotOdd, roundPartOf, oddPartOf, makerPartOf, Known, codeOf, partlyTaken, Part, roundPart, oddPart, makerPart, finraPart}
+use Rattle.opening.specs.declared.Line.{Line}
+use Rattle.opening.specs.Opening.{Rest}
+use Rattle.line.specs.Line.{done, advanced}
+use Rattle.book.specs.Call.{Call, make, add, openLine, startDay, endDay, take, read, numberOf, letterOf, Answer, answerOf}
+use Rattle.work.specs.Work.{Listed, isListed, lotOf, flagsOf}
+use Rattle.told.specs.declared.Told.{Told}
 
 -- ---- what the history says
 
 -- the parts of a message that the history holds, the newest first; "of a Q K with 60 to 64 the round part (to byte 55)" is a Q K of 56 bytes
 abbrev pub partsBy : List ℕ → Kind → List Part
 partsBy m kind.Inquiry = []
-partsBy m kind.Close = finraPart 76 ∷ []
-partsBy m kind.Open = finraPart 82 ∷ []
+partsBy m kind.Close = finraPart L ∷ []
+partsBy m kind.Open = finraPart R ∷ []
 partsBy m kind.Test = []
-partsBy m kind.RoundLot = cond (eqb (length m) 56) (roundOf m ∷ []) (oddPartOf m (roundLotOdd m) ∷ roundOf m ∷ [])
+partsBy m kind.RoundLot = cond (eqb (length m) roundLength) (roundPartOf m ∷ []) (oddPartOf m (roundLotOdd m) ∷ roundPartOf m ∷ [])
 partsBy m kind.OddLot = oddPartOf m (oddLotOdd m) ∷ []
-partsBy m kind.Maker = message.makerOf m ∷ []
+partsBy m kind.Maker = makerPartOf m ∷ []
 partsBy m kind.Unknown = []
 
 unfoldable pub parts : List (List ℕ) → List Part
@@ -73,19 +75,15 @@ standingQuote m c (some q) = cond (emptyQuote q) none (some (record { name = m; 
 unfoldable pub makerOf : List Part → ℕ → ℕ → Option Maker
 makerOf h s m = standingQuote m (conditionOf h s m) (lastOf h s m)
 
-abbrev pub elem : ℕ → List ℕ → Bool
-elem n [] = false
-elem n (x ∷ xs) = cond (eqb x n) true (elem n xs)
-
-abbrev pub insert : ℕ → List ℕ → List ℕ
-insert n xs = cond (elem n xs) xs (n ∷ xs)
+abbrev pub withName : ℕ → List ℕ → List ℕ
+withName n xs = cond (member xs n) xs (n ∷ xs)
 
 -- the names of the makers that the history has for the symbol, each once
 unfoldable pub namesOf : List Part → ℕ → List ℕ
 namesOf [] s = []
 namesOf (roundPart t k q ∷ h) s = namesOf h s
 namesOf (oddPart t k o ∷ h) s = namesOf h s
-namesOf (makerPart t k q ∷ h) s = cond (eqb t s) (insert k (namesOf h s)) (namesOf h s)
+namesOf (makerPart t k q ∷ h) s = cond (eqb t s) (withName k (namesOf h s)) (namesOf h s)
 namesOf (finraPart c ∷ h) s = namesOf h s
 
 unfoldable pub makersOf : List Part → ℕ → List Maker
@@ -124,7 +122,7 @@ codeR ls letter m h = codeOf (knownTo ls (parts h) (symbolOf m)) letter m
 
 -- "one with code 0 is appended, and of a Q K with 60 to 64 the round part (to byte 55)"
 abbrev pub kept : ℕ → List ℕ → List (List ℕ) → List (List ℕ)
-kept c m h = cond (eqb c 0) (m ∷ h) (cond (partlyTaken c m) (firstOf 56 m ∷ h) h)
+kept c m h = cond (eqb c 0) (m ∷ h) (cond (partlyTaken c m) (prefix roundLength m ∷ h) h)
 
 abbrev pub messageR : List Listed → ℕ → List ℕ → List (List ℕ) → List (List ℕ)
 messageR ls letter m h = kept (codeR ls letter m h) m h

@@ -5,13 +5,14 @@ ghost use mathlib.Core.Path.{_≡_};
 ghost use lib.ListN.{length};
 ghost use Rattle.tape.specs.Setup.{setupLength};
 ghost use Rattle.tape.specs.Held.{Held, Buffers};
+ghost use Rattle.opening.specs.Layout.{bookLength};
 
 mod input;
 mod output;
 
-use book::Book;
 use input::Tape;
 use libc::STDOUT_FILENO;
+use opening::Book;
 
 /// Why the reading stopped.
 pub enum Stop {
@@ -63,7 +64,7 @@ fn play(memory: &mut [u8], input: &mut [u8], out: &mut [u8]) -> usize
 
 // A tape behind its count of symbols, on the memory of their book.
 fn play_book(book: &mut [u8], n: usize, input: &mut [u8], out: &mut [u8], tape: Tape) -> usize
-    requires { ⌜ (n ≤ 8) × (length (now book) ≡ 847 + n * 6054) ⌝ }
+    requires { ⌜ (n ≤ 8) × (length (now book) ≡ bookLength n) ⌝ }
     requires { ⌜ Buffers (now input) (now out) ⌝ }
     requires { ⌜ Held tape ⌝ }
     ensures { λ r. ⌜ r ≤ 65536 ⌝ }
@@ -87,7 +88,7 @@ fn set_up(book: &mut [u8], n: usize, input: &mut [u8], out: &[u8], tape: Tape) -
 
 // What is printed last: each symbol, or why the reading stopped.
 fn finish(book: &[u8], n: usize, out: &mut [u8], last: Step) -> usize
-    requires { ⌜ (n ≤ 8) × (length (now book) ≡ 847 + n * 6054) ⌝ }
+    requires { ⌜ (n ≤ 8) × (length (now book) ≡ bookLength n) ⌝ }
     requires { ⌜ (length (now out) ≡ 65536) × Held (last .tape) ⌝ }
     ensures { λ r. ⌜ r ≤ 65536 ⌝ }
 {
@@ -294,7 +295,7 @@ fn take_block(book: &mut [u8], input: &[u8], out: &mut [u8], tape: Tape, len: us
 
 // Each symbol in the order added, with its six entries. A page begins with its symbol.
 fn put_symbols(book: &[u8], n: usize, out: &mut [u8], filled: usize) -> usize
-    requires { ⌜ (n ≤ 8) × (length (now book) ≡ 847 + n * 6054) ⌝ }
+    requires { ⌜ (n ≤ 8) × (length (now book) ≡ bookLength n) ⌝ }
     requires { ⌜ (length (now out) ≡ 65536) × (filled ≤ 65536) ⌝ }
     ensures { λ r. ⌜ r ≤ 65536 ⌝ }
 {

@@ -2,9 +2,11 @@
 ghost use Prim.Native.Nat.{_≤_};
 ghost use mathlib.Core.Path.{_≡_};
 ghost use lib.ListN.{length};
+ghost use Rattle.entries.specs.Publication.{publicationLength};
+ghost use Rattle.block.specs.Block.{answerLength};
 use book::Report;
-use entries::Entry;
 use libc::STDOUT_FILENO;
+use publication::Entry;
 
 // One byte more. A full buffer is written first.
 fn put(out: &mut [u8], filled: usize, b: u8) -> usize
@@ -86,7 +88,7 @@ fn put_three(out: &mut [u8], filled: usize, a: u64, b: u64, c: u64) -> usize
 
 // A block's line, number, gap and expected, and of a taken block each message's index, code and flags.
 pub fn put_block(out: &mut [u8], filled: usize, line: u8, report: Report, answer: &[u8]) -> usize
-    requires { ⌜ (length (now out) ≡ 65536) × ((filled ≤ 65536) × (length (now answer) ≡ 180)) ⌝ }
+    requires { ⌜ (length (now out) ≡ 65536) × ((filled ≤ 65536) × (length (now answer) ≡ answerLength)) ⌝ }
     ensures { λ r. ⌜ r ≤ 65536 ⌝ }
 {
     let word = put_text(out, filled, b"block");
@@ -114,7 +116,7 @@ fn messages(report: Report) -> usize
 
 fn put_messages(out: &mut [u8], filled: usize, count: usize, answer: &[u8]) -> usize
     requires { ⌜ (length (now out) ≡ 65536) × (filled ≤ 65536) ⌝ }
-    requires { ⌜ (count ≤ 45) × (length (now answer) ≡ 180) ⌝ }
+    requires { ⌜ (count ≤ 45) × (length (now answer) ≡ answerLength) ⌝ }
     ensures { λ r. ⌜ r ≤ 65536 ⌝ }
 {
     let mut at = filled;
@@ -138,7 +140,7 @@ fn put_message(out: &mut [u8], filled: usize, four: &[u8]) -> usize
 
 // A symbol and its six entries.
 pub fn put_symbol(out: &mut [u8], filled: usize, name: &[u8], publication: &[u8]) -> usize
-    requires { ⌜ (length (now out) ≡ 65536) × ((filled ≤ 65536) × (length (now publication) ≡ 96)) ⌝ }
+    requires { ⌜ (length (now out) ≡ 65536) × ((filled ≤ 65536) × (length (now publication) ≡ publicationLength)) ⌝ }
     ensures { λ r. ⌜ r ≤ 65536 ⌝ }
 {
     let at = put_heading(out, filled, name);

@@ -5,13 +5,13 @@ use borrow.Author.Tests.{lt-leb, le-leb}
 use borrow.Author.Needs.{needs}
 use Rattle.lists.specs.Lists.{all}
 use Rattle.lists.proofs.Searches.{all-start, all-fails, all-again, all-end}
-use Rattle.block.specs.Block.{countIn, quoteAt, controlAmong}
+use Rattle.block.specs.Block.{countIn, noControlAt, controlAmong}
 use Rattle.block.proofs.StartLaws.{message-inside, control-here, control-not}
 use Rattle.block.proofs.is_control_among.Statement.{statement}
 use Rattle.block.proofs.is_control_among.Tie as tie
 
 abbrev Inv-loop : tie.InvT-loop
-Inv-loop block c i₀ i = (i ≤ c) × (all (quoteAt block) i (c - i) ≡ all (quoteAt block) 0 c)
+Inv-loop block c i₀ i = (i ≤ c) × (all (noControlAt block) i (c - i) ≡ all (noControlAt block) 0 c)
 
 abbrev μ-loop : tie.MeasureT-loop
 μ-loop block c i₀ i = c - i
@@ -39,7 +39,7 @@ returns-2 c =
     rw (
       ← q .pre .0 .counted,
       le-leb _ _ (c .before .before .before .before .before .if1 .left),
-      ← all-fails (quoteAt (q .args .block .now)) (q .args .c) _ (i .i) l (i .inv .1)
+      ← all-fails (noControlAt (q .args .block .now)) (q .args .c) _ (i .i) l (i .inv .1)
           (control-here _ (q .pre .1) (i .i) _ n (c .before .before .start .ensures .0) _ (c .before .get8 .ensures) (c .if2 .taken)),
     )
 
@@ -54,7 +54,7 @@ loop-again c =
 returns-3 : tie.Need-returns-3 Inv-loop μ-loop
 unfolding controlAmong
 returns-3 c =
-    rw (← c .before .before .before .before .pre .0 .counted, le-leb _ _ (c .before .before .if1 .left), ← all-end (quoteAt (c .before .before .before .before .args .block .now)) (c .before .before .before .before .args .c) _ _ (c .loop-test .left) (c .before .loop .inv .1))
+    rw (← c .before .before .before .before .pre .0 .counted, le-leb _ _ (c .before .before .if1 .left), ← all-end (noControlAt (c .before .before .before .before .args .block .now)) (c .before .before .before .before .args .c) _ _ (c .loop-test .left) (c .before .loop .inv .1))
 
 pub is-control-among-spec : {M : Type 1} → statement M
 is-control-among-spec =

@@ -1,6 +1,6 @@
 use mathlib.Core.Path.{refl, sym, _∙_}
 use native.Mathlib.Omega.{arith}
-use Rattle.book.specs.Opening.{countOf}
+use Rattle.opening.specs.Opening.{countOf}
 use Rattle.book.proofs.CallLaws.{turned-down, carried-out, add-small, Addable, add-passed, add-after}
 use borrow.Author.Needs.{needs}
 use Rattle.book.proofs.add_symbol.Statement.{statement}

@@ -4,13 +4,14 @@ use mathlib.Core.Path.{_≡_, refl, _∙_}
 use native.Mathlib.Omega.{arith}
 use lib.ListN.{length}
 use Rattle.field.specs.Field.{Bytes, part, splice}
-use Rattle.book.proofs.WriteLaws.{copy-start, copy-again, copy-end}
+use Rattle.opening.proofs.WriteLaws.{copy-start, copy-again, copy-end}
 use borrow.Author.Needs.{needs}
 use Rattle.book.proofs.copy.Statement.{statement}
 use Rattle.book.proofs.copy.Tie as tie
+use Rattle.entries.specs.Publication.{publicationLength}
 
 abbrev Inv-loop : tie.InvT-loop
-Inv-loop book at publication₀ i₀ publication i = (i ≤ 12) × ((length publication ≡ length publication₀) × (splice publication (8 * i) (part book (at + 8 * i) (96 - 8 * i)) ≡ splice publication₀ 0 (part book at 96)))
+Inv-loop book at publication₀ i₀ publication i = (i ≤ 12) × ((length publication ≡ length publication₀) × (splice publication (8 * i) (part book (at + 8 * i) (publicationLength - 8 * i)) ≡ splice publication₀ 0 (part book at publicationLength)))
 
 abbrev μ-loop : tie.MeasureT-loop
 μ-loop book at publication₀ i₀ publication i = 12 - i

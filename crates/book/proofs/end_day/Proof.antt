@@ -1,48 +1,24 @@
-use mathlib.Core.Path.{_≡_, refl, sym, _∙_}
-use mathlib.Core.Bool.{true}
+-- `book::end_day` meets its contract.
+use mathlib.Core.Path.{refl, sym, _∙_}
 use native.Mathlib.Omega.{arith}
-use Rattle.book.specs.Opening.{sound}
-use Rattle.book.specs.Call.{done}
-use Rattle.book.proofs.ReadLaws.{opening-room}
-use Rattle.book.proofs.CallLaws.{refused, carried-out, number-unsound, end-open, end-closed, end-after}
+use Rattle.opening.proofs.ReadLaws.{opening-room}
+use Rattle.book.proofs.CallLaws.{turned-down, carried-out, day-passed, end-judged, end-small, end-after}
 use borrow.Author.Needs.{needs}
 use Rattle.book.proofs.end_day.Statement.{statement}
 use Rattle.book.proofs.end_day.Tie as tie
 
-sound-is : (c : tie.Then1) → sound (c .before .before .before .before .args .book .now) ≡ true
-sound-is c = sym (c .before .is-sound .ensures) ∙ c .if1 .taken
-
-get8-requires : tie.Need-get8-requires
-get8-requires c κs = omega (arith, opening-room _ (sound-is (c .before)))
+returns : tie.Need-returns
+returns c = turned-down _ _ refl _ (end-small _) (c .before .judge-day .ensures ∙ end-judged _) (c .if1 .taken)
 
 put8-requires : tie.Need-put8-requires
-put8-requires c κs = omega (arith, opening-room _ (sound-is (c .before .before .before .before)))
-
-returns : tie.Need-returns
-returns c =
-    let d = c .before .before .before .before .before in
-    carried-out _ _ refl _ (end-open _ (sound-is (d .before .before)) _ (d .get8 .ensures) (omega arith)) (end-after _ _ (c .before .before .put8 .ensures))
+put8-requires c κs =
+    let k = c .before in
+    omega (arith, opening-room _ (day-passed _ _ _ _ (k .before .judge-day .ensures) (k .if1 .left) (λ z. omega arith)))
 
 returns-2 : tie.Need-returns-2
-unfolding done
 returns-2 c =
-    let d = c .before in
-    refused _ _ refl _ (end-closed _ (sound-is (d .before .before)) _ (d .get8 .ensures) (λ q. omega arith)) refl
-
-returns-3 : tie.Need-returns-3
-unfolding done
-returns-3 c = refused _ _ refl _ (number-unsound _ _ refl (sym (c .before .is-sound .ensures) ∙ c .if1 .left)) refl
+    let k = c .before .before .before .before in
+    carried-out _ _ refl _ (sym (k .if1 .left) ∙ k .before .judge-day .ensures ∙ end-judged _) (end-after _ _ (c .before .before .put8 .ensures))
 
 pub end-day-spec : {M : Type 1} → statement M
-end-day-spec =
-    tie.close
-    (tie.spec
-    (λ c κs. search needs)
-    get8-requires
-    put8-requires
-    (λ c. search needs)
-    returns
-    (λ c. search needs)
-    returns-2
-    (λ c. search needs)
-    returns-3)
+end-day-spec = tie.close (tie.spec (λ c κs. search needs) (λ c. search needs) returns put8-requires (λ c. search needs) returns-2)

@@ -1,12 +1,12 @@
 use mathlib.Core.Path.{_≡_, refl, sym, _∙_}
 use mathlib.Core.Bool.{true}
 use native.Mathlib.Omega.{arith}
-use Rattle.message.specs.Form.{symbolGood}
+use Rattle.text.specs.Form.{symbolGood}
 use Rattle.lists.specs.Lists.{member}
-use Rattle.book.specs.Opening.{sound}
+use Rattle.opening.specs.Opening.{sound}
 use Rattle.book.specs.Call.{lots}
 use Rattle.book.proofs.NumberLaws.{symbol-eleven}
-use Rattle.book.proofs.ReadLaws.{opening-room}
+use Rattle.opening.proofs.ReadLaws.{opening-room}
 use Rattle.book.proofs.CallLaws.{number-unsound, add-symbol, add-lot, add-listed, add-new, add-full}
 use borrow.Author.Needs.{needs}
 use Rattle.book.proofs.judge_symbol.Statement.{statement}

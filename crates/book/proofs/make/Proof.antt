@@ -1,6 +1,6 @@
 use mathlib.Core.Path.{refl}
-use Rattle.book.specs.Call.{done}
-use Rattle.book.proofs.WriteLaws.{made-is}
+use Rattle.line.specs.Line.{done}
+use Rattle.opening.proofs.WriteLaws.{made-is}
 use Rattle.book.proofs.CallLaws.{refused, carried-out, make-none, make-many, make-length, make-zero, make-after}
 use borrow.Author.Needs.{needs}
 use Rattle.book.proofs.make.Statement.{statement}

@@ -1,17 +1,19 @@
-use Prim.Native.Nat.{_+_, _*_, _≤_, _<_}
+use Prim.Native.Nat.{_+_, _≤_, _<_}
 use lib.ListN.{length}
 use mathlib.Core.Path.{_≡_, refl, sym, _∙_}
 use mathlib.Core.Bool.{true}
 use native.Mathlib.Omega.{arith}
-use Rattle.message.specs.Form.{symbolGood}
-use Rattle.book.specs.Opening.{sound}
-use Rattle.book.specs.Call.{done}
+use Rattle.text.specs.Form.{symbolGood}
+use Rattle.opening.specs.Opening.{sound}
+use Rattle.line.specs.Line.{done}
 use Rattle.book.proofs.NumberLaws.{symbol-eleven}
-use Rattle.book.proofs.ReadLaws.{found-room}
+use Rattle.opening.proofs.ReadLaws.{found-room}
 use Rattle.book.proofs.CallLaws.{number-unsound, read-short, read-bad, read-unlisted, read-refused, read-done}
 use borrow.Author.Needs.{needs}
 use Rattle.book.proofs.read.Statement.{statement}
 use Rattle.book.proofs.read.Tie as tie
+use Rattle.page.specs.Layout.{pageLength}
+use Rattle.opening.specs.Layout.{pageStart, symbolsMost}
 
 sound-is : (c : tie.Then1) → sound (c .before .before .before .before .before .args .book .now) ≡ true
 sound-is c = sym (c .before .is-sound .ensures) ∙ c .if1 .taken
@@ -33,7 +35,7 @@ returns-2 c =
     let h = g .before .before in
     read-refused _ _ _ _ (read-unlisted _ _ _ (sound-is (h .before)) (h .if2 .left) (good-is g) _ (c .before .before .find .ensures) (c .enum-told .given .1)) refl
 
-room : (c : tie.After-known-told) → (847 + c .before .place .given .0 .0 * 6054 + 6054 ≤ length (c .before .before .before .before .before .before .before .before .before .before .before .before .args .book .now)) × (c .before .place .given .0 .0 < 64)
+room : (c : tie.After-known-told) → (pageStart (c .before .place .given .0 .0) + pageLength ≤ length (c .before .before .before .before .before .before .before .before .before .before .before .before .args .book .now)) × (c .before .place .given .0 .0 < symbolsMost)
 room c =
     let f = c .before .before .before in
     found-room _ _ _ _ (sound-is (f .before .before .before .before)) (f .find .ensures) (c .before .place .given .1)

@@ -1,6 +1,6 @@
 use mathlib.Core.Path.{sym, _∙_}
 use native.Mathlib.Omega.{arith}
-use Rattle.book.proofs.OpeningLaws.{sound-of}
+use Rattle.opening.proofs.OpeningLaws.{sound-of}
 use Rattle.book.proofs.TakenLaws.{entered, taken-by, taken-run}
 use borrow.Author.Needs.{needs}
 use Rattle.book.proofs.take_block.Statement.{statement}

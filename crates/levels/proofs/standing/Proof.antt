@@ -1,5 +1,5 @@
 use borrow.Author.Tests.{eq-eqb, ne-eqb}
-use Rattle.levels.specs.Cells.{standing}
+use Rattle.levels.specs.code.Cells.{standing}
 use Rattle.levels.proofs.standing.Statement.{statement}
 use Rattle.levels.proofs.standing.Tie as tie
 

@@ -1,5 +1,5 @@
 use mathlib.Core.Path.{sym, _∙_}
-use Rattle.levels.specs.Cells.{standingBehind}
+use Rattle.levels.specs.code.Cells.{standingBehind}
 use Rattle.levels.proofs.CellLaws.{when-true, when-false}
 use borrow.Author.Needs.{needs}
 use Rattle.levels.proofs.standing_behind.Statement.{statement}

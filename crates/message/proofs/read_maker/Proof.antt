@@ -2,8 +2,8 @@ use mathlib.Core.Path.{_≡_, sym, _∙_}
 use mathlib.Core.Bool.{cond}
 use borrow.Author.Tests.{eq-eqb, ne-eqb}
 use Rattle.field.specs.Field.{part}
-use Rattle.message.specs.Form.{makerGood}
-use Rattle.message.specs.Message.{readMaker, checkedSymbol, quoteAt, makerName, quoteFault, makerConditions}
+use Rattle.text.specs.Form.{makerGood}
+use Rattle.message.specs.Message.{readMaker, checkedSymbol, quoteAt, makerName, quoteFault, makerConditions, makerText}
 use Rattle.message.specs.declared.Message.the-variants as says
 use borrow.Author.Needs.{needs}
 use Rattle.message.proofs.read_maker.Statement.{statement}
@@ -25,7 +25,7 @@ returns-3 c = let z = c .before in rw (eq-eqb _ _ (z .before .before .if1 .left)
 formed : (c : tie.Else3) → let a = c .before .before .before .before .before .args in
     readMaker (a .letter) (a .msg .now)
     ≡ checkedSymbol (a .msg .now)
-    (says.Maker (quoteFault makerConditions (quoteAt (a .msg .now)) (cond (makerGood (part (a .msg .now) 56 4)) 0 48)) (makerName (a .msg .now)) (quoteAt (a .msg .now)))
+    (says.Maker (quoteFault makerConditions (quoteAt (a .msg .now)) (cond (makerGood (makerText (a .msg .now))) 0 48)) (makerName (a .msg .now)) (quoteAt (a .msg .now)))
 unfolding readMaker
 formed c = let z = c .before in rw (eq-eqb _ _ (z .before .before .if1 .left), ← z .before .byte .ensures, eq-eqb _ _ (z .if2 .left), eq-eqb _ _ (c .if3 .left))
 

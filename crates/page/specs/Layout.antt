@@ -1,0 +1,90 @@
+-- A symbol's page: its head, the six entries, a slot for each letter A to Z, the makers' cells. Every place and length of it is named here.
+-- Assumes nothing.
+use Prim.Native.Nat.{ℕ, _+_, _*_, _-_}
+use mathlib.Core.List.{List}
+use Rattle.field.specs.Field.{part, field}
+use Rattle.field.specs.Ascii.{A}
+use Rattle.ranking.specs.declared.Side.{Side}
+use Rattle.ranking.specs.declared.Side.the-variants.{Bid, Offer}
+use Rattle.text.specs.Form.{symbolLength, nameLength}
+use Rattle.quote.specs.Quote.{bidAt, offerAt, quoteLength}
+use Rattle.levels.specs.Levels.{sideLength, levelsLength}
+use Rattle.entries.specs.Publication.{entryLength, publicationLength}
+
+-- ---- a slot: the letter's quote, then its levels
+
+abbrev pub slotLength : ℕ
+slotLength = quoteLength + levelsLength
+
+abbrev pub letterCount : ℕ
+letterCount = 26
+
+-- ---- a cell: the maker's name, then its quote
+
+abbrev pub cellLength : ℕ
+cellLength = nameLength + quoteLength
+
+abbrev pub makerCount : ℕ
+makerCount = 16
+
+-- ---- the page
+
+-- the symbol stands first, the round lot behind it
+abbrev pub symbolAt : ℕ
+symbolAt = 0
+
+abbrev pub lotAt : ℕ
+lotAt = symbolAt + symbolLength
+
+abbrev pub headLength : ℕ
+headLength = lotAt + 1
+
+abbrev pub entriesAt : ℕ
+entriesAt = headLength
+
+abbrev pub slotsAt : ℕ
+slotsAt = entriesAt + publicationLength
+
+abbrev pub cellsAt : ℕ
+cellsAt = slotsAt + letterCount * slotLength
+
+abbrev pub pageLength : ℕ
+pageLength = cellsAt + makerCount * cellLength
+
+-- from the slots to the end: zeros on a page without quotes
+abbrev pub quotesLength : ℕ
+quotesLength = pageLength - slotsAt
+
+-- where entry k starts
+abbrev pub entryAt : ℕ → ℕ
+entryAt k = entriesAt + entryLength * k
+
+-- where the slot of a letter starts
+abbrev pub slotAt : ℕ → ℕ
+slotAt l = slotsAt + (l - A) * slotLength
+
+-- where maker cell k starts
+abbrev pub cellAt : ℕ → ℕ
+cellAt k = cellsAt + k * cellLength
+
+-- where a side's level stands in a quote, and its first level among the levels of a letter
+abbrev pub inQuote : Side → ℕ
+inQuote Bid = bidAt
+inQuote Offer = offerAt
+
+abbrev pub inLevels : Side → ℕ
+inLevels Bid = 0
+inLevels Offer = sideLength
+
+-- ---- what a page says without its quotes
+
+-- the symbol, as one number
+abbrev pub pageSymbol : List ℕ → ℕ
+pageSymbol p = field p symbolAt symbolLength
+
+abbrev pub pageLot : List ℕ → ℕ
+pageLot p = field p lotAt 1
+
+-- the entries as they stand
+abbrev pub keptEntries : List ℕ → List ℕ
+keptEntries p = part p entriesAt publicationLength

@@ -1,0 +1,21 @@
+-- `publication::national_entry` meets its contract.
+use borrow.Author.Needs.{needs}
+use Rattle.publication.proofs.PublicationLaws.{named-as, national-name}
+use Rattle.entries.specs.Publication.{nationalName}
+use Rattle.publication.proofs.national_entry.Statement.{statement}
+use Rattle.publication.proofs.national_entry.Tie as tie
+
+returns : tie.Need-returns
+returns c = named-as _ _ nationalName _ (national-name _ _ (search needs)) (c .named .ensures)
+
+pub national-entry-spec : {M : Type 1} → statement M
+national-entry-spec =
+    tie.close
+    (tie.spec
+    (λ c. search needs)
+    (λ c. search needs)
+    (λ c. search needs)
+    (λ c. search needs)
+    (λ c. search needs)
+    (λ c κs. search needs)
+    returns)

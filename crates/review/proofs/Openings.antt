@@ -1,0 +1,83 @@
+-- Number 1, "every other call: the opening or length isn't a book's": it goes before every other check of the six calls, by each of mark, n, count,
+-- day flag and offset whatever bytes stand behind them, and by the length. A sound opening passes.
+-- Assumes nothing.
+use Prim.Native.Nat.{ℕ}
+use mathlib.Core.Path.{_≡_, refl}
+use mathlib.Core.List.{List, [], _∷_, _++_, map}
+use lib.ListN.{replicate}
+use Rattle.field.specs.Field.{beBytes}
+use Rattle.field.specs.Field as Field
+use Rattle.lists.specs.Lists as Lists
+use Rattle.text.specs.Form as Form
+use Rattle.opening.specs.Layout.{mark}
+use Rattle.opening.specs.Opening as Opening
+use Rattle.work.specs.Work as Work
+use Rattle.book.specs.Call.{add, openLine, startDay, endDay, take, read, call}
+use Rattle.book.specs.Call as Call
+
+-- a mark, n, the count of symbols, the day flag, the offset of the first page; then any bytes
+abbrev book : List ℕ → ℕ → ℕ → ℕ → ℕ → List ℕ → List ℕ
+book m n count day offset rest = m ++ (n ∷ count ∷ day ∷ (beBytes 4 offset ++ rest))
+
+-- the numbers of the six calls, with arguments that their next check refuses
+unfoldable pub asked : List ℕ → List ℕ
+unfolding Field.be Field.beBytes Field.part Field.field Lists.sameList Form.symbolGood Opening.symbolsOf Opening.countOf Opening.sound Opening.restIn Work.listedOf Call.numberOf Call.answerOf Call.numberOn Call.call
+asked b = map (λ c. call b c .answer .number) (add [] 0 ∷ openLine 64 0 ∷ startDay ∷ endDay ∷ take 64 [] 0 ∷ read [] 0 ∷ [])
+
+abbrev noBook : List ℕ → Type 0
+noBook b = asked b ≡ 1 ∷ 1 ∷ 1 ∷ 1 ∷ 1 ∷ 1 ∷ []
+
+-- QUOTEBK2, and RUOTEBK1
+pub the-last-byte-of-the-mark : (rest : List ℕ) → noBook (book (81 ∷ 85 ∷ 79 ∷ 84 ∷ 69 ∷ 66 ∷ 75 ∷ 50 ∷ []) 1 0 0 847 rest)
+unfolding asked
+the-last-byte-of-the-mark rest = refl
+
+pub the-first-byte-of-the-mark : (rest : List ℕ) → noBook (book (82 ∷ 85 ∷ 79 ∷ 84 ∷ 69 ∷ 66 ∷ 75 ∷ 49 ∷ []) 1 0 0 847 rest)
+unfolding asked
+the-first-byte-of-the-mark rest = refl
+
+-- n 0 and 65
+pub no-symbols : (rest : List ℕ) → noBook (book mark 0 0 0 847 rest)
+unfolding asked
+no-symbols rest = refl
+
+pub symbols-65 : (rest : List ℕ) → noBook (book mark 65 0 0 847 rest)
+unfolding asked
+symbols-65 rest = refl
+
+-- a count above n
+pub count-above-n : (rest : List ℕ) → noBook (book mark 1 2 0 847 rest)
+unfolding asked
+count-above-n rest = refl
+
+-- a day flag of 2
+pub day-flag-2 : (rest : List ℕ) → noBook (book mark 1 0 2 847 rest)
+unfolding asked
+day-flag-2 rest = refl
+
+-- an offset of 846 and of 848
+pub offset-846 : (rest : List ℕ) → noBook (book mark 1 0 0 846 rest)
+unfolding asked
+offset-846 rest = refl
+
+pub offset-848 : (rest : List ℕ) → noBook (book mark 1 0 0 848 rest)
+unfolding asked
+offset-848 rest = refl
+
+-- a byte too few, a byte too many
+pub a-byte-too-few : noBook (book mark 1 0 0 847 (replicate 6885 0))
+unfolding asked
+a-byte-too-few = refl
+
+pub a-byte-too-many : noBook (book mark 1 0 0 847 (replicate 6887 0))
+unfolding asked
+a-byte-too-many = refl
+
+-- a book of one symbol: 3, 7, Start and End by the day, 9; none listed, the day closed; then one listed, the day open
+pub sound-closed : asked (book mark 1 0 0 847 (replicate 6886 0)) ≡ 3 ∷ 7 ∷ 0 ∷ 12 ∷ 9 ∷ 9 ∷ []
+unfolding asked
+sound-closed = refl
+
+pub sound-full-open : asked (book mark 1 1 1 847 (replicate 6886 0)) ≡ 3 ∷ 7 ∷ 11 ∷ 0 ∷ 9 ∷ 9 ∷ []
+unfolding asked
+sound-full-open = refl

@@ -1,0 +1,121 @@
+-- A blank page and an emptied one: a symbol with no quotes, no makers, no levels and six entries of none.
+-- Assumes nothing.
+use Prim.Native.Nat.{ℕ, _+_, _-_, _≤_}
+use mathlib.Core.Path.{_≡_, refl, sym, ap, _∙_}
+use mathlib.Core.List.{List, _++_}
+use mathlib.Core.Option.{none}
+use native.Mathlib.Omega.{arith}
+use lib.ListN.{length, take, drop, replicate, length-append, length-replicate, length-drop}
+use lib.Seq.{take-append-le, drop-append-le, drop-append-add, take-length}
+use Rattle.field.specs.Field.{Bytes, be, part, field}
+use Rattle.field.proofs.Laws.{length-part, bytes-append, bytes-part, part-part, field-part-0, field-part}
+use Rattle.field.proofs.ZeroLaws.{part-zeros, bytes-zeros}
+use Rattle.lists.specs.Lists.{every}
+use Rattle.quote.specs.Quote.{noQuote}
+use Rattle.levels.specs.Levels.{noLevels}
+use Rattle.entries.specs.Entries.{entriesOf}
+use Rattle.entries.specs.Publication.{noEntry, noEntries, publication, publicationLength}
+use Rattle.page.specs.Page.{occupied}
+use Rattle.page.proofs.BlankLaws.{blank-quotes, blank-makers, blank-levels}
+use Rattle.entries.proofs.NoneLaws.{none-published, none-entries}
+use Rattle.update.specs.Parts.{readingOf, blankPage, emptied}
+use Rattle.update.proofs.Model.{worked, blankReading, blanked}
+use Rattle.update.proofs.EntryLaws.{bytes-every, Kept}
+use Rattle.page.specs.Layout.{slotsAt, makerCount, quotesLength, pageLength, pageSymbol, pageLot, keptEntries, symbolAt, lotAt, headLength}
+use Rattle.text.specs.Form.{symbolLength}
+
+-- ---- parts of lists end to end
+
+pub part-front : (a x : List ℕ) (i w : ℕ) → i + w ≤ length a → part (a ++ x) i w ≡ part a i w
+unfolding part
+part-front a x i w h =
+    let c : w ≤ length (drop i a) = rw length-drop (omega arith) in
+    rw (drop-append-le i a x (omega arith), take-append-le w (drop i a) x c)
+
+pub part-after : (a x : List ℕ) (n i w : ℕ) → length a ≡ n → part (a ++ x) (n + i) w ≡ part x i w
+unfolding part
+part-after a x n i w e = ap (take w) (rw (sym e) (drop-append-add a x i))
+
+pub part-whole : (a : List ℕ) (n : ℕ) → length a ≡ n → part a 0 n ≡ a
+unfolding part
+part-whole a n e = rw (sym e) (take-length a)
+
+-- ---- six entries of none
+
+-- the entries of a symbol with nothing
+pub entries-none : noEntries ≡ publication (entriesOf (λ l. noQuote) (occupied (replicate makerCount none)) (λ l. noLevels))
+entries-none = sym (ap publication none-entries ∙ none-published)
+
+pub length-none : length noEntries ≡ publicationLength
+unfolding noEntries noEntry
+length-none = refl
+
+bytes-none : Bytes noEntries
+unfolding noEntries noEntry every
+bytes-none = bytes-every noEntries refl
+
+-- ---- a blank page: its head, six entries of none, then n zeros
+
+module _ (head : List ℕ) (twelve : length head ≡ headLength) (n : ℕ) (rest : n ≡ quotesLength) where
+  abbrev page : List ℕ
+  page = head ++ (noEntries ++ replicate n 0)
+
+  zero-at : (at w : ℕ) → slotsAt ≤ at → at + w ≤ pageLength → part page at w ≡ replicate w 0
+  zero-at at w h k =
+      let e : at ≡ headLength + (publicationLength + (at - slotsAt)) = omega arith in
+      ap (λ (i : ℕ). part page i w) e ∙ part-after head (noEntries ++ replicate n 0) headLength (publicationLength + (at - slotsAt)) w twelve
+      ∙ part-after noEntries (replicate n 0) publicationLength (at - slotsAt) w length-none ∙ part-zeros n (at - slotsAt) w (omega arith)
+
+  entries-at : keptEntries page ≡ noEntries
+  entries-at =
+      part-after head (noEntries ++ replicate n 0) headLength 0 publicationLength twelve ∙ part-front noEntries (replicate n 0) 0 publicationLength (omega (arith, length-none)) ∙ part-whole noEntries publicationLength length-none
+
+  page-reads : readingOf page ≡ blankReading (pageSymbol head) (pageLot head)
+  unfolding readingOf blankReading worked field
+  page-reads =
+      let s : be (part page symbolAt symbolLength) ≡ be (part head symbolAt symbolLength) = ap be (part-front head (noEntries ++ replicate n 0) symbolAt symbolLength (omega arith)) in
+      let t : be (part page lotAt 1) ≡ be (part head lotAt 1) = ap be (part-front head (noEntries ++ replicate n 0) lotAt 1 (omega arith)) in
+      let e : keptEntries page ≡ publication (entriesOf (λ l. noQuote) (occupied (replicate makerCount none)) (λ l. noLevels)) = entries-at ∙ entries-none in
+      λ i. record { symbol = s i; lot = t i; quotes = blank-quotes page zero-at i; cells = blank-makers page zero-at i; levels = blank-levels page zero-at i; entries = e i }
+
+  page-length : length page ≡ pageLength
+  page-length = simp (length-append, length-replicate) (omega (arith, length-none))
+
+module _ (head : List ℕ) where
+  pub length-blank : length head ≡ headLength → length (blankPage head) ≡ pageLength
+  unfolding blankPage
+  length-blank t = page-length head t quotesLength refl
+
+  pub bytes-blank : Bytes head → Bytes (blankPage head)
+  unfolding blankPage
+  bytes-blank b = bytes-append head (noEntries ++ replicate quotesLength 0) b (bytes-append noEntries (replicate quotesLength 0) bytes-none (bytes-zeros quotesLength))
+
+  -- a blank page is its symbol with nothing
+  pub blank-reads : length head ≡ headLength → readingOf (blankPage head) ≡ blankReading (pageSymbol head) (pageLot head)
+  unfolding blankPage
+  blank-reads t = page-reads head t quotesLength refl
+
+  blank-head : length head ≡ headLength → (at m : ℕ) → at + m ≤ headLength → part (blankPage head) at m ≡ part head at m
+  unfolding blankPage
+  blank-head t at m h = part-front head (noEntries ++ replicate quotesLength 0) at m (omega arith)
+
+-- ---- an emptied page
+
+module _ (p : List ℕ) (w : length p ≡ pageLength) where
+  twelve : length (part p 0 headLength) ≡ headLength
+  twelve = length-part p 0 headLength (omega arith)
+
+  pub emptied-kept : Kept p (emptied p)
+  unfolding emptied
+  emptied-kept =
+      record {
+        size = length-blank (part p 0 headLength) twelve;
+        head = λ at m h. blank-head (part p 0 headLength) twelve at m h ∙ part-part p 0 headLength at m h ∙ ap (λ (k : ℕ). part p k m) (omega arith);
+        bytes = λ b. bytes-blank (part p 0 headLength) (bytes-part p 0 headLength b);
+      }
+
+  pub emptied-reads : readingOf (emptied p) ≡ blanked (readingOf p)
+  unfolding emptied readingOf
+  emptied-reads =
+      blank-reads (part p 0 headLength) twelve
+      ∙ (λ i. blankReading (field-part-0 p 0 headLength symbolLength (omega arith) i) (field-part p 0 headLength 11 1 (omega arith) i))

@@ -1,0 +1,116 @@
+-- The regions of a page, what every change of a page keeps, and the reading of a page whose entries are worked out anew.
+-- Assumes nothing.
+use Prim.Native.Nat.{ℕ, zero, suc, _+_, _≤_, _<_}
+use mathlib.Core.Path.{_≡_, refl, ap, _∙_, fun-ext}
+use mathlib.Core.Bool.{Bool, true, false, cond}
+use mathlib.Core.List.{List, [], _∷_}
+use mathlib.Core.Option.{Option}
+use native.Mathlib.Omega.{arith}
+use lib.Dec.{ltb, lit<}
+use lib.ListN.{length}
+use borrow.Author.Tests.{ltb-true}
+use Rattle.field.specs.Field.{Bytes, be, part, field, splice}
+use Rattle.field.proofs.Laws.{bytes-splice, length-splice, part-put, part-before, field-before}
+use Rattle.lists.specs.Lists.{upper, every}
+use Rattle.lists.proofs.Ranges.{map-range}
+use Rattle.lists.proofs.Tests.{and-true}
+use Rattle.quote.specs.declared.Quote.{Quote}
+use Rattle.quote.specs.Quote.{noQuote, quoteIn, quoteLength}
+use Rattle.levels.specs.Levels.{Standing, noLevels, levelsIn, levelsLength}
+use Rattle.entries.specs.Entries.{Maker}
+use Rattle.entries.specs.Publication.{publication, publicationLength}
+use Rattle.page.specs.Page.{quotesIn, levelsFor, makerIn, makersIn, pageEntries, refreshed}
+use Rattle.entries.proofs.LengthLaws.{length-publication, bytes-publication}
+use Rattle.page.proofs.FrameLaws.{quotes-kept, makers-kept, levels-kept}
+use Rattle.update.specs.Parts.{Reading, readingOf}
+use Rattle.update.proofs.Model.{worked}
+use Rattle.page.specs.Layout.{entriesAt, cellLength, makerCount, pageLength, pageSymbol, pageLot, keptEntries, slotAt, cellAt, symbolAt, lotAt, headLength}
+use Rattle.text.specs.Form.{symbolLength}
+
+-- a list of bytes, by a test that computes
+pub bytes-every : (l : List ℕ) → every (λ x. ltb x 256) l ≡ true → Bytes l
+unfolding every
+bytes-every [] e i = lit< tt
+bytes-every (x ∷ l) e zero = ltb-true x 256 (and-true (ltb x 256) (every (λ x. ltb x 256) l) e .0)
+bytes-every (x ∷ l) e (suc i) = bytes-every l (and-true (ltb x 256) (every (λ x. ltb x 256) l) e .1) i
+
+-- ---- what a page's readings depend on
+
+module _ (p p′ : List ℕ) where
+  pub quotes-same : ((l : ℕ) → upper l ≡ true → part p′ (slotAt l) quoteLength ≡ part p (slotAt l) quoteLength) → quotesIn p′ ≡ quotesIn p
+  unfolding quotesIn
+  quotes-same h = fun-ext (λ l. go l (upper l) refl)
+    where
+      go : (l : ℕ) (t : Bool) → upper l ≡ t → cond t (quoteIn (part p′ (slotAt l) quoteLength)) noQuote ≡ cond t (quoteIn (part p (slotAt l) quoteLength)) noQuote
+      go l true e = ap quoteIn (h l e)
+      go l false e = refl
+
+  pub levels-same : ((l : ℕ) → upper l ≡ true → part p′ (slotAt l + quoteLength) levelsLength ≡ part p (slotAt l + quoteLength) levelsLength) → levelsFor p′ ≡ levelsFor p
+  unfolding levelsFor
+  levels-same h = fun-ext (λ l. go l (upper l) refl)
+    where
+      go : (l : ℕ) (t : Bool) → upper l ≡ t → cond t (levelsIn (part p′ (slotAt l + quoteLength) levelsLength)) noLevels ≡ cond t (levelsIn (part p (slotAt l + quoteLength) levelsLength)) noLevels
+      go l true e = ap levelsIn (h l e)
+      go l false e = refl
+
+  pub makers-same : ((k : ℕ) → k < makerCount → part p′ (cellAt k) cellLength ≡ part p (cellAt k) cellLength) → makersIn p′ ≡ makersIn p
+  unfolding makersIn
+  makers-same h = map-range (λ k. makerIn (part p (cellAt k) cellLength)) (λ k. makerIn (part p′ (cellAt k) cellLength)) makerCount 0 (λ j a b. ap makerIn (h j (omega arith)))
+
+-- ---- what every change of a page keeps
+
+-- its length, its symbol and round lot, and that it is bytes
+pub record Kept (p p′ : List ℕ) : Type 0 where
+  pub size : length p′ ≡ pageLength
+  pub head : (at m : ℕ) → at + m ≤ headLength → part p′ at m ≡ part p at m
+  pub bytes : Bytes p → Bytes p′
+
+pub kept-none : (p : List ℕ) → length p ≡ pageLength → Kept p p
+kept-none p w = record { size = w; head = λ at m h. refl; bytes = λ b. b }
+
+pub kept-then : (p q r : List ℕ) → Kept p q → Kept q r → Kept p r
+kept-then p q r x y = record { size = y .size; head = λ at m h. y .head at m h ∙ x .head at m h; bytes = λ b. y .bytes (x .bytes b) }
+
+pub kept-splice : (p : List ℕ) (a : ℕ) (new : List ℕ) → length p ≡ pageLength → headLength ≤ a → a + length new ≤ pageLength → Bytes new → Kept p (splice p a new)
+kept-splice p a new w lo hi b =
+    record {
+      size = length-splice p a new (omega arith) ∙ w;
+      head = λ at m h. part-before p a new at m (omega arith) (omega arith);
+      bytes = λ k. bytes-splice p a new k b;
+    }
+
+pub kept-symbol : (p p′ : List ℕ) → Kept p p′ → pageSymbol p′ ≡ pageSymbol p
+unfolding field
+kept-symbol p p′ k = ap be (k .head symbolAt symbolLength (omega arith))
+
+pub kept-lot : (p p′ : List ℕ) → Kept p p′ → pageLot p′ ≡ pageLot p
+unfolding field
+kept-lot p p′ k = ap be (k .head lotAt 1 (omega arith))
+
+pub refreshed-kept : (p : List ℕ) → length p ≡ pageLength → Kept p (refreshed p)
+unfolding refreshed
+refreshed-kept p w =
+    kept-splice p entriesAt (publication (pageEntries p)) w (omega arith) (omega (arith, length-publication (pageEntries p))) (bytes-publication (pageEntries p))
+
+-- ---- a reading with its entries worked out anew
+
+abbrev pub again : Reading → Reading
+again r = worked (r .symbol) (r .lot) (r .quotes) (r .cells) (r .levels)
+
+pub refreshed-reads : (p : List ℕ) → length p ≡ pageLength → readingOf (refreshed p) ≡ again (readingOf p)
+unfolding refreshed worked readingOf pageEntries
+refreshed-reads p w =
+    let E : List ℕ = publication (pageEntries p) in
+    let n : length E ≡ publicationLength = length-publication (pageEntries p) in
+    let h : entriesAt ≤ length p = omega arith in
+    let s : pageSymbol (splice p entriesAt E) ≡ pageSymbol p = field-before p entriesAt E symbolAt symbolLength h (omega arith) in
+    let t : pageLot (splice p entriesAt E) ≡ pageLot p = field-before p entriesAt E lotAt 1 h (omega arith) in
+    let e : keptEntries (splice p entriesAt E) ≡ E = part-put p entriesAt E publicationLength n h in
+    λ i. record { symbol = s i; lot = t i; quotes = quotes-kept p E n i; cells = makers-kept p E n i; levels = levels-kept p E n i; entries = e i }
+
+-- a changed page, refreshed: its quotes, cells and levels read apart
+pub reads-by : (p p′ : List ℕ) (quotes : ℕ → Quote) (cells : List (Option Maker)) (levels : ℕ → Standing) → Kept p p′
+    → quotesIn p′ ≡ quotes → makersIn p′ ≡ cells → levelsFor p′ ≡ levels
+    → readingOf (refreshed p′) ≡ worked (readingOf p .symbol) (readingOf p .lot) quotes cells levels
+unfolding readingOf
+reads-by p p′ quotes cells levels k q c v = refreshed-reads p′ (k .size) ∙ (λ i. worked (kept-symbol p p′ k i) (kept-lot p p′ k i) (q i) (c i) (v i))

@@ -1,0 +1,14 @@
+pub mod Model
+pub mod TableLaws
+pub mod SearchLaws
+pub mod EntryLaws
+pub mod CellLaws
+pub mod SlotLaws
+pub mod MakerLaws
+pub mod BlankLaws
+pub mod RefreshLaws
+pub mod SpokenLaws
+pub mod WorkLaws
+pub mod UpdateLaws
+pub mod StoreLaws
+pub mod EffectLaws

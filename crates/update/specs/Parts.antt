@@ -1,0 +1,100 @@
+-- What each part of a message does to a symbol's page (layout and reading: crate `page`): the page is written, then its six entries are worked
+-- out anew. So every accepted part leaves them as worked out from the page's quotes, whatever bytes stood there.
+-- Assumes nothing.
+use Prim.Native.Nat.{ℕ, _+_}
+use mathlib.Core.Bool.{true, false, cond}
+use mathlib.Core.List.{List, _++_}
+use mathlib.Core.Option.{Option, none, some}
+use lib.ListN.{length, replicate}
+use Rattle.field.specs.Field.{part, splice}
+use Rattle.lists.specs.Lists.{isSome, orElse}
+use Rattle.quote.specs.declared.Quote.{Quote}
+use Rattle.quote.specs.Quote.{quoteBytes, quoteLength}
+use Rattle.levels.specs.Levels.{Standing, noLevels, Odd, oddOn, idleOdd, levelsBytes}
+use Rattle.message.specs.Message.{Known}
+use Rattle.entries.specs.Entries.{Maker}
+use Rattle.entries.specs.Publication.{noEntries}
+use Rattle.page.specs.Page.{quotesIn, levelsFor, makersIn, occupied, refreshed}
+use Rattle.page.specs.Layout.{headLength, makerCount, quotesLength, pageSymbol, pageLot, keptEntries, slotAt}
+use Rattle.makers.specs.Makers.{findMaker, putMaker, markCells}
+
+-- ---- a page as what it says
+
+pub record Reading : Type 0 where
+  pub symbol : ℕ
+  pub lot : ℕ
+  pub quotes : ℕ → Quote
+  pub cells : List (Option Maker)
+  pub levels : ℕ → Standing
+  -- the bytes that a read copies
+  pub entries : List ℕ
+
+unfoldable pub readingOf : List ℕ → Reading
+readingOf p =
+    record {
+      symbol = pageSymbol p;
+      lot = pageLot p;
+      quotes = quotesIn p;
+      cells = makersIn p;
+      levels = levelsFor p;
+      entries = keptEntries p;
+    }
+
+-- ---- round part
+
+-- "An accepted Q K replaces its letter's quote"
+unfoldable pub putRound : ℕ → Quote → List ℕ → List ℕ
+putRound l q p = splice p (slotAt l) (quoteBytes q)
+
+unfoldable pub roundOn : ℕ → Quote → List ℕ → List ℕ
+roundOn l q p = refreshed (putRound l q p)
+
+-- ---- odd part
+
+-- the levels after it, all cells written anew; a refused part does nothing
+unfoldable pub putLevels : ℕ → Odd → List ℕ → List ℕ
+putLevels l o p = splice p (slotAt l + quoteLength) (levelsBytes (orElse (oddOn o (levelsFor p l)) (levelsFor p l)))
+
+-- an odd part of a space and no items asks for nothing: it leaves every byte of the levels, also of cells that no reading counts
+unfoldable pub putOdd : ℕ → Odd → List ℕ → List ℕ
+putOdd l o p = cond (idleOdd o) p (putLevels l o p)
+
+unfoldable pub oddOnPage : ℕ → Odd → List ℕ → List ℕ
+oddOnPage l o p = refreshed (putOdd l o p)
+
+-- ---- makers
+
+unfoldable pub makerOn : ℕ → Quote → List ℕ → List ℕ
+makerOn m q p = refreshed (putMaker m q p)
+
+-- ---- FINRA Close and Open
+
+-- "FINRA Close gives every standing maker quote condition L, FINRA Open gives R; times hold"
+unfoldable pub finraOn : ℕ → List ℕ → List ℕ
+finraOn c p = refreshed (markCells c 0 makerCount p)
+
+-- ---- a page with no quotes and six entries of none
+
+-- head: symbol and round lot
+unfoldable pub blankPage : List ℕ → List ℕ
+blankPage head = head ++ (noEntries ++ replicate quotesLength 0)
+
+-- "Start of Day empties all quotes, makers and levels, makes every entry none"
+unfoldable pub emptied : List ℕ → List ℕ
+emptied p = blankPage (part p 0 headLength)
+
+-- ---- what a page gives for the codes of a message that names its symbol
+
+unfoldable pub knownBy : Reading → Known
+knownBy r =
+    record {
+      listed = true;
+      lot = r .lot;
+      count = length (occupied (r .cells));
+      stands = λ m. isSome (findMaker m (r .cells));
+      levels = r .levels;
+    }
+
+unfoldable pub knownOf : Option Reading → Known
+knownOf none = record { listed = false; lot = 0; count = 0; stands = λ m. false; levels = λ l. noLevels }
+knownOf (some r) = knownBy r

@@ -1,0 +1,52 @@
+-- What each message that names a page's symbol does to that page: its code, its change flags and the page after it.
+-- Assumes nothing.
+use Prim.Native.Nat.{ℕ}
+use mathlib.Core.Bool.{cond}
+use mathlib.Core.List.{List}
+use lib.Dec.{eqb}
+use Rattle.quote.specs.declared.Quote.{Quote}
+use Rattle.levels.specs.Levels.{Odd, oddCode}
+use Rattle.message.specs.Message.{makerCode}
+use Rattle.entries.specs.Publication.{changeFlags}
+use Rattle.page.specs.Page.{levelsFor}
+use Rattle.update.specs.declared.Effect.{Effect}
+use Rattle.update.specs.Parts.{readingOf, knownBy, roundOn, putOdd, oddOnPage, makerOn}
+use Rattle.page.specs.Layout.{pageLot, keptEntries}
+
+pub record Updated : Type 0 where
+  pub effect : Effect
+  pub page : List ℕ
+
+-- a rejected message leaves the page alone
+abbrev pub rejected : ℕ → List ℕ → Updated
+rejected code p = record { effect = record { code = code; flags = 0 }; page = p }
+
+-- the page after, with the entries that changed
+unfoldable pub flagged : ℕ → List ℕ → List ℕ → Updated
+flagged code before after = record { effect = record { code = code; flags = changeFlags (keptEntries before) (keptEntries after) }; page = after }
+
+-- the code of an odd part on a letter's levels
+abbrev pub oddCodeOn : ℕ → Odd → List ℕ → ℕ
+oddCodeOn l o p = oddCode (pageLot p) (levelsFor p l) o
+
+-- the page with an odd part written: one with 60 to 64 leaves it
+abbrev pub oddTaken : ℕ → Odd → List ℕ → List ℕ
+oddTaken l o p = cond (eqb (oddCodeOn l o p) 0) (putOdd l o p) p
+
+-- Q K: a fault rejects it; with 60 to 64 the round part alone is in force
+unfoldable pub roundLotOn : ℕ → ℕ → Quote → Odd → List ℕ → Updated
+roundLotOn l fault q o p =
+    cond (eqb fault 0)
+    (flagged (oddCodeOn l o p) p (cond (eqb (oddCodeOn l o p) 0) (oddOnPage l o (roundOn l q p)) (roundOn l q p)))
+    (rejected fault p)
+
+-- Q M: with 60 to 64 rejected
+unfoldable pub oddLotOn : ℕ → Odd → List ℕ → Updated
+oddLotOn l o p = cond (eqb (oddCodeOn l o p) 0) (flagged 0 p (oddOnPage l o p)) (rejected (oddCodeOn l o p) p)
+
+-- Q U: a fault rejects it, then 49
+unfoldable pub makerQuoteOn : ℕ → ℕ → Quote → List ℕ → Updated
+makerQuoteOn fault m q p =
+    cond (eqb fault 0)
+    (cond (eqb (makerCode (knownBy (readingOf p)) m) 0) (flagged 0 p (makerOn m q p)) (rejected (makerCode (knownBy (readingOf p)) m) p))
+    (rejected fault p)

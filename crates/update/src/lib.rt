@@ -1,0 +1,195 @@
+// What a message does to the page of the symbol that it names.
+ghost use mathlib.Core.Path.{_≡_};
+ghost use mathlib.Core.Bool.{true};
+ghost use mathlib.Core.List.{[], _∷_, _++_};
+ghost use Prim.Native.Nat.{_+_, _-_, _≤_};
+ghost use lib.ListN.{length};
+ghost use Rattle.field.specs.Field.{field, part, splice};
+ghost use Rattle.lists.specs.Lists.{upper};
+ghost use Rattle.quote.specs.Quote.{quoteLength};
+ghost use Rattle.levels.specs.Levels.{idleOdd, levelsIn, sideLength, levelsLength};
+ghost use Rattle.levels.specs.code.Cells.{joinedLevels};
+ghost use Rattle.oddpart.specs.code.Part.{oddAnswer};
+ghost use Rattle.message.specs.Message.{oddWith, itemsLength};
+ghost use Rattle.entries.specs.Publication.{changeFlags};
+ghost use Rattle.page.specs.Page.{refreshed};
+ghost use Rattle.update.specs.Parts.{finraOn, blankPage, emptied};
+ghost use Rattle.update.specs.code.Update.{flagged, oddCodeOn, oddTaken, roundLotOn, oddLotOn, makerQuoteOn};
+ghost use Rattle.page.specs.Layout.{slotLength, pageLength, pageLot, keptEntries};
+ghost use Rattle.text.specs.Form.{symbolLength};
+use levels::Judged;
+use levels::Levels;
+use lists::Found;
+use message::OddPart;
+use oddpart::OddAnswer;
+use page::Cell;
+use page::Page;
+use page::Slot;
+use quote::Level;
+use quote::Quote;
+use ranking::Side;
+
+/// What a message gets: its code, and the flags of the entries that it changed.
+pub struct Effect {
+    pub code: u8,
+    pub flags: u8,
+}
+
+// ---- a page is written, then its entries are worked out
+
+// Works the entries out, and answers with a code.
+fn renewed(page: &mut [u8], code: u8) -> Effect
+    requires { ⌜ length (now page) ≡ pageLength ⌝ }
+    ensures { λ r. ⌜ record { effect = r; page = now (page .exit) } ≡ flagged code (now (page .entry)) (refreshed (now (page .entry))) ⌝ }
+{
+    let flags = publication::renew(page);
+    Effect { code, flags }
+}
+
+// What the odd part makes of the levels of the slot at `at`.
+fn judge_odd(page: &[u8], at: usize, odd: OddPart, items: &[u8]) -> OddAnswer
+    requires { ⌜ (length (now page) ≡ pageLength) × (at + slotLength ≤ pageLength) ⌝ }
+    requires { ⌜ length (now items) ≡ itemsLength odd ⌝ }
+    ensures { λ r. ⌜ r ≡ oddAnswer (pageLot (now (page .entry))) (levelsIn (part (now (page .entry)) (at + quoteLength) levelsLength)) (oddWith odd (now (items .entry))) ⌝ }
+{
+    let bids = Levels::read(page, at + Slot::LEVELS, Side::Bid);
+    let offers = Levels::read(page, at + Slot::LEVELS + Levels::LEN, Side::Offer);
+    let bid_cells = bids.cells;
+    let offer_cells = offers.cells;
+    let old = [bid_cells, offer_cells];
+    let lot = field::get8(page, Page::LOT) as u32;
+    oddpart::odd_part(odd.mark, odd.bids, odd.offers, lot, odd.time, items, old)
+}
+
+// Writes both sides' levels into the slot at `at`.
+fn put_levels(page: &mut [u8], at: usize, bids: Levels, offers: Levels)
+    requires { ⌜ (length (now page) ≡ pageLength) × (at + slotLength ≤ pageLength) ⌝ }
+    ensures { λ _. ⌜ now (page .exit) ≡ splice (splice (now (page .entry)) (at + quoteLength) (joinedLevels (bids .cells))) (at + quoteLength + sideLength) (joinedLevels (offers .cells)) ⌝ }
+{
+    bids.put(page, at + Slot::LEVELS);
+    offers.put(page, at + Slot::LEVELS + Levels::LEN);
+}
+
+// Whether an odd part asks for nothing. Most do, so this is asked before levels are read.
+fn is_idle(odd: OddPart, items: &[u8]) -> bool
+    requires { ⌜ length (now items) ≡ itemsLength odd ⌝ }
+    ensures { λ r. ⌜ r ≡ idleOdd (oddWith odd (now (items .entry))) ⌝ }
+{
+    if odd.mark == b' ' {
+        return items.len() == 0;
+    }
+    false
+}
+
+// An odd part on its letter's levels, and its code. An idle and a refused part leave the page alone.
+fn put_odd(page: &mut [u8], letter: u8, odd: OddPart, items: &[u8]) -> u8
+    requires { ⌜ (length (now page) ≡ pageLength) × (upper letter ≡ true) ⌝ }
+    requires { ⌜ length (now items) ≡ itemsLength odd ⌝ }
+    ensures { λ r. ⌜ (r ≡ oddCodeOn letter (oddWith odd (now (items .entry))) (now (page .entry))) × (now (page .exit) ≡ oddTaken letter (oddWith odd (now (items .entry))) (now (page .entry))) ⌝ }
+{
+    if is_idle(odd, items) {
+        return 0;
+    }
+    let at = page::slot_at(letter as usize);
+    let answer = judge_odd(page, at, odd, items);
+    let judged = answer.judged;
+    let Judged::Pass = judged else {
+        return levels::number(judged);
+    };
+    put_levels(page, at, answer.bids, answer.offers);
+    0
+}
+
+/// A Q K on the page of its symbol: its round part, then its odd part, whose items are lent. A refused odd part does nothing, and the round part stays.
+pub fn round_lot(
+    page: &mut [u8],
+    letter: u8,
+    fault: u8,
+    quote: Quote,
+    odd: OddPart,
+    items: &[u8],
+) -> Effect
+    requires { ⌜ (length (now page) ≡ pageLength) × (upper letter ≡ true) ⌝ }
+    requires { ⌜ length (now items) ≡ itemsLength odd ⌝ }
+    ensures { λ r. ⌜ record { effect = r; page = now (page .exit) } ≡ roundLotOn letter fault quote (oddWith odd (now (items .entry))) (now (page .entry)) ⌝ }
+{
+    if fault != 0 {
+        return Effect {
+            code: fault,
+            flags: 0,
+        };
+    }
+    quote.put(page, page::slot_at(letter as usize));
+    let code = put_odd(page, letter, odd, items);
+    renewed(page, code)
+}
+
+/// A Q M on the page of its symbol. A refused odd part does nothing.
+pub fn odd_lot(page: &mut [u8], letter: u8, odd: OddPart, items: &[u8]) -> Effect
+    requires { ⌜ (length (now page) ≡ pageLength) × (upper letter ≡ true) ⌝ }
+    requires { ⌜ length (now items) ≡ itemsLength odd ⌝ }
+    ensures { λ r. ⌜ record { effect = r; page = now (page .exit) } ≡ oddLotOn letter (oddWith odd (now (items .entry))) (now (page .entry)) ⌝ }
+{
+    let code = put_odd(page, letter, odd, items);
+    if code != 0 {
+        return Effect { code, flags: 0 };
+    }
+    renewed(page, 0)
+}
+
+/// A Q U on the page of its symbol.
+pub fn maker_quote(page: &mut [u8], fault: u8, name: u32, quote: Quote) -> Effect
+    requires { ⌜ length (now page) ≡ pageLength ⌝ }
+    ensures { λ r. ⌜ record { effect = r; page = now (page .exit) } ≡ makerQuoteOn fault name quote (now (page .entry)) ⌝ }
+{
+    if fault != 0 {
+        return Effect {
+            code: fault,
+            flags: 0,
+        };
+    }
+    let known = makers::maker_place(page, name);
+    if let Found::At(k) = known {
+        makers::put_cell(page, k, name, quote);
+        return renewed(page, 0);
+    }
+    let free = makers::free_place(page);
+    let Found::At(k) = free else {
+        return Effect { code: 49, flags: 0 };
+    };
+    if makers::is_empty(quote) {
+        return renewed(page, 0);
+    }
+    makers::put_cell(page, k, name, quote);
+    renewed(page, 0)
+}
+
+/// FINRA Close (L) or Open (R) on one page: every standing maker quote gets the condition. Gives the flags of the entries that changed.
+pub fn finra(page: &mut [u8], condition: u8) -> u8
+    requires { ⌜ length (now page) ≡ pageLength ⌝ }
+    ensures { λ r. ⌜ (r ≡ changeFlags (keptEntries (now (page .entry))) (keptEntries (finraOn condition (now (page .entry))))) × (now (page .exit) ≡ finraOn condition (now (page .entry))) ⌝ }
+{
+    makers::mark_cells(page, condition);
+    publication::renew(page)
+}
+
+/// Empties a page: no quotes and six entries of none. Symbol and round lot stay.
+pub fn empty(page: &mut [u8])
+    requires { ⌜ length (now page) ≡ pageLength ⌝ }
+    ensures { λ _. ⌜ now (page .exit) ≡ emptied (now (page .entry)) ⌝ }
+{
+    publication::put_none(page);
+    makers::clear(page, Page::SLOTS, Page::LEN);
+}
+
+/// Lists a symbol on a page: its 11 bytes and its round lot, no quotes and six entries of none.
+pub fn list(page: &mut [u8], symbol: &[u8], lot: u8)
+    requires { ⌜ (length (now page) ≡ pageLength) × (length (now symbol) ≡ symbolLength) ⌝ }
+    ensures { λ _. ⌜ now (page .exit) ≡ blankPage (now (symbol .entry) ++ (lot ∷ [])) ⌝ }
+{
+    field::put64(page, Page::SYMBOL, field::get64(symbol, 0));
+    field::put16(page, Page::SYMBOL + 8, field::get16(symbol, 8));
+    field::put8(page, Page::SYMBOL + 10, field::get8(symbol, 10));
+    field::put8(page, Page::LOT, lot);
+    empty(page);
+}

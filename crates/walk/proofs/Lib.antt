@@ -1,0 +1,4 @@
+pub mod OddLaws
+pub mod ReadLaws
+pub mod StepLaws
+pub mod WalkLaws

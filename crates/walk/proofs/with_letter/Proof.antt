@@ -1,0 +1,16 @@
+-- `walk::with_letter` meets its contract.
+use Rattle.walk.proofs.StepLaws.{letter-none, letter-read}
+use borrow.Author.Needs.{needs}
+use Rattle.walk.proofs.with_letter.Statement.{statement}
+use Rattle.walk.proofs.with_letter.Tie as tie
+
+returns : tie.Need-returns
+returns c = letter-none _ _ _ _ (c .if1 .taken)
+
+returns-2 : tie.Need-returns-2
+returns-2 c = letter-read _ _ _ _ _ _ _ (c .before .before .with-national .ensures) (c .before .with-first .ensures) (c .with-first2 .ensures)
+
+pub with-letter-spec : {M : Type 1} → statement M
+with-letter-spec =
+    tie.close
+    (tie.spec returns (λ c κs. search needs) (λ c κs. search needs) (λ c κs. search needs) returns-2)

@@ -1,0 +1,240 @@
+// The six best entries of a page, on one way down it.
+ghost use mathlib.Core.Path.{_≡_};
+ghost use Prim.Native.Nat.{_+_, _-_, _≤_, _<_};
+ghost use lib.ListN.{length};
+ghost use Rattle.field.specs.Field.{part};
+ghost use Rattle.field.specs.Ascii as ascii;
+ghost use Rattle.ranking.specs.Held.{orNone, noSides};
+ghost use Rattle.ranking.specs.code.Choice.{choose, stepSides, sidesFrom};
+ghost use Rattle.quote.specs.Quote.{levelIn, quoteIn, levelCandidate, candidateOf, quoteLength, levelLength};
+ghost use Rattle.entries.specs.Entries.{asD};
+ghost use Rattle.page.specs.Page.{pageEntries};
+ghost use Rattle.page.specs.Cut.{cut};
+ghost use Rattle.walk.specs.Bests.{bestsOf};
+ghost use Rattle.walk.specs.code.Walk.{asked, makerAt, finraSides, quotedAt, withD, nationalAt, firstAt, noTops, stepTops, topsFrom};
+ghost use Rattle.page.specs.Layout.{pageLength, makerCount};
+use page::Cell;
+use page::Letter;
+use page::Page;
+use page::Slot;
+use ranking::Candidate;
+use ranking::Side;
+use ranking::Sides;
+
+/// The best of the letters so far: their quotes and their odd-lot levels.
+pub struct Tops {
+    pub national: Sides,
+    pub odd: Sides,
+}
+
+/// The six best entries of a symbol; price 0 is none.
+pub struct BestEntries {
+    pub national: Sides,
+    pub finra: Sides,
+    pub odd: Sides,
+}
+
+// The better of the best so far and the level at `at`. The price is read first: most levels go no further.
+fn with_level(
+    page: &[u8],
+    at: usize,
+    side: Side,
+    name: u32,
+    condition: u8,
+    best: Candidate,
+) -> Candidate
+    requires { ⌜ at + levelLength ≤ length (now page) ⌝ }
+    ensures { λ r. ⌜ r ≡ choose side best (levelCandidate name condition (levelIn (part (now (page .entry)) at levelLength))) ⌝ }
+{
+    // price 8, size 4, time 8
+    let price = field::low64(page, at);
+    if ranking::is_behind(side, price, best) {
+        return best;
+    }
+    let size = field::low32(page, at + 8);
+    let time = field::low64(page, at + 12);
+    ranking::choose(
+        side,
+        best,
+        Candidate {
+            name,
+            price,
+            size,
+            time,
+            condition,
+        },
+    )
+}
+
+// The better of the best so far and a side of the quote at `at`, if that side counts. The price is looked at before the condition.
+fn with_quote(page: &[u8], at: usize, side: Side, name: u32, best: Candidate) -> Candidate
+    requires { ⌜ at + quoteLength ≤ length (now page) ⌝ }
+    ensures { λ r. ⌜ r ≡ choose side best (orNone (candidateOf side name (quoteIn (part (now (page .entry)) at quoteLength)))) ⌝ }
+{
+    let level = at + page::in_quote(side);
+    if ranking::is_behind(side, field::low64(page, level), best) {
+        return best;
+    }
+    let condition = field::get8(page, at);
+    if quote::admits(side, condition) {
+        return with_level(page, level, side, name, condition, best);
+    }
+    best
+}
+
+// One maker cell more, both sides. Of the conditions of makers only R counts.
+fn with_maker(page: &[u8], k: usize, best: Sides) -> Sides
+    requires { ⌜ length (now page) ≡ pageLength ⌝ }
+    requires { ⌜ k < makerCount ⌝ }
+    ensures { λ r. ⌜ r ≡ stepSides (asked (makerAt (now (page .entry)))) k best ⌝ }
+{
+    let at = page::cell_at(k);
+    let quote = at + Cell::QUOTE;
+    if field::get8(page, quote) == b'R' {
+        let name = field::get32(page, at);
+        let bid = with_quote(page, quote, Side::Bid, name, best.bid);
+        let offer = with_quote(page, quote, Side::Offer, name, best.offer);
+        return Sides { bid, offer };
+    }
+    best
+}
+
+// The best of the makers, both sides.
+fn walk_makers(page: &[u8]) -> Sides
+    requires { ⌜ length (now page) ≡ pageLength ⌝ }
+    ensures { λ r. ⌜ r ≡ sidesFrom (asked (makerAt (now (page .entry)))) 0 makerCount noSides ⌝ }
+{
+    let mut best = Sides::NONE;
+    for k in 0..Page::MAKERS {
+        best = with_maker(page, k, best);
+    }
+    best
+}
+
+// The FINRA best of a walk that stops behind the letter `last`: none if D is behind it.
+fn walk_finra(page: &[u8], last: usize) -> Sides
+    requires { ⌜ length (now page) ≡ pageLength ⌝ }
+    requires { ⌜ (ascii.A ≤ last) × (last ≤ ascii.Z) ⌝ }
+    ensures { λ r. ⌜ r ≡ finraSides (cut last (now (page .entry))) ⌝ }
+{
+    if last < Letter::D {
+        return Sides::NONE;
+    }
+    walk_makers(page)
+}
+
+// D's candidate: its FINRA best, under the letter D.
+fn as_d(c: Candidate) -> Candidate
+    ensures { λ r. ⌜ r ≡ asD c ⌝ }
+{
+    Candidate {
+        name: Letter::D as u32,
+        price: c.price,
+        size: c.size,
+        time: c.time,
+        condition: c.condition,
+    }
+}
+
+// D more, by its FINRA best.
+fn with_d(finra: Sides, best: Sides) -> Sides
+    ensures { λ r. ⌜ r ≡ withD finra best ⌝ }
+{
+    let bid = ranking::choose(Side::Bid, best.bid, as_d(finra.bid));
+    let offer = ranking::choose(Side::Offer, best.offer, as_d(finra.offer));
+    Sides { bid, offer }
+}
+
+// The quote in a letter's slot more, both sides.
+fn with_slot(page: &[u8], letter: usize, best: Sides) -> Sides
+    requires { ⌜ length (now page) ≡ pageLength ⌝ }
+    requires { ⌜ (ascii.A ≤ letter) × (letter ≤ ascii.Z) ⌝ }
+    ensures { λ r. ⌜ r ≡ stepSides (asked (quotedAt (now (page .entry)))) letter best ⌝ }
+{
+    let at = page::slot_at(letter);
+    let bid = with_quote(page, at, Side::Bid, letter as u32, best.bid);
+    let offer = with_quote(page, at, Side::Offer, letter as u32, best.offer);
+    Sides { bid, offer }
+}
+
+// One national candidate more: D stands with its FINRA best, any letter but D and S with its quote.
+fn with_national(page: &[u8], letter: usize, finra: Sides, best: Sides) -> Sides
+    requires { ⌜ length (now page) ≡ pageLength ⌝ }
+    requires { ⌜ ((ascii.A ≤ letter) × (letter ≤ ascii.Z)) × (letter ≡ ascii.S → ⊥) ⌝ }
+    ensures { λ r. ⌜ r ≡ stepSides (asked (nationalAt (now (page .entry)) finra)) letter best ⌝ }
+{
+    if letter == Letter::D {
+        return with_d(finra, best);
+    }
+    with_slot(page, letter, best)
+}
+
+// A side of one letter's odd-lot levels more. They are read best first, so the first one is enough.
+fn with_first(page: &[u8], letter: usize, side: Side, best: Candidate) -> Candidate
+    requires { ⌜ length (now page) ≡ pageLength ⌝ }
+    requires { ⌜ ((ascii.A ≤ letter) × (letter ≤ ascii.Z)) × (letter ≡ ascii.S → ⊥) ⌝ }
+    ensures { λ r. ⌜ r ≡ choose side best (orNone (firstAt (now (page .entry)) side letter)) ⌝ }
+{
+    let at = page::slot_at(letter) + Slot::LEVELS + page::in_levels(side);
+    with_level(page, at, side, letter as u32, b' ', best)
+}
+
+// One letter more: its quote and its levels, both sides. S, the processor, has neither.
+fn with_letter(page: &[u8], letter: usize, finra: Sides, tops: Tops) -> Tops
+    requires { ⌜ length (now page) ≡ pageLength ⌝ }
+    requires { ⌜ (ascii.A ≤ letter) × (letter ≤ ascii.Z) ⌝ }
+    ensures { λ r. ⌜ r ≡ stepTops (now (page .entry)) finra letter tops ⌝ }
+{
+    if letter == Letter::S {
+        return tops;
+    }
+    let national = with_national(page, letter, finra, tops.national);
+    let odd_bid = with_first(page, letter, Side::Bid, tops.odd.bid);
+    let odd_offer = with_first(page, letter, Side::Offer, tops.odd.offer);
+    Tops {
+        national,
+        odd: Sides {
+            bid: odd_bid,
+            offer: odd_offer,
+        },
+    }
+}
+
+// The best of the letters A to `last`, in order.
+fn walk_letters(page: &[u8], last: usize, finra: Sides) -> Tops
+    requires { ⌜ length (now page) ≡ pageLength ⌝ }
+    requires { ⌜ (ascii.A ≤ last) × (last ≤ ascii.Z) ⌝ }
+    ensures { λ r. ⌜ r ≡ topsFrom (now (page .entry)) finra ascii.A (last + 1 - ascii.A) noTops ⌝ }
+{
+    let mut tops = Tops {
+        national: Sides::NONE,
+        odd: Sides::NONE,
+    };
+    for letter in Letter::A..last + 1 {
+        tops = with_letter(page, letter, finra, tops);
+    }
+    tops
+}
+
+/// The six best entries of a page whose letters behind `last` are taken to hold nothing, on one way down it: letters in order, both sides together.
+/// Behind Z stands no letter, so that is the whole page.
+pub fn walk_page(page: &[u8], last: usize) -> BestEntries
+    requires { ⌜ length (now page) ≡ pageLength ⌝ }
+    requires { ⌜ (ascii.A ≤ last) × (last ≤ ascii.Z) ⌝ }
+    ensures { λ r. ⌜ r ≡ bestsOf (pageEntries (cut last (now (page .entry)))) ⌝ }
+{
+    let finra = walk_finra(page, last);
+    let tops = walk_letters(page, last, finra);
+    let national = tops.national;
+    // The best level is beyond the national best if any level is, so one test at the end is enough.
+    let odd_bid = ranking::beyond(Side::Bid, tops.national.bid, tops.odd.bid);
+    let odd_offer = ranking::beyond(Side::Offer, tops.national.offer, tops.odd.offer);
+    BestEntries {
+        national,
+        finra,
+        odd: Sides {
+            bid: odd_bid,
+            offer: odd_offer,
+        },
+    }
+}
