@@ -43,6 +43,17 @@ fn p2_earlier_time_wins() {
 }
 
 #[test]
+fn a_larger_size_wins_before_an_earlier_time() {
+    each_desk(|desk| {
+        let mut n = round(N, (TEN, 3), NOTHING);
+        n.time = 6;
+        desk.code(N, quote(&n));
+        desk.code(P, quote(&round(P, (TEN, 5), NOTHING)));
+        assert_eq!(desk.national_bid(), entry("PR", TEN, 5));
+    });
+}
+
+#[test]
 fn p3_lowest_letter_wins() {
     each_desk(|desk| {
         desk.code(P, quote(&round(P, (TEN, 3), NOTHING)));
