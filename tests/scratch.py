@@ -4,6 +4,8 @@ import os, re, shutil, subprocess
 ROOT = os.path.dirname(os.path.dirname(os.path.abspath(__file__)))
 # rows and what they are written with. They are antt, under another ending: rt admits no .antt file outside a crate
 ROWS = os.path.join(ROOT, "tests", "rows")
+# what the prover says of a row that is false
+FALSE = r"((as printed|computed as far as they go), the two types|this `_▹_` lands at index|expected type `)"
 
 
 def crates(last):
@@ -40,8 +42,8 @@ def types(text):
 
 
 def made(top, crate):
-    """Definitions and declared types of a crate and of those that it uses, at this place, and nothing else. Gives their names."""
-    shutil.rmtree(os.path.join(top, "crates"), ignore_errors=True)
+    """Definitions and declared types of a crate and of those that it uses, at this place, and nothing of an earlier run. Gives their names."""
+    shutil.rmtree(top, ignore_errors=True)
     os.makedirs(os.path.join(top, "crates"))
     shutil.copy(os.path.join(ROOT, "crates.txt"), top)
     names = crates(crate)

@@ -10,8 +10,7 @@ use lib.Dec.{eqb, ltb, lit≤}
 use lib.ListN.{length, length-append}
 use borrow.Author.Tests.{lt-ltb, le-ltb, lt-leb, le-leb, eq-eqb, ne-eqb}
 use borrow.Rule.Slice.PartMut.{putMid}
-use Rattle.field.specs.Field.{be, part, field, splice, beBytes}
-use Rattle.field.proofs.Laws.{part-part}
+use Rattle.field.specs.Field.{be, field, splice, beBytes}
 use Rattle.lists.specs.Lists.{member, isSome}
 use Rattle.lists.specs.declared.Found.{Found}
 use Rattle.lists.specs.declared.Found.the-variants.{At, Nothing}
@@ -24,25 +23,18 @@ use Rattle.update.proofs.BlankLaws.{length-blank}
 use Rattle.opening.specs.declared.Line.{Line}
 use Rattle.opening.specs.declared.LineState.{LineState}
 use Rattle.opening.specs.declared.LineState.the-variants.{Open, Closed}
-use Rattle.opening.specs.Opening.{symbolsOf, countOf, sound, lineBytes, linesIn, restIn, pageAt, pagesIn, pagePlace, eachPage, freshBytes, restartLines, opened}
+use Rattle.opening.specs.Opening.{symbolsOf, countOf, sound, lineBytes, linesIn, restIn, pagesIn, pagePlace, eachPage, freshBytes, restartLines, opened}
 use Rattle.line.specs.Line.{done}
-use Rattle.book.specs.Call.{Call, make, add, openLine, startDay, endDay, read, lots, numberOf, bare, published, answerOf, publishedOn, afterCall, makeGood, isMake, numberOn, answerOn, call}
+use Rattle.calls.specs.Call.{Call, make, add, openLine, startDay, endDay, read, lots, numberOf, bare, answerOf, afterCall, makeGood, numberOn, answerOn, call}
 use Rattle.work.specs.Work.{isListed, listedOf}
-use Rattle.book.specs.Call as calls
-use Rattle.book.specs.Buffers.{readOut}
+use Rattle.calls.specs.Call as calls
 use Rattle.book.specs.code.Day.{dayNumber}
 use Rattle.opening.proofs.OpeningLaws.{Sound, sound-of}
-use Rattle.book.proofs.NumberLaws.{listed-length, page-free, AddDone, add-done, open-done, lot-fits, symbol-eleven}
+use Rattle.calls.proofs.NumberLaws.{number-sound, listed-length, page-free, AddDone, add-done, open-done, lot-fits, symbol-eleven}
 use Rattle.work.proofs.PlaceLaws.{listed-at}
-use Rattle.book.proofs.HeldLaws.{published-at}
 use Rattle.opening.proofs.WriteLaws.{page-back}
-use Rattle.entries.specs.Publication.{publicationLength}
-use Rattle.page.specs.Layout.{entriesAt, pageLength}
+use Rattle.page.specs.Layout.{pageLength}
 use Rattle.opening.specs.Layout.{nAt, countAt, dayAt, openingLength, bookLength, lineCount, pageStart, lineAt, symbolsMost}
-
-splice-none : (p : List ℕ) → splice p 0 [] ≡ p
-unfolding splice
-splice-none p = refl
 
 -- ---- the calls that answer with their number alone
 
@@ -88,20 +80,6 @@ module _ (b : List ℕ) where
     pub carried-out : (b′ : List ℕ) → 0 ≡ numberOn b c → b′ ≡ afterCall b c → record { bytes = b′; answer = bare 0 } ≡ call b c
     unfolding call done
     carried-out b′ e a = rw (bare-answer c plain, ← e, a)
-
-  -- ---- 1
-
-  pub number-unsound : (c : Call) → isMake c ≡ false → sound b ≡ false → 1 ≡ numberOn b c
-  unfolding numberOn
-  number-unsound c m e = rw (m, e)
-
-  number-sound : (c : Call) → isMake c ≡ false → 0 ≡ numberOn b c → sound b ≡ true
-  unfolding numberOn
-  number-sound c m e = go (sound b) refl
-    where
-      go : (t : Bool) → sound b ≡ t → t ≡ true
-      go true s = refl
-      go false s = let z : _≡_ {A = ℕ} 0 1 = e ∙ rw (m, s) in absurd (omega arith)
 
   -- ---- make
 
@@ -222,7 +200,7 @@ module _ (b : List ℕ) where
     unfolding numberOn done
     open-passed k e z =
         let n : 0 ≡ numberOn b (openLine i l) = sym z ∙ e in
-        let s : sound b ≡ true = number-sound (openLine i l) refl n in
+        let s : sound b ≡ true = number-sound b (openLine i l) refl n in
         let m : numberOf (restIn b) (listedOf (pagesIn b)) (openLine i l) ≡ 0 = sym (rw s at n) in
         (omega (arith, sound-of b s .size), open-done (restIn b) (listedOf (pagesIn b)) i l (ap done m) .0)
 
@@ -279,7 +257,7 @@ module _ (b : List ℕ) where
     unfolding numberOn done
     add-passed n e z =
         let o : 0 ≡ numberOn b (add x k) = sym z ∙ e in
-        let s : sound b ≡ true = number-sound (add x k) refl o in
+        let s : sound b ≡ true = number-sound b (add x k) refl o in
         let m : numberOf (restIn b) (listedOf (pagesIn b)) (add x k) ≡ 0 = sym (rw s at o) in
         let a : AddDone (restIn b) (listedOf (pagesIn b)) x k = add-done (restIn b) (listedOf (pagesIn b)) x k (ap done m) in
         let sd : Sound (symbolsOf b) b = sound-of b s in
@@ -297,51 +275,3 @@ module _ (b : List ℕ) where
     add-after b1 p c l ce e f =
         let w : length p ≡ pageLength = ap length f ∙ length-blank (x ++ (k ∷ [])) (length-append x (k ∷ []) ∙ ap (λ (n : ℕ). n + 1) l) in
         page-back b1 c p w ∙ rw (e, f, ce)
-
-  -- ---- a publication read
-
-  module _ (x : List ℕ) (room : ℕ) where
-    read-number : sound b ≡ true → numberOn b (read x room) ≡ cond (ltb room publicationLength) 9 (cond (symbolGood x && isAt (pagePlace b (be x))) 0 10)
-    unfolding numberOn numberOf
-    read-number s = rw (s, listed-at b (be x))
-
-    pub read-short : sound b ≡ true → room < publicationLength → 9 ≡ numberOn b (read x room)
-    read-short s h = sym (read-number s ∙ rw (lt-ltb room publicationLength h))
-
-    module _ (s : sound b ≡ true) (h : publicationLength ≤ room) where
-      pub read-bad : symbolGood x ≡ false → 10 ≡ numberOn b (read x room)
-      read-bad g = sym (read-number s ∙ rw (le-ltb room publicationLength h, g))
-
-      module _ (g : symbolGood x ≡ true) (r : Found) (e : r ≡ pagePlace b (be x)) where
-        pub read-unlisted : r ≡ Nothing → 10 ≡ numberOn b (read x room)
-        read-unlisted f = sym (read-number s ∙ rw (le-ltb room publicationLength h, g, ← e, f))
-
-        read-listed : (k : ℕ) → r ≡ At k → 0 ≡ numberOn b (read x room)
-        read-listed k f = sym (read-number s ∙ rw (le-ltb room publicationLength h, g, ← e, f))
-
-  module _ (x p : List ℕ) where
-    abbrev asked : Call
-    asked = read x (length p)
-
-    read-answer : answerOn b asked ≡ published (numberOn b asked) (publishedOn b (be x))
-    unfolding numberOn answerOf done
-    read-answer = go (sound b) (numberOf (restIn b) (listedOf (pagesIn b)) asked)
-      where
-        go : (t : Bool) (n : ℕ) → cond t (published (cond t n 1) (publishedOn b (be x))) (bare 1) ≡ published (cond t n 1) (publishedOn b (be x))
-        go true n = refl
-        go false n = refl
-
-    read-out : (n : ℕ) → n ≡ numberOn b asked → readOut b x p ≡ record { number = n; publication = splice p 0 (cond (done n) (publishedOn b (be x)) []) }
-    unfolding readOut call
-    read-out n e = rw (read-answer, ← e)
-
-    -- a refused read fills no byte
-    pub read-refused : (n : ℕ) → n ≡ numberOn b asked → done n ≡ false → record { number = n; publication = p } ≡ readOut b x p
-    read-refused n e d = sym (read-out n e ∙ rw (d, splice-none p))
-
-    pub read-done : (p′ : List ℕ) (k : ℕ) (r : Found) → sound b ≡ true → publicationLength ≤ length p → symbolGood x ≡ true → r ≡ pagePlace b (be x) → r ≡ At k → p′ ≡ splice p 0 (part b (pageStart k + entriesAt) publicationLength)
-        → record { number = 0; publication = p′ } ≡ readOut b x p
-    unfolding done pageAt
-    read-done p′ k r s h g e f pe =
-        let q : publishedOn b (be x) ≡ part b (pageStart k + entriesAt) publicationLength = published-at b (be x) k (sym e ∙ f) ∙ part-part b (pageStart k) pageLength entriesAt publicationLength (omega arith) in
-        sym (read-out 0 (read-listed x (length p) s h g r e k f) ∙ rw (q, pe))

@@ -1,5 +1,1 @@
-pub mod NumberLaws
-pub mod SoundLaws
 pub mod CallLaws
-pub mod TakenLaws
-pub mod HeldLaws

@@ -1,30 +1,12 @@
-// The seven calls on a book of lent bytes.
+// The calls that make a book and set it up: its symbols, its lines, its day.
 ghost use mathlib.Core.Path.{_≡_};
-ghost use Prim.Native.Nat.{_+_, _≤_};
-ghost use lib.ListN.{length};
-ghost use Rattle.field.specs.Field.{part, splice};
 ghost use Rattle.lists.specs.Lists.{member};
-ghost use Rattle.book.specs.Call.{bare, numberOn, lots, call, make, add, openLine, startDay, endDay};
-ghost use Rattle.book.specs.Buffers.{taken, readOut};
+ghost use Rattle.calls.specs.Call.{bare, numberOn, lots, call, make, add, openLine, startDay, endDay};
 ghost use Rattle.book.specs.code.Day.{dayNumber};
-ghost use Rattle.entries.specs.Publication.{publicationLength};
-use line::Gate;
 use lists::Found;
 use opening::Book;
 use opening::Line;
 use opening::LineState;
-use page::Page;
-
-/// What the block call reports. The number is 0 or 70 for a taken block, else the refusal.
-pub struct Report {
-    pub number: u8,
-    pub gap: u32,
-    pub expected: u32,
-    pub count: u64,
-    pub accepted: u8,
-    pub partly: u8,
-    pub rejected: u8,
-}
 
 /// Makes the lent memory a book for n symbols: no symbols, no lines, a closed day. Whatever it held is overwritten.
 pub fn make(book: &mut [u8], n: u32) -> u8
@@ -175,81 +157,4 @@ pub fn end_day(book: &mut [u8]) -> u8
     }
     field::put8(book, Book::DAY, 0);
     0
-}
-
-/// Takes a block on a line. Of a taken block, the answer buffer's four bytes at 4i hold i, the code, the change flags and 0 for message i.
-pub fn take_block(book: &mut [u8], line: u32, block: &[u8], answer: &mut [u8]) -> Report
-    ensures { λ r. ⌜ record { bytes = now (book .exit); report = r; answer = now (answer .exit) } ≡ taken (now (book .entry)) line (now (block .entry)) (now (answer .entry)) ⌝ }
-{
-    let gate = line::judge(book, line, block, answer.len());
-    match gate {
-        Gate::Bare(number) => Report {
-            number,
-            gap: 0,
-            expected: 0,
-            count: 0,
-            accepted: 0,
-            partly: 0,
-            rejected: 0,
-        },
-        Gate::Refused(number, old) => Report {
-            number,
-            gap: 0,
-            expected: old.expected,
-            count: old.count,
-            accepted: 0,
-            partly: 0,
-            rejected: 0,
-        },
-        Gate::Taken {
-            number,
-            gap,
-            count,
-            next,
-        } => {
-            let tally = work::run(book, next.letter, block, count, answer);
-            opening::put_line(book, line, next);
-            Report {
-                number,
-                gap,
-                expected: next.expected,
-                count: next.count,
-                accepted: tally.accepted,
-                partly: tally.partly,
-                rejected: tally.rejected,
-            }
-        }
-    }
-}
-
-/// Reads a symbol's publication into the first 96 bytes of the buffer.
-pub fn read(book: &[u8], symbol: &[u8], publication: &mut [u8]) -> u8
-    ensures { λ r. ⌜ record { number = r; publication = now (publication .exit) } ≡ readOut (now (book .entry)) (now (symbol .entry)) (now (publication .entry)) ⌝ }
-{
-    if opening::is_sound(book) {
-        if publication.len() < Book::PUBLICATION_LEN {
-            return 9;
-        }
-        if text::is_symbol(symbol) {
-            let place = opening::find(book, symbol);
-            let Found::At(k) = place else {
-                return 10;
-            };
-            let at = Book::OPENING_LEN + k * Book::PAGE_LEN + Page::ENTRIES;
-            copy(book, at, publication);
-            return 0;
-        }
-        return 10;
-    }
-    1
-}
-
-// Copies 96 bytes from `at`.
-fn copy(book: &[u8], at: usize, publication: &mut [u8])
-    requires { ⌜ (at + publicationLength ≤ length (now book)) × (publicationLength ≤ length (now publication)) ⌝ }
-    ensures { λ _. ⌜ now (publication .exit) ≡ splice (now (publication .entry)) 0 (part (now (book .entry)) at publicationLength) ⌝ }
-{
-    for i in 0..12 {
-        field::put64(publication, 8 * i, field::get64(book, at + 8 * i));
-    }
 }

@@ -4,7 +4,7 @@ use Prim.Native.Nat.{ℕ, _≤_, _<_}
 use mathlib.Core.Path.{_≡_, ap}
 use mathlib.Core.List.{List}
 use borrow.Author.Tests.{le-leb, lt-leb}
-use Rattle.book.specs.Buffers.{TakenBlock, taken}
+use Rattle.calls.specs.Buffers.{TakenBlock, taken}
 use Rattle.quotebook.specs.Interface.{bookLen, numbered, takenNumbers}
 use Rattle.opening.specs.Layout.{bookLength, symbolsMost}
 

@@ -4,8 +4,8 @@ use Prim.Native.Nat.{ℕ}
 use mathlib.Core.Bool.{cond, _&&_}
 use mathlib.Core.List.{List, [], _∷_}
 use lib.Dec.{leb}
-use Rattle.book.specs.declared.Report.{Report}
-use Rattle.book.specs.Buffers.{TakenBlock, taken}
+use Rattle.calls.specs.declared.Report.{Report}
+use Rattle.calls.specs.Buffers.{TakenBlock, taken}
 use Rattle.opening.specs.Layout.{bookLength, symbolsMost}
 
 -- 0 where n is not 1 to 64

@@ -1,7 +1,7 @@
 // The C interface: the seven calls under the names of include/quotebook.h. A `&[u8]` is a pointer and a length there.
 ghost use mathlib.Core.Path.{_≡_};
-ghost use Rattle.book.specs.Call.{bare, call, make, add, openLine, startDay, endDay};
-ghost use Rattle.book.specs.Buffers.{readOut};
+ghost use Rattle.calls.specs.Call.{bare, call, make, add, openLine, startDay, endDay};
+ghost use Rattle.calls.specs.Buffers.{readOut};
 ghost use Rattle.quotebook.specs.Interface.{bookLen, takenNumbers};
 use opening::Book;
 
@@ -69,7 +69,7 @@ pub extern "C" fn qb_take_block(
 ) -> u8
     ensures { λ r. ⌜ record { number = r; bytes = now (book .exit); report = now (report .exit); answer = now (answer .exit) } ≡ takenNumbers (now (book .entry)) line (now (block .entry)) (now (answer .entry)) ⌝ }
 {
-    let told = book::take_block(book, line, block, answer);
+    let told = intake::take_block(book, line, block, answer);
     *report = [
         told.number as u64,
         told.gap as u64,
@@ -86,5 +86,5 @@ pub extern "C" fn qb_take_block(
 pub extern "C" fn qb_read(book: &[u8], symbol: &[u8], publication: &mut [u8]) -> u8
     ensures { λ r. ⌜ record { number = r; publication = now (publication .exit) } ≡ readOut (now (book .entry)) (now (symbol .entry)) (now (publication .entry)) ⌝ }
 {
-    book::read(book, symbol, publication)
+    query::read(book, symbol, publication)
 }

@@ -13,11 +13,11 @@ use Rattle.block.specs.Block.{messagesOf}
 use Rattle.opening.specs.declared.Line.{Line}
 use Rattle.opening.specs.Opening.{linesIn, restIn, pageAt, pagesIn, pagePlace}
 use Rattle.line.specs.Line.{done}
-use Rattle.book.specs.Call.{take, numberOf, letterOf, call}
+use Rattle.calls.specs.Call.{take, numberOf, letterOf, call}
 use Rattle.work.specs.Work.{listedOf, toldOn}
 use Rattle.opening.proofs.OpeningLaws.{Sound}
 use Rattle.opening.proofs.PageLaws.{place-hit}
-use Rattle.book.proofs.NumberLaws.{number-same, take-done}
+use Rattle.calls.proofs.NumberLaws.{number-same, take-done}
 use Rattle.review.specs.Reviewer.{parts, toldR, Review, restAfter, symbolsAfter, historyAfter, reviewCall}
 use Rattle.review.specs.Lists.{areBytes}
 use Rattle.review.specs.Frame.{touched, takenOf, takenOn, takenR, bytesAt, pageOf}

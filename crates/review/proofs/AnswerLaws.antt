@@ -13,11 +13,11 @@ use Rattle.update.proofs.EntryLaws.{bytes-every}
 use Rattle.opening.specs.declared.Line.{Line}
 use Rattle.opening.specs.Opening.{linesIn, restIn, pagesIn}
 use Rattle.line.specs.Line.{done}
-use Rattle.book.specs.Call.{Call, make, add, openLine, startDay, endDay, take, read, numberOf, bare, lineAnswer, published, letterOf, answerOf, entriesIn, publishedOn, numberOn, answerOn, call}
+use Rattle.calls.specs.Call.{Call, make, add, openLine, startDay, endDay, take, read, numberOf, bare, lineAnswer, published, letterOf, answerOf, entriesIn, publishedOn, numberOn, answerOn, call}
 use Rattle.work.specs.Work.{Listed, isListed, findReading, listedOf, toldOn}
 use Rattle.opening.proofs.OpeningLaws.{Sound, sound-is}
 use Rattle.opening.proofs.LineLaws.{line-upper, line-open}
-use Rattle.book.proofs.NumberLaws.{number-same, read-done}
+use Rattle.calls.proofs.NumberLaws.{number-same, read-done}
 use Rattle.review.specs.Reviewer.{parts, reviewed, toldR, Review, reviewAnswer}
 use Rattle.review.specs.Lists.{blockIsBytes}
 use Rattle.review.proofs.Agree.{good-reviewed, Core, ReadingOf, missing, found, reading-of}

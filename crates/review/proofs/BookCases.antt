@@ -7,7 +7,7 @@ use mathlib.Core.List.{List, [], _∷_}
 use Rattle.field.specs.Field.{beBytes}
 use Rattle.lists.specs.Lists.{every}
 use Rattle.lists.proofs.Tests.{and-true}
-use Rattle.book.specs.Call.{make, call, answers}
+use Rattle.calls.specs.Call.{make, call, answers}
 use Rattle.review.specs.Lists.{blocksAreBytes}
 use Rattle.review.proofs.Demand3.{demand3}
 use Rattle.review.proofs.Rows.{allTold, Row, answered, Answered, end, _▹_}

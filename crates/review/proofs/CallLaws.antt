@@ -23,7 +23,7 @@ use Rattle.update.proofs.BlankLaws.{emptied-kept, emptied-reads}
 use Rattle.opening.specs.declared.Line.{Line}
 use Rattle.opening.specs.Opening.{symbolsOf, countOf, lineIn, linesIn, restIn, pagesIn, eachPage, restartLines}
 use Rattle.line.specs.Line.{done, nextBy, advanced}
-use Rattle.book.specs.Call.{Call, make, add, openLine, startDay, endDay, take, read, numberOf, letterOf, advanceOn, afterCall, call}
+use Rattle.calls.specs.Call.{Call, make, add, openLine, startDay, endDay, take, read, numberOf, letterOf, advanceOn, afterCall, call}
 use Rattle.work.specs.Work.{Listed, listedOf, messagesOn}
 use Rattle.opening.proofs.OpeningLaws.{Sound, rest-by}
 use Rattle.opening.proofs.PageLaws.{OpeningKept, kept-sound, each-kept, each-reads}
@@ -31,8 +31,8 @@ use Rattle.opening.proofs.LineLaws.{LineFits, line-upper, line-open, lined, lin
 use Rattle.opening.proofs.DayLaws.{dayed-pages, dayed-rest, relined-sound, relined-pages, relined-rest}
 use Rattle.opening.proofs.FreshLaws.{fresh-rest, fresh-pages}
 use Rattle.opening.proofs.AddLaws.{added, added-rest, added-pages}
-use Rattle.book.proofs.NumberLaws.{number-same, page-free, AddDone, add-done, open-done, take-done, symbol-eleven}
-use Rattle.book.proofs.SoundLaws.{Stays, call-stays}
+use Rattle.calls.proofs.NumberLaws.{number-same, page-free, AddDone, add-done, open-done, take-done, symbol-eleven}
+use Rattle.calls.proofs.SoundLaws.{Stays, call-stays}
 use Rattle.review.specs.Reviewer.{parts, messagesR, Review, setLine, restart, restAfter, symbolsAfter, historyAfter, reviewCall}
 use Rattle.review.specs.Lists.{blockIsBytes}
 use Rattle.review.proofs.Agree.{Core}

@@ -4,7 +4,7 @@ use Prim.Native.Nat.{ℕ, _+_}
 use mathlib.Core.Path.{refl}
 use mathlib.Core.List.{List, [], _∷_, _++_}
 use lib.ListN.{replicate}
-use Rattle.book.specs.Call.{Call, take}
+use Rattle.calls.specs.Call.{Call, take}
 use Rattle.review.proofs.Rows.{odds, item, oddLot, refused, accepted, partly, rejected, gap, national, odd, nothing, shown, zt, roundOf, noOdd, plain, unknown, onN, onP, look, Row, inDay, answered, Answered, end, _▹_}
 
 -- odd bids under a clear mark

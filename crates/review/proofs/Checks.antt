@@ -5,7 +5,7 @@ use mathlib.Core.Path.{refl}
 use mathlib.Core.List.{List, [], _∷_, _++_}
 use lib.ListN.{replicate, set}
 use Rattle.field.specs.Field.{beBytes}
-use Rattle.book.specs.Call.{make, add, openLine, startDay, endDay, take, read}
+use Rattle.calls.specs.Call.{make, add, openLine, startDay, endDay, take, read}
 use Rattle.review.proofs.Rows.{header, quoted, odds, item, maker, control, integrity, test, framed, sealed, block, only, refused, accepted, partly, rejected, twoRejected, nothing, shown, none, zt, roundOf, noOdd, plain, levels, unknown, onN, onP, onD, look, Row, inDay, fromMake, answered, Answered, end, _▹_}
 
 -- this many bytes, then spaces to eleven

@@ -16,7 +16,7 @@ use Rattle.lists.proofs.Members.{In}
 use Rattle.entries.specs.Entries.{entriesOf}
 use Rattle.entries.proofs.LengthLaws.{length-publication}
 use Rattle.line.specs.Line.{done}
-use Rattle.book.specs.Call.{Call, make, read, call, answers, bytesAfter}
+use Rattle.calls.specs.Call.{Call, make, read, call, answers, bytesAfter}
 use Rattle.work.specs.Work.{Listed}
 use Rattle.review.specs.Reviewer.{quoteOf, makersOf, levelsOf, parts, reviewedBy, reviewed, freshReview, reviewAnswers, reviewAfter}
 use Rattle.review.specs.Lists.{blocksAreBytes}

@@ -8,7 +8,7 @@ use mathlib.Core.Bool.{true, false}
 use mathlib.Core.List.{List}
 use lib.ListN.{length}
 use Rattle.lists.proofs.Members.{In}
-use Rattle.book.specs.Call.{Call, make, take, call, bytesAfter}
+use Rattle.calls.specs.Call.{Call, make, take, call, bytesAfter}
 use Rattle.work.specs.Work.{Listed, isListed}
 use Rattle.review.specs.Reviewer.{freshReview, reviewAfter}
 use Rattle.review.specs.Lists.{areBytes, blocksAreBytes}

@@ -22,13 +22,13 @@ use Rattle.update.proofs.SpokenLaws.{Shaped, AllShaped, shaped}
 use Rattle.opening.specs.declared.Line.{Line}
 use Rattle.opening.specs.Opening.{symbolsOf, sound, linesIn, restIn, pageAt, pagesIn, onPage}
 use Rattle.line.specs.Line.{done, advanced}
-use Rattle.book.specs.Call.{take, letterOf, advanceOn, afterCall, numberOn, call}
+use Rattle.calls.specs.Call.{take, letterOf, advanceOn, afterCall, numberOn, call}
 use Rattle.work.specs.Work.{listedOf, findReading, partOn, partsOn, codeOn, messageOn, messagesOn, toldOn}
 use Rattle.opening.proofs.OpeningLaws.{Sound, sound-of}
 use Rattle.opening.proofs.PageLaws.{kept-sound, place-hit, on-other}
 use Rattle.work.proofs.PartLaws.{part-kept}
 use Rattle.opening.proofs.LineLaws.{line-upper, line-open, lined-page}
-use Rattle.book.proofs.NumberLaws.{number-same, unsound, take-done}
+use Rattle.calls.proofs.NumberLaws.{number-same, unsound, take-done}
 use Rattle.work.proofs.KeptLaws.{message-kept, messages-kept}
 use Rattle.review.specs.Frame.{touchesBy, touches, touched, takenOf, takenOn}
 use Rattle.review.proofs.KeptLaws.{partly-is}

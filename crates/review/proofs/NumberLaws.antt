@@ -27,7 +27,7 @@ use Rattle.block.specs.declared.Arrival.the-variants.{Taken, Duplicate}
 use Rattle.opening.specs.declared.Line.{Line}
 use Rattle.opening.specs.Opening.{sound, Rest, restIn, pagesIn}
 use Rattle.line.specs.Line.{arrivalNumberOf, lineNumber, checkedNumberOf, blockNumber, onLine}
-use Rattle.book.specs.Call.{Call, make, add, openLine, startDay, endDay, take, read, lots, numberOf, makeGood, isMake, numberOn}
+use Rattle.calls.specs.Call.{Call, make, add, openLine, startDay, endDay, take, read, lots, numberOf, makeGood, isMake, numberOn}
 use Rattle.work.specs.Work.{Listed, isListed, listedOf}
 use Rattle.review.specs.Numbers.{numbersOf, codes}
 use Rattle.entries.specs.Publication.{publicationLength}

@@ -12,8 +12,8 @@ use Rattle.text.specs.Form as Form
 use Rattle.opening.specs.Layout.{mark}
 use Rattle.opening.specs.Opening as Opening
 use Rattle.work.specs.Work as Work
-use Rattle.book.specs.Call.{add, openLine, startDay, endDay, take, read, call}
-use Rattle.book.specs.Call as Call
+use Rattle.calls.specs.Call.{add, openLine, startDay, endDay, take, read, call}
+use Rattle.calls.specs.Call as Call
 
 -- a mark, n, the count of symbols, the day flag, the offset of the first page; then any bytes
 abbrev book : List ℕ → ℕ → ℕ → ℕ → ℕ → List ℕ → List ℕ

@@ -14,7 +14,7 @@ use Rattle.block.specs.Block.{messagesOf}
 use Rattle.opening.specs.declared.Line.{Line}
 use Rattle.opening.specs.Opening.{sound, Rest, restIn}
 use Rattle.line.specs.Line.{done, gapTold, advanced}
-use Rattle.book.specs.Call.{Call, make, add, openLine, startDay, endDay, take, read, Answer, bare, report, lineAnswer, letterOf, answerOf, publishedOn, makeGood, isMake, numberOn, call}
+use Rattle.calls.specs.Call.{Call, make, add, openLine, startDay, endDay, take, read, Answer, bare, report, lineAnswer, letterOf, answerOf, publishedOn, makeGood, isMake, numberOn, call}
 use Rattle.told.specs.Told.{quads}
 use Rattle.work.specs.Work.{toldOn}
 use Rattle.told.specs.declared.Told.{Told}

@@ -18,10 +18,10 @@ use Rattle.message.specs.Message as Message
 use Rattle.block.specs.Block as Block
 use Rattle.block.specs.Sequence as Sequence
 use Rattle.line.specs.Line as Line
-use Rattle.book.specs.Call as Call
+use Rattle.calls.specs.Call as Call
 use Rattle.told.specs.Told as Told
 use Rattle.work.specs.Work as Work
-use Rattle.book.specs.Call.{Call, add, openLine, startDay, take, read, Answer}
+use Rattle.calls.specs.Call.{Call, add, openLine, startDay, take, read, Answer}
 use Rattle.review.specs.Reviewer as Reviewer
 use Rattle.review.specs.Reviewer.{freshReview, reviewAnswers}
 

@@ -5,7 +5,7 @@ use Prim.Native.Nat.{ℕ}
 use mathlib.Core.Path.{_≡_, refl, ap, _∙_}
 use mathlib.Core.Bool.{true}
 use mathlib.Core.List.{List, [], _∷_}
-use Rattle.book.specs.Call.{Call, Answer, Outcome, make, call, answers}
+use Rattle.calls.specs.Call.{Call, Answer, Outcome, make, call, answers}
 use Rattle.review.specs.Reviewer.{freshReview, reviewAnswers}
 use Rattle.review.specs.Lists.{blocksAreBytes}
 use Rattle.review.proofs.Demand3.{demand3}

@@ -15,10 +15,10 @@ use Rattle.lists.proofs.Members.{In}
 use Rattle.text.specs.Form.{symbolGood, symbolLength}
 use Rattle.opening.specs.Opening.{freshBytes}
 use Rattle.line.specs.Line.{done}
-use Rattle.book.specs.Call.{Call, make, add, openLine, startDay, endDay, take, read, numberOf, Answer, answerOf, makeGood, numberOn, afterCall, call, bytesAfter, answers}
+use Rattle.calls.specs.Call.{Call, make, add, openLine, startDay, endDay, take, read, numberOf, Answer, answerOf, makeGood, numberOn, afterCall, call, bytesAfter, answers}
 use Rattle.work.specs.Work.{Listed, isListed, listedOf}
 use Rattle.opening.proofs.FreshLaws.{fresh-sound, fresh-bytes, fresh-rest, fresh-pages}
-use Rattle.book.proofs.NumberLaws.{add-done, symbol-back}
+use Rattle.calls.proofs.NumberLaws.{add-done, symbol-back}
 use Rattle.review.specs.Reviewer.{parts, reviewed, Review, freshReview, restAfter, symbolsAfter, historyAfter, reviewCall, reviewAnswer, reviewAfter, reviewAnswers}
 use Rattle.review.specs.Lists.{blockIsBytes, blocksAreBytes}
 use Rattle.review.proofs.ListLaws.{core-none}

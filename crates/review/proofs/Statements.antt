@@ -7,7 +7,7 @@ use mathlib.Core.List.{List, [], _∷_}
 use lib.ListN.{set}
 use Rattle.field.specs.Field.{be}
 use Rattle.lists.specs.Lists.{range}
-use Rattle.book.specs.Call.{Call, make, add, openLine, startDay, endDay, take, read}
+use Rattle.calls.specs.Call.{Call, make, add, openLine, startDay, endDay, take, read}
 use Rattle.review.specs.Reviewer.{freshReview, reviewAfter}
 use Rattle.review.specs.Frame.{touched, takenOf, takenR}
 use Rattle.review.specs.Numbers.{numbersOf, codes}

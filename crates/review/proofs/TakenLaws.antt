@@ -24,12 +24,12 @@ use Rattle.update.proofs.CellLaws.{member-below}
 use Rattle.opening.specs.declared.Line.{Line}
 use Rattle.opening.specs.Opening.{sound, Rest, restIn, pagesIn}
 use Rattle.line.specs.Line.{blockNumber, onLine, done}
-use Rattle.book.specs.Call.{take, numberOf, Answer, bare, lineAnswer, letterOf, answerOf, publishedOn, numberOn, call}
+use Rattle.calls.specs.Call.{take, numberOf, Answer, bare, lineAnswer, letterOf, answerOf, publishedOn, numberOn, call}
 use Rattle.told.specs.Told.{quads, tally, isAccepted, isPartly, isRejected}
 use Rattle.work.specs.Work.{Listed, findReading, listedOf, flagsOf, publications, codeOn, messageOn, toldOn}
 use Rattle.told.specs.declared.Told.{Told}
-use Rattle.book.proofs.NumberLaws.{unsound}
-use Rattle.book.proofs.TakenLaws.{taken-passes}
+use Rattle.calls.proofs.NumberLaws.{unsound}
+use Rattle.calls.proofs.TakenLaws.{taken-passes}
 use Rattle.review.specs.Numbers.{codes}
 use Rattle.review.proofs.NumberLaws.{code-known}
 use Rattle.review.proofs.ReportLaws.{number-told}

@@ -12,7 +12,7 @@ use Rattle.message.specs.Message.{kindOf, symbolOf}
 use Rattle.block.specs.Block.{messagesOf}
 use Rattle.opening.specs.Opening.{linesIn, pageAt, pagePlace}
 use Rattle.line.specs.Line.{done}
-use Rattle.book.specs.Call.{take, numberOf, letterOf, numberOn}
+use Rattle.calls.specs.Call.{take, numberOf, letterOf, numberOn}
 use Rattle.told.specs.Told.{isAccepted, isPartly}
 use Rattle.work.specs.Work.{toldOn}
 use Rattle.told.specs.declared.Told.{Told}

@@ -5,7 +5,7 @@ use mathlib.Core.Bool.{Bool, true, _&&_}
 use mathlib.Core.List.{List, [], _∷_}
 use lib.Dec.{ltb}
 use Rattle.lists.specs.Lists.{every}
-use Rattle.book.specs.Call.{Call, make, add, openLine, startDay, endDay, take, read}
+use Rattle.calls.specs.Call.{Call, make, add, openLine, startDay, endDay, take, read}
 
 -- each element is a byte
 abbrev pub areBytes : List ℕ → Bool

@@ -2,7 +2,7 @@
 -- Assumes nothing.
 use Prim.Native.Nat.{ℕ}
 use mathlib.Core.List.{List, [], _∷_}
-use Rattle.book.specs.Call.{Call, make, add, openLine, startDay, endDay, take, read}
+use Rattle.calls.specs.Call.{Call, make, add, openLine, startDay, endDay, take, read}
 
 abbrev pub numbersOf : Call → List ℕ
 numbersOf (make n) = 0 ∷ 2 ∷ []

@@ -22,7 +22,7 @@ use Rattle.message.specs.Message.{roundLength, kindOf, symbolOf, roundLotOdd, o
 use Rattle.opening.specs.declared.Line.{Line}
 use Rattle.opening.specs.Opening.{Rest}
 use Rattle.line.specs.Line.{done, advanced}
-use Rattle.book.specs.Call.{Call, make, add, openLine, startDay, endDay, take, read, numberOf, letterOf, Answer, answerOf}
+use Rattle.calls.specs.Call.{Call, make, add, openLine, startDay, endDay, take, read, numberOf, letterOf, Answer, answerOf}
 use Rattle.work.specs.Work.{Listed, isListed, lotOf, flagsOf}
 use Rattle.told.specs.declared.Told.{Told}
 

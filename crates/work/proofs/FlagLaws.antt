@@ -1,14 +1,12 @@
 -- Change flags: those of a message that changes one page are that page's; those of FINRA Close and Open are all pages' together.
 -- Assumes nothing.
-use Prim.Native.Nat.{ℕ, zero, suc, _+_, _*_, _/_, _%_, _≤_, _<_, max}
+use Prim.Native.Nat.{ℕ, zero, suc, _+_, _≤_, _<_}
 use mathlib.Core.Path.{_≡_, refl, sym, ap, _∙_}
 use mathlib.Core.Bool.{true}
 use mathlib.Core.List.{List, _∷_, map}
 use native.Mathlib.Omega.{arith}
-use native.Mathlib.Nat.{max-le, zero-max, max-zero, suc-max-suc}
 use native.Mathlib.Numerals.{add-one}
-use lib.Arith.{bin-ind}
-use lib.Bits.{bitOr, or-step, or-zero-l, or-zero-r}
+use lib.Bits.{bitOr, or-zero-l, or-zero-r}
 use lib.ListN.{length}
 use Rattle.lists.specs.Lists.{range, upper}
 use Rattle.lists.specs.declared.Found.{Found}
@@ -27,47 +25,11 @@ use Rattle.update.proofs.UpdateLaws.{flags-none}
 use Rattle.update.proofs.WorkLaws.{pageCode, pageAfter, said-kept}
 use Rattle.opening.specs.Opening.{symbolsOf, countOf, pageAt, pagesIn, pagePlace, onPage, eachPage}
 use Rattle.work.specs.Work.{flagsOf, publications, codeOn, messageOn, toldOn}
-use Rattle.work.specs.code.Steps.{orFrom, finraFlags}
+use Rattle.finra.specs.code.Flags.{orFrom, finraFlags}
 use Rattle.opening.proofs.OpeningLaws.{Sound}
 use Rattle.opening.proofs.PageLaws.{at-same, nowhere, kept-count, place-hit, on-kept, on-same, on-other, each-kept, each-page}
 use Rattle.work.proofs.WorkLaws.{saidOn, message-on}
 use Rattle.page.specs.Layout.{pageLength, keptEntries}
-
--- ---- flags joined, in any grouping
-
-max-assoc : (x y z : ℕ) → max (max x y) z ≡ max x (max y z)
-max-assoc zero y z = rw (zero-max y, zero-max (max y z))
-max-assoc (suc x) zero z = rw (max-zero (suc x), zero-max z)
-max-assoc (suc x) (suc y) zero = rw (max-zero (max (suc x) (suc y)), max-zero (suc y))
-max-assoc (suc x) (suc y) (suc z) = rw (suc-max-suc x y, suc-max-suc y z, suc-max-suc (max x y) z, suc-max-suc x (max y z)) (ap suc (max-assoc x y z))
-
-or-assoc : (a b c : ℕ) → bitOr (bitOr a b) c ≡ bitOr a (bitOr b c)
-or-assoc = bin-ind (λ (n : ℕ). (b c : ℕ) → bitOr (bitOr n b) c ≡ bitOr n (bitOr b c)) (λ b c. refl) step
-  where
-    low : (a b : ℕ) → max (a % 2) (b % 2) ≤ 1
-    low a b = max-le (omega arith) (omega arith)
-
-    half : (a b : ℕ) → bitOr a b / 2 ≡ bitOr (a / 2) (b / 2)
-    half a b = omega (arith, or-step a b, low a b)
-
-    bit : (a b : ℕ) → bitOr a b % 2 ≡ max (a % 2) (b % 2)
-    bit a b = omega (arith, or-step a b, low a b)
-
-    step : (n : ℕ) → ((b c : ℕ) → bitOr (bitOr (n / 2) b) c ≡ bitOr (n / 2) (bitOr b c)) → (b c : ℕ) → bitOr (bitOr n b) c ≡ bitOr n (bitOr b c)
-    step n ih b c =
-        or-step (bitOr n b) c
-        ∙ (λ i. bitOr (half n b i) (c / 2) * 2 + max (bit n b i) (c % 2))
-        ∙ (λ i. ih (b / 2) (c / 2) i * 2 + max-assoc (n % 2) (b % 2) (c % 2) i)
-        ∙ sym (or-step n (bitOr b c) ∙ (λ i. bitOr (n / 2) (half b c i) * 2 + max (n % 2) (bit b c i)))
-
--- as a loop joins them
-pub or-again : (f : ℕ → ℕ) (acc i k : ℕ) → bitOr acc (orFrom f i (suc k)) ≡ bitOr (bitOr acc (f i)) (orFrom f (i + 1) k)
-unfolding orFrom
-or-again f acc i k = sym (or-assoc acc (f i) (orFrom f (i + 1) k))
-
-pub or-end : (f : ℕ → ℕ) (acc i : ℕ) → bitOr acc (orFrom f i 0) ≡ acc
-unfolding orFrom
-or-end f acc i = or-zero-r acc
 
 -- ---- publications before and after
 

@@ -1,4 +1,3 @@
-pub mod FinraLaws
 pub mod FlagLaws
 pub mod KeptLaws
 pub mod MessageLaws

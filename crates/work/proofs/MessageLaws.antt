@@ -29,12 +29,13 @@ use Rattle.update.proofs.UpdateLaws.{updatedBy, update-is}
 use Rattle.opening.specs.Opening.{sound, symbolsOf, pageAt, setPage, pagePlace, eachPage}
 use Rattle.work.specs.Work.{messageOn}
 use Rattle.told.specs.declared.Told.{Told}
-use Rattle.work.specs.code.Steps.{finraFlags, toldOne}
+use Rattle.finra.specs.code.Flags.{finraFlags}
+use Rattle.work.specs.code.Steps.{toldOne}
 use Rattle.opening.proofs.OpeningLaws.{Sound, sound-of, length-page}
 use Rattle.opening.proofs.PageLaws.{place-hit}
 use Rattle.work.proofs.WorkLaws.{saidOn}
 use Rattle.work.proofs.FlagLaws.{saidFlags}
-use Rattle.work.proofs.FinraLaws.{lent, back}
+use Rattle.finra.proofs.FinraLaws.{lent, back}
 use Rattle.opening.proofs.WriteLaws.{lent-page, page-back}
 use Rattle.work.proofs.TakeLaws.{names, saidCode, Worked, worked-at, worked-nowhere, worked-else}
 use Rattle.page.specs.Layout.{pageLength}

@@ -6,11 +6,9 @@ ghost use lib.ListN.{length};
 ghost use Rattle.lists.specs.Lists.{upper};
 ghost use Rattle.block.specs.Block.{checked, answerLength};
 ghost use Rattle.message.specs.Message.{messageOf};
-ghost use Rattle.update.specs.Parts.{finraOn};
-ghost use Rattle.opening.specs.Opening.{symbolsOf, eachPage, sound};
+ghost use Rattle.opening.specs.Opening.{sound};
 ghost use Rattle.work.specs.Work.{messageOn};
-ghost use Rattle.work.specs.code.Steps.{toldOne, pageFlags, ran, finraFlags, orFrom};
-ghost use Rattle.opening.specs.Layout.{pageStart, symbolsMost};
+ghost use Rattle.work.specs.code.Steps.{toldOne, ran};
 use block::Checked;
 use lists::Found;
 use message::Layout;
@@ -20,44 +18,6 @@ use opening::Book;
 use quote::Quote;
 use told::Tally;
 use told::Told;
-
-// FINRA Close or Open on every page; the flags of the counted ones together.
-fn finra_pages(book: &mut [u8], condition: u8) -> u8
-    requires { ⌜ sound (now book) ≡ true ⌝ }
-    ensures { λ r. ⌜ (r ≡ finraFlags condition (now (book .entry))) × (now (book .exit) ≡ eachPage (finraOn condition) 0 (symbolsOf (now (book .entry))) (now (book .entry))) ⌝ }
-{
-    let n = field::get8(book, Book::N) as usize;
-    let count = field::get8(book, Book::COUNT) as usize;
-    let flags = finra_counted(book, count, condition);
-    finra_others(book, count, n, condition);
-    flags
-}
-
-// The counted pages, and the flags of the entries that changed in any of them.
-fn finra_counted(book: &mut [u8], count: usize, condition: u8) -> u8
-    requires { ⌜ (count ≤ symbolsMost) × (pageStart count ≤ length (now book)) ⌝ }
-    ensures { λ r. ⌜ (r ≡ orFrom (pageFlags condition (now (book .entry))) 0 count) × (now (book .exit) ≡ eachPage (finraOn condition) 0 count (now (book .entry))) ⌝ }
-{
-    let mut flags: u8 = 0;
-    for k in 0..count {
-        let a = Book::OPENING_LEN + k * Book::PAGE_LEN;
-        let e = a + Book::PAGE_LEN;
-        flags = flags | update::finra(&mut book[a..e], condition);
-    }
-    flags
-}
-
-// The pages from `from` to `to`.
-fn finra_others(book: &mut [u8], from: usize, to: usize, condition: u8)
-    requires { ⌜ (from ≤ to) × ((to ≤ symbolsMost) × (pageStart to ≤ length (now book))) ⌝ }
-    ensures { λ _. ⌜ now (book .exit) ≡ eachPage (finraOn condition) from (to - from) (now (book .entry)) ⌝ }
-{
-    for k in from..to {
-        let a = Book::OPENING_LEN + k * Book::PAGE_LEN;
-        let e = a + Book::PAGE_LEN;
-        update::finra(&mut book[a..e], condition);
-    }
-}
 
 // A message that its line's letter sent, worked on the book.
 fn work(book: &mut [u8], letter: u8, msg: &[u8]) -> Told
@@ -77,7 +37,7 @@ fn work(book: &mut [u8], letter: u8, msg: &[u8]) -> Told
             partly: false,
         },
         Message::Finra(condition) => {
-            let flags = finra_pages(book, condition);
+            let flags = finra::finra_pages(book, condition);
             Told {
                 code: 0,
                 flags,

@@ -1,6 +1,6 @@
 use mathlib.Core.Path.{sym}
 use Rattle.lists.proofs.Tables.{one-of, none-of}
-use Rattle.book.specs.Call.{lots}
+use Rattle.calls.specs.Call.{lots}
 use Rattle.book.proofs.is_lot.Statement.{statement}
 use Rattle.book.proofs.is_lot.Tie as tie
 

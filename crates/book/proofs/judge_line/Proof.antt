@@ -1,5 +1,6 @@
 use mathlib.Core.Path.{refl, sym, _∙_}
-use Rattle.book.proofs.CallLaws.{number-unsound, open-above, open-letter, open-standing, open-new}
+use Rattle.calls.proofs.NumberLaws.{number-unsound}
+use Rattle.book.proofs.CallLaws.{open-above, open-letter, open-standing, open-new}
 use borrow.Author.Needs.{needs}
 use Rattle.book.proofs.judge_line.Statement.{statement}
 use Rattle.book.proofs.judge_line.Tie as tie

@@ -4,10 +4,10 @@ use native.Mathlib.Omega.{arith}
 use Rattle.text.specs.Form.{symbolGood}
 use Rattle.lists.specs.Lists.{member}
 use Rattle.opening.specs.Opening.{sound}
-use Rattle.book.specs.Call.{lots}
-use Rattle.book.proofs.NumberLaws.{symbol-eleven}
+use Rattle.calls.specs.Call.{lots}
+use Rattle.calls.proofs.NumberLaws.{number-unsound, symbol-eleven}
 use Rattle.opening.proofs.ReadLaws.{opening-room}
-use Rattle.book.proofs.CallLaws.{number-unsound, add-symbol, add-lot, add-listed, add-new, add-full}
+use Rattle.book.proofs.CallLaws.{add-symbol, add-lot, add-listed, add-new, add-full}
 use borrow.Author.Needs.{needs}
 use Rattle.book.proofs.judge_symbol.Statement.{statement}
 use Rattle.book.proofs.judge_symbol.Tie as tie

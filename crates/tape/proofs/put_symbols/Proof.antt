@@ -1,12 +1,11 @@
 use Prim.Native.Nat.{_-_, _≤_}
-use mathlib.Core.Path.{_≡_}
-use lib.ListN.{length}
 use borrow.Author.Needs.{needs}
+use Rattle.output.specs.Output.{outputLength}
 use Rattle.tape.proofs.put_symbols.Statement.{statement}
 use Rattle.tape.proofs.put_symbols.Tie as tie
 
 abbrev Inv-loop : tie.InvT-loop
-Inv-loop book n out₀ filled at₀ k₀ out at k = (at ≤ 65536) × ((k ≤ n) × (length out ≡ 65536))
+Inv-loop book n out₀ filled at₀ k₀ out at k = (k ≤ n) × (at ≤ outputLength)
 
 abbrev μ-loop : tie.MeasureT-loop
 μ-loop book n out₀ filled at₀ k₀ out at k = n - k
@@ -31,7 +30,6 @@ put-symbols-spec =
     (λ c. search needs)
     (λ c. search needs)
     (λ c κs. search needs)
-    (λ c. search needs)
     (λ c. search needs)
     (λ c. search needs)
     (λ c. search needs)

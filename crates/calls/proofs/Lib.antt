@@ -1,0 +1,3 @@
+pub mod NumberLaws
+pub mod SoundLaws
+pub mod TakenLaws

@@ -1,0 +1,112 @@
+-- A sound book stays sound, and its bytes stay bytes, whatever its lines and pages hold; no call changes the length of what it is lent.
+-- Assumes nothing.
+use Prim.Native.Nat.{ℕ, _<_}
+use mathlib.Core.Path.{_≡_, refl, sym, _∙_}
+use mathlib.Core.Bool.{Bool, true, false, _&&_, cond}
+use mathlib.Core.List.{List}
+use mathlib.Core.Option.{Option, none, some}
+use lib.Dec.{leb, eqb, lit≤}
+use lib.ListN.{length}
+use borrow.Author.Tests.{eqb-true}
+use Rattle.field.specs.Field.{Bytes}
+use Rattle.block.specs.Block.{messagesOf}
+use Rattle.update.specs.Parts.{emptied}
+use Rattle.update.proofs.BlankLaws.{emptied-kept}
+use Rattle.opening.specs.declared.Line.{Line}
+use Rattle.opening.specs.Opening.{symbolsOf, countOf, sound, linesIn, restIn, pagesIn, eachPage, freshBytes, restartLines}
+use Rattle.line.specs.Line.{done, advanced}
+use Rattle.calls.specs.Call.{Call, make, add, openLine, startDay, endDay, take, read, letterOf, advanceOn, afterCall, makeGood, isMake, numberOn, call}
+use Rattle.work.specs.Work.{listedOf, messagesOn}
+use Rattle.opening.proofs.OpeningLaws.{Sound, sound-of}
+use Rattle.opening.proofs.PageLaws.{OpeningKept, kept-sound, each-kept}
+use Rattle.opening.proofs.LineLaws.{line-upper, line-open, lined-sound, lined-bytes}
+use Rattle.opening.proofs.DayLaws.{dayed-sound, dayed-bytes, relined-sound, relined-bytes}
+use Rattle.opening.proofs.FreshLaws.{fresh-sound, fresh-bytes, fresh-length}
+use Rattle.opening.proofs.AddLaws.{added-sound, added-bytes}
+use Rattle.calls.proofs.NumberLaws.{number-same, make-done, page-free, unsound, AddDone, add-done, open-done, take-done, lot-fits, symbol-eleven, symbol-bytes}
+use Rattle.work.proofs.KeptLaws.{messages-kept}
+use Rattle.opening.specs.Layout.{lineCount, bookLength, symbolsMost}
+use Rattle.text.specs.Form.{symbolLength}
+
+-- sound, and bytes if it was bytes
+pub record Stays (n : ℕ) (b b′ : List ℕ) : Type 0 where
+  pub sound : Sound n b′
+  pub bytes : Bytes b → Bytes b′
+
+module _ (n : ℕ) (b : List ℕ) (sd : Sound n b) where
+  take-stays : (i : ℕ) (x : List ℕ) (k : ℕ) → done (numberOn b (take i x k)) ≡ true → (o : Option Line) → linesIn b i ≡ o
+      → Stays n b (advanceOn i x o (messagesOn (letterOf o) (messagesOf x) b))
+  unfolding restIn
+  take-stays i x k d none e = absurd (take-done (restIn b) (listedOf (pagesIn b)) i x k (rw (number-same n b sd (take i x k)) at d) e)
+  take-stays i x k d (some r) e =
+      let g = line-open b i r e in
+      let b₁ : List ℕ = messagesOn (r .letter) (messagesOf x) b in
+      let c : OpeningKept b b₁ = messages-kept n (r .letter) (line-upper r (g .1)) (messagesOf x) b sd in
+      let s : Sound n b₁ = kept-sound b b₁ c n sd in
+      record { sound = lined-sound n b₁ s i (g .0) (advanced r x); bytes = λ y. lined-bytes n b₁ s i (g .0) (advanced r x) (c .bytes y) }
+
+  after-stays : (c : Call) → done (numberOn b c) ≡ true → Stays n b (afterCall b c)
+  unfolding afterCall
+  after-stays (make k) d =
+      let e : k ≡ n = make-done n b sd k (rw (number-same n b sd (make k)) at d) in
+      rw e (record { sound = fresh-sound n (sd .low) (sd .up); bytes = λ y. fresh-bytes n (sd .up) })
+  after-stays (add x l) d =
+      let g : AddDone (restIn b) (listedOf (pagesIn b)) x l = add-done (restIn b) (listedOf (pagesIn b)) x l (rw (number-same n b sd (add x l)) at d) in
+      let w : length x ≡ symbolLength = symbol-eleven x (g .good) in
+      let r : countOf b < n = page-free n b sd (g .room) in
+      record { sound = added-sound n b sd x l w r; bytes = λ y. added-bytes n b sd x l w r y (symbol-bytes x (g .good)) (lot-fits l (g .lot)) }
+  after-stays (openLine i l) d =
+      let g = open-done (restIn b) (listedOf (pagesIn b)) i l (rw (number-same n b sd (openLine i l)) at d) in
+      let x : Line = record { letter = l; expected = 1; count = 0 } in
+      record { sound = lined-sound n b sd i (g .0) x; bytes = lined-bytes n b sd i (g .0) x }
+  after-stays startDay d =
+      let b₁ : List ℕ = eachPage emptied 0 (symbolsOf b) b in
+      let c : OpeningKept b b₁ = each-kept n emptied (λ p w. emptied-kept p w) b sd in
+      let s₁ : Sound n b₁ = kept-sound b b₁ c n sd in
+      let s₂ : Sound n (restartLines 0 lineCount b₁) = relined-sound n b₁ s₁ in
+      record {
+        sound = dayed-sound n (restartLines 0 lineCount b₁) s₂ 1 (lit≤ tt);
+        bytes = λ y. dayed-bytes n (restartLines 0 lineCount b₁) s₂ 1 (lit≤ tt) (relined-bytes n b₁ s₁ (c .bytes y));
+      }
+  after-stays endDay d = record { sound = dayed-sound n b sd 0 (lit≤ tt); bytes = dayed-bytes n b sd 0 (lit≤ tt) }
+  after-stays (take i x k) d = take-stays i x k d (linesIn b i) refl
+  after-stays (read x k) d = record { sound = sd; bytes = λ y. y }
+
+  -- a sound book stays sound, and bytes stay bytes
+  pub call-stays : (c : Call) → Stays n b (call b c .bytes)
+  unfolding call
+  call-stays c = go (done (numberOn b c)) refl
+    where
+      go : (t : Bool) → done (numberOn b c) ≡ t → Stays n b (cond t (afterCall b c) b)
+      go true d = after-stays c d
+      go false d = record { sound = sd; bytes = λ y. y }
+
+-- ---- on any bytes
+
+make-length : (b : List ℕ) (n : ℕ) → length (call b (make n) .bytes) ≡ length b
+unfolding call numberOn done afterCall makeGood
+make-length b n = go (leb 1 n) (leb n symbolsMost) (eqb (length b) (bookLength n)) refl
+  where
+    go : (x y z : Bool) → eqb (length b) (bookLength n) ≡ z → length (cond (done (cond (x && (y && z)) 0 2)) (freshBytes n) b) ≡ length b
+    go true true true r = fresh-length n ∙ sym (eqb-true (length b) (bookLength n) r)
+    go true true false r = refl
+    go true false z r = refl
+    go false y z r = refl
+
+other-length : (b : List ℕ) (c : Call) → isMake c ≡ false → length (call b c .bytes) ≡ length b
+unfolding call
+other-length b c m = go (sound b) refl
+  where
+    go : (t : Bool) → sound b ≡ t → length (cond (done (numberOn b c)) (afterCall b c) b) ≡ length b
+    go true e = let s : Sound (symbolsOf b) b = sound-of b e in call-stays (symbolsOf b) b s c .sound .size ∙ sym (s .size)
+    go false e = rw (unsound b c e m)
+
+-- no call changes the length
+pub call-length : (b : List ℕ) (c : Call) → length (call b c .bytes) ≡ length b
+call-length b (make n) = make-length b n
+call-length b (add s k) = other-length b (add s k) refl
+call-length b (openLine i l) = other-length b (openLine i l) refl
+call-length b startDay = other-length b startDay refl
+call-length b endDay = other-length b endDay refl
+call-length b (take i x k) = other-length b (take i x k) refl
+call-length b (read s k) = other-length b (read s k) refl

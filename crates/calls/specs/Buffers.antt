@@ -1,0 +1,46 @@
+-- What the two calls with buffers leave: the book's bytes or the report, and the buffer.
+-- Assumes nothing.
+use Prim.Native.Nat.{ℕ}
+use mathlib.Core.List.{List}
+use lib.ListN.{length}
+use Rattle.field.specs.Field.{splice}
+use Rattle.calls.specs.declared.Report.{Report}
+use Rattle.calls.specs.Call.{Answer, call, take, read}
+
+abbrev pub reportOf : Answer → Report
+reportOf a =
+    record {
+      number = a .number;
+      gap = a .gap;
+      expected = a .expected;
+      count = a .count;
+      accepted = a .accepted;
+      partly = a .partly;
+      rejected = a .rejected;
+    }
+
+pub record TakenBlock : Type 0 where
+  pub bytes : List ℕ
+  pub report : Report
+  pub answer : List ℕ
+
+-- the book's bytes, the report and the answer buffer after the block call; "the bytes behind those that a call fills keep their contents"
+unfoldable pub taken : List ℕ → ℕ → List ℕ → List ℕ → TakenBlock
+taken b i k answer =
+    record {
+      bytes = call b (take i k (length answer)) .bytes;
+      report = reportOf (call b (take i k (length answer)) .answer);
+      answer = splice answer 0 (call b (take i k (length answer)) .answer .answers);
+    }
+
+pub record ReadOut : Type 0 where
+  pub number : ℕ
+  pub publication : List ℕ
+
+-- the number and the publication buffer after a read
+unfoldable pub readOut : List ℕ → List ℕ → List ℕ → ReadOut
+readOut b s publication =
+    record {
+      number = call b (read s (length publication)) .answer .number;
+      publication = splice publication 0 (call b (read s (length publication)) .answer .publication);
+    }
