@@ -1,6 +1,6 @@
 -- What a block that passes checks 30 to 34 satisfies.
 -- Assumes nothing.
-use Prim.Native.Nat.{ℕ, _+_, _*_, _≤_}
+use Prim.Native.Nat.{ℕ, _≤_}
 use mathlib.Core.Path.{_≡_, refl}
 use mathlib.Core.Bool.{Bool, true, false, cond}
 use mathlib.Core.List.{List}
@@ -11,7 +11,7 @@ use lib.ListN.{length}
 use Rattle.field.specs.Field.{field}
 use Rattle.lists.specs.Lists.{at}
 use Rattle.lists.proofs.Tests.{and-true}
-use Rattle.block.specs.Block.{Readable, countIn, checksumOf, startAt, spaced, lengthGood, tableGood, controlAmong, checked, messagesMost}
+use Rattle.block.specs.Block.{offsetAt, blockLongest, blockShortest, Readable, countIn, checksumOf, startAt, spaced, lengthGood, tableGood, controlAmong, checked, messagesMost}
 use Rattle.block.specs.declared.Checked.{Checked}
 use Rattle.block.specs.declared.Checked.the-variants.{Pass, Refused}
 
@@ -19,8 +19,8 @@ use Rattle.block.specs.declared.Checked.the-variants.{Pass, Refused}
 pub record Table (b : List ℕ) : Type 0 where
   pub some : 1 ≤ countIn b
   pub few : countIn b ≤ messagesMost
-  pub inside : 10 + 2 * countIn b ≤ length b
-  pub first : startAt b 0 ≡ 10 + 2 * countIn b
+  pub inside : offsetAt (countIn b) ≤ length b
+  pub first : startAt b 0 ≡ offsetAt (countIn b)
   pub apart : spaced b ≡ true
 
 pub table : (b : List ℕ) → tableGood b ≡ true → Table b
@@ -32,7 +32,7 @@ table b e =
     let t3 : _ × _ = and-true _ _ (t2 .1) in
     record { some = leb-true _ _ (t0 .0); few = leb-true _ _ (t1 .0); inside = leb-true _ _ (t2 .0); first = eqb-true _ _ (t3 .0); apart = t3 .1 }
 
-pub table-readable : (b : List ℕ) (c : ℕ) → c ≡ countIn b → Table b → length b ≤ 1000 → Readable b c
+pub table-readable : (b : List ℕ) (c : ℕ) → c ≡ countIn b → Table b → length b ≤ blockLongest → Readable b c
 table-readable b c n t h = record { counted = n; table = rw n (t .inside); short = h }
 
 unless : (t : Bool) (x : Checked) (k c : ℕ) → cond t x (Refused k) ≡ Pass c → (t ≡ true) × (x ≡ Pass c)
@@ -46,8 +46,8 @@ when false x k c e = (refl, e)
 -- what a pass says
 pub record Passed (b : List ℕ) (c : ℕ) : Type 0 where
   pub counted : c ≡ countIn b
-  pub long : 32 ≤ length b
-  pub short : length b ≤ 1000
+  pub long : blockShortest ≤ length b
+  pub short : length b ≤ blockLongest
   pub own : field b 2 2 ≡ length b
   pub version : at b 0 ≡ 1
   pub sum : checksumOf b ≡ field b 8 2

@@ -10,16 +10,9 @@ use lib.ListN.{length, take, drop, length-append, take-append-drop, drop-of-leng
 use lib.Seq.{drop-drop, take-at, drop-at}
 use Rattle.field.specs.Field.{part}
 use Rattle.field.proofs.Laws.{length-part}
-use Rattle.lists.specs.Lists.{gather}
 use Rattle.block.specs.Block.{countIn, startAt, messageAt, messagesFrom, messagesOf, spaced}
+use Rattle.block.specs.Written.{joined}
 use Rattle.block.proofs.StartLaws.{last-start, next-start, start-within}
-
-abbrev pub same : {A : Type 0} → A → A
-same a = a
-
--- messages end to end
-abbrev pub joined : List (List ℕ) → List ℕ
-joined ms = gather same ms
 
 module _ (b : List ℕ) (good : spaced b ≡ true) where
   pub length-message : (i : ℕ) → i < countIn b → length (messageAt b i) ≡ startAt b (i + 1) - startAt b i
@@ -58,7 +51,7 @@ offsetOf t [] i = t
 offsetOf t (m ∷ ms) zero = t
 offsetOf t (m ∷ ms) (suc i) = offsetOf (t + length m) ms i
 
-first-offset : (t : ℕ) (ms : List (List ℕ)) → offsetOf t ms 0 ≡ t
+pub first-offset : (t : ℕ) (ms : List (List ℕ)) → offsetOf t ms 0 ≡ t
 first-offset t [] = refl
 first-offset t (m ∷ ms) = refl
 

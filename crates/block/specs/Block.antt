@@ -13,6 +13,23 @@ use Rattle.lists.specs.Lists.{at, member, all, sum}
 use Rattle.block.specs.declared.Checked.{Checked}
 use Rattle.block.specs.declared.Checked.the-variants.{Pass, Refused}
 
+-- bytes of a block, and of a message in it
+abbrev pub blockShortest : ℕ
+blockShortest = 32
+
+abbrev pub blockLongest : ℕ
+blockLongest = 1000
+
+abbrev pub messageShortest : ℕ
+messageShortest = 20
+
+abbrev pub messagesMost : ℕ
+messagesMost = 45
+
+-- where offset i stands, behind a header of 10 bytes; behind all c offsets the messages begin
+abbrev pub offsetAt : ℕ → ℕ
+offsetAt i = 10 + 2 * i
+
 abbrev pub countIn : List ℕ → ℕ
 countIn b = at b 1
 
@@ -25,15 +42,15 @@ checksumOf b = sum (set (set b 8 0) 9 0) % 65536
 
 -- ---- messages
 
--- what a reader of the table asks for: the count c, a table that lies in the block, a block of at most 1,000 bytes
+-- what a reader of the table asks for: the count c, a table that lies in the block, a block that is not too long
 pub record Readable (b : List ℕ) (c : ℕ) : Type 0 where
   pub counted : c ≡ countIn b
-  pub table : 10 + 2 * c ≤ length b
-  pub short : length b ≤ 1000
+  pub table : offsetAt c ≤ length b
+  pub short : length b ≤ blockLongest
 
 -- where message i starts: its offset; past the last, the block's end
 unfoldable pub startAt : List ℕ → ℕ → ℕ
-startAt b i = cond (ltb i (countIn b)) (field b (10 + 2 * i) 2) (length b)
+startAt b i = cond (ltb i (countIn b)) (field b (offsetAt i) 2) (length b)
 
 -- "Each message is the part of the block from its offset to the next, the last to the end"
 unfoldable pub messageAt : List ℕ → ℕ → List ℕ
@@ -51,17 +68,14 @@ messagesOf b = messagesFrom b 0 (countIn b)
 
 -- 30: "lent length under 32, over 1,000 or not the field"
 unfoldable pub lengthGood : List ℕ → Bool
-lengthGood b = leb 32 (length b) && (leb (length b) 1000 && eqb (field b 2 2) (length b))
+lengthGood b = leb blockShortest (length b) && (leb (length b) blockLongest && eqb (field b 2 2) (length b))
 
 -- message i "is at least 20 bytes"
 abbrev pub spacedAt : List ℕ → ℕ → Bool
-spacedAt b i = leb (startAt b i + 20) (startAt b (i + 1))
+spacedAt b i = leb (startAt b i + messageShortest) (startAt b (i + 1))
 
 unfoldable pub spaced : List ℕ → Bool
 spaced b = all (spacedAt b) 0 (countIn b)
-
-abbrev pub messagesMost : ℕ
-messagesMost = 45
 
 -- an answer is four bytes for each message
 abbrev pub answerLength : ℕ
@@ -70,7 +84,7 @@ answerLength = 4 * messagesMost
 -- 33: "c not 1 to 45, or an offset rule broken". That the table lies in the block follows from the other rules; it is said so that the table may be read
 unfoldable pub tableGood : List ℕ → Bool
 tableGood b =
-    leb 1 (countIn b) && (leb (countIn b) messagesMost && (leb (10 + 2 * countIn b) (length b) && (eqb (startAt b 0) (10 + 2 * countIn b) && spaced b)))
+    leb 1 (countIn b) && (leb (countIn b) messagesMost && (leb (offsetAt (countIn b)) (length b) && (eqb (startAt b 0) (offsetAt (countIn b)) && spaced b)))
 
 -- a control message: category C, whatever its type
 abbrev pub isControl : List ℕ → Bool

@@ -4,7 +4,7 @@ ghost use mathlib.Core.Bool.{true};
 ghost use Prim.Native.Nat.{_+_, _*_, _≤_, _<_};
 ghost use lib.ListN.{length};
 ghost use Rattle.lists.specs.Lists.{at, sum};
-ghost use Rattle.block.specs.Block.{Readable, countIn, sequenceIn, checksumOf, startAt, spaced, tableGood, controlAmong, idleBlock, checked, checkedNumber};
+ghost use Rattle.block.specs.Block.{blockLongest, Readable, countIn, sequenceIn, checksumOf, startAt, spaced, tableGood, controlAmong, idleBlock, checked, checkedNumber};
 ghost use Rattle.block.specs.Sequence.{arrivalOf};
 
 /// A block's lengths. Header: version 1, message count 1, length 2, sequence number 4, checksum 2; then a table of 2 bytes a message.
@@ -88,7 +88,7 @@ pub fn sequence(block: &[u8]) -> u32
 
 /// The sum of all bytes, those of the checksum taken as zero, modulo 65,536.
 pub fn checksum(block: &[u8]) -> u16
-    requires { ⌜ (10 ≤ length (now block)) × (length (now block) ≤ 1000) ⌝ }
+    requires { ⌜ (10 ≤ length (now block)) × (length (now block) ≤ blockLongest) ⌝ }
     ensures { λ r. ⌜ r ≡ checksumOf (now (block .entry)) ⌝ }
 {
     let own = (field::get8(block, 8) as u32) + (field::get8(block, 9) as u32);
@@ -97,7 +97,7 @@ pub fn checksum(block: &[u8]) -> u16
 
 // The sum of at most 1,000 bytes.
 fn total(s: &[u8]) -> u32
-    requires { ⌜ length (now s) ≤ 1000 ⌝ }
+    requires { ⌜ length (now s) ≤ blockLongest ⌝ }
     ensures { λ r. ⌜ r ≡ sum (now (s .entry)) ⌝ }
 {
     let mut acc: u32 = 0;
@@ -126,7 +126,7 @@ pub fn start(block: &[u8], c: usize, i: usize) -> usize
 
 // Check 33: 1 to 45 messages, the first behind the table, each of at least 20 bytes.
 fn is_table_good(block: &[u8], c: usize) -> bool
-    requires { ⌜ (c ≡ countIn (now block)) × (length (now block) ≤ 1000) ⌝ }
+    requires { ⌜ (c ≡ countIn (now block)) × (length (now block) ≤ blockLongest) ⌝ }
     ensures { λ r. ⌜ r ≡ tableGood (now (block .entry)) ⌝ }
 {
     if c < 1 {

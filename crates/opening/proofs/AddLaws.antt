@@ -14,7 +14,8 @@ use Rattle.lists.proofs.Ranges.{map-range}
 use Rattle.update.specs.Parts.{Reading, readingOf, blankPage}
 use Rattle.update.proofs.Model.{blankReading}
 use Rattle.update.proofs.TableLaws.{length-put, cell-same, cell-other, put-before, range-snoc}
-use Rattle.update.proofs.BlankLaws.{part-front, part-after, part-whole, length-blank, bytes-blank, blank-reads}
+use Rattle.field.proofs.JoinLaws.{part-front, part-after, part-whole}
+use Rattle.update.proofs.BlankLaws.{length-blank, bytes-blank, blank-reads}
 use Rattle.opening.specs.Opening.{symbolsOf, countOf, linesIn, restIn, pageAt, setPage, pagesIn}
 use Rattle.opening.proofs.OpeningLaws.{Sound, lines-by, opening-page}
 use Rattle.page.specs.Layout.{pageLength, symbolAt, lotAt, headLength}

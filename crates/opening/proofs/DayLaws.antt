@@ -14,7 +14,7 @@ use Rattle.field.proofs.Laws.{bytes-beBytes, bytes-append, bytes-part, bytes-sp
 use Rattle.lists.specs.Lists.{mapOption}
 use Rattle.text.specs.Form.{letterGood}
 use Rattle.update.proofs.TableLaws.{length-cell, eachCell, Each, each-cell}
-use Rattle.update.proofs.BlankLaws.{part-front, part-after, part-whole}
+use Rattle.field.proofs.JoinLaws.{part-front, part-after, part-whole}
 use Rattle.opening.specs.declared.Line.{Line}
 use Rattle.opening.specs.Opening.{symbolsOf, countOf, lineIn, linesIn, restIn, pageAt, pagesIn, restarted, restartLines}
 use Rattle.opening.proofs.OpeningLaws.{Sound, Front, sound-by, count-by, lines-by, pages-by, opening-page}

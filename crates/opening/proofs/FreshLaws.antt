@@ -16,7 +16,8 @@ use Rattle.lists.specs.Lists.{every}
 use Rattle.update.specs.Parts.{blankPage}
 use Rattle.update.proofs.EntryLaws.{bytes-every}
 use Rattle.field.proofs.ZeroLaws.{part-zeros, bytes-zeros}
-use Rattle.update.proofs.BlankLaws.{part-front, part-after, part-whole, length-blank, bytes-blank}
+use Rattle.field.proofs.JoinLaws.{part-front, part-after, part-whole}
+use Rattle.update.proofs.BlankLaws.{length-blank, bytes-blank}
 use Rattle.opening.specs.Opening.{symbolsOf, countOf, lineIn, linesIn, restIn, pageAt, pagesIn, blankPages, freshBytes}
 use Rattle.opening.proofs.OpeningLaws.{Sound}
 use Rattle.page.specs.Layout.{pageLength, headLength}

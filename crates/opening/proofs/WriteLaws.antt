@@ -13,7 +13,8 @@ use Rattle.field.proofs.Laws.{length-beBytes, beBytes-one, splice-join, splice-
 use Rattle.lists.proofs.Searches.{less-one}
 use Rattle.update.specs.Parts.{blankPage, emptied}
 use Rattle.field.proofs.ZeroLaws.{part-zeros}
-use Rattle.update.proofs.BlankLaws.{part-front, part-after, length-blank}
+use Rattle.field.proofs.JoinLaws.{part-front, part-after}
+use Rattle.update.proofs.BlankLaws.{length-blank}
 use Rattle.opening.specs.declared.Line.{Line}
 use Rattle.opening.specs.Opening.{lineBytes, pageAt, setPage, eachPage, blankPages, freshBytes, restarted, restartLines}
 use Rattle.opening.proofs.FreshLaws.{noSymbol}

@@ -1,11 +1,12 @@
--- The length of a book by the code's tests, and the block call with its report as numbers.
+-- The length of a book by the code's tests, and reports as numbers.
 -- Assumes nothing.
 use Prim.Native.Nat.{ℕ, _≤_, _<_}
 use mathlib.Core.Path.{_≡_, ap}
 use mathlib.Core.List.{List}
 use borrow.Author.Tests.{le-leb, lt-leb}
+use Rattle.block.specs.Written.{Out, writtenOut}
 use Rattle.calls.specs.Buffers.{TakenBlock, taken}
-use Rattle.quotebook.specs.Interface.{bookLen, numbered, takenNumbers}
+use Rattle.quotebook.specs.Interface.{bookLen, numbered, takenNumbers, outNumbers, writtenNumbers}
 use Rattle.opening.specs.Layout.{bookLength, symbolsMost}
 
 module _ (n : ℕ) where
@@ -24,3 +25,7 @@ module _ (n : ℕ) where
 pub numbers-told : (b : List ℕ) → (i : ℕ) → (k : List ℕ) → (answer : List ℕ) → (t : TakenBlock) → t ≡ taken b i k answer → numbered t ≡ takenNumbers b i k answer
 unfolding takenNumbers
 numbers-told b i k answer t h = ap numbered h
+
+pub numbers-written : (b ns : List ℕ) (s : ℕ) (out : List ℕ) (o : Out) → o ≡ writtenOut b ns s out → outNumbers o ≡ writtenNumbers b ns s out
+unfolding writtenNumbers
+numbers-written b ns s out o h = ap outNumbers h

@@ -1,9 +1,10 @@
--- What the C interface hands out beyond the calls: the length of a book, and the report as seven numbers.
+-- What the C interface hands out beyond the calls: the length of a book, and reports as numbers.
 -- Assumes nothing.
 use Prim.Native.Nat.{ℕ}
 use mathlib.Core.Bool.{cond, _&&_}
 use mathlib.Core.List.{List, [], _∷_}
 use lib.Dec.{leb}
+use Rattle.block.specs.Written.{Out, writtenOut}
 use Rattle.calls.specs.declared.Report.{Report}
 use Rattle.calls.specs.Buffers.{TakenBlock, taken}
 use Rattle.opening.specs.Layout.{bookLength, symbolsMost}
@@ -28,3 +29,15 @@ numbered t = record { number = t .report .number; bytes = t .bytes; report = rep
 -- the block call, its report as numbers
 unfoldable pub takenNumbers : List ℕ → ℕ → List ℕ → List ℕ → TakenNumbers
 takenNumbers b i k answer = numbered (taken b i k answer)
+
+pub record WrittenNumbers : Type 0 where
+  pub number : ℕ
+  pub report : List ℕ
+  pub block : List ℕ
+
+abbrev pub outNumbers : Out → WrittenNumbers
+outNumbers o = record { number = o .number; report = o .number ∷ o .length ∷ []; block = o .output }
+
+-- the writer of blocks, its report as numbers: number, bytes written
+unfoldable pub writtenNumbers : List ℕ → List ℕ → ℕ → List ℕ → WrittenNumbers
+writtenNumbers messages lengths sequence block = outNumbers (writtenOut messages lengths sequence block)

@@ -1,8 +1,8 @@
-// The C interface: the seven calls under the names of include/quotebook.h. A `&[u8]` is a pointer and a length there.
+// The C interface: the seven calls and the writer of blocks under the names of include/quotebook.h. A `&[u8]` is a pointer and a length there.
 ghost use mathlib.Core.Path.{_≡_};
 ghost use Rattle.calls.specs.Call.{bare, call, make, add, openLine, startDay, endDay};
 ghost use Rattle.calls.specs.Buffers.{readOut};
-ghost use Rattle.quotebook.specs.Interface.{bookLen, takenNumbers};
+ghost use Rattle.quotebook.specs.Interface.{bookLen, takenNumbers, writtenNumbers};
 use opening::Book;
 
 const OPENING: u64 = Book::OPENING_LEN as u64;
@@ -87,4 +87,20 @@ pub extern "C" fn qb_read(book: &[u8], symbol: &[u8], publication: &mut [u8]) ->
     ensures { λ r. ⌜ record { number = r; publication = now (publication .exit) } ≡ readOut (now (book .entry)) (now (symbol .entry)) (now (publication .entry)) ⌝ }
 {
     query::read(book, symbol, publication)
+}
+
+/// The report's two numbers: number, bytes written. The result is the number too.
+#[no_mangle]
+pub extern "C" fn qb_write_block(
+    messages: &[u8],
+    lengths: &[u32],
+    sequence: u32,
+    block: &mut [u8],
+    report: &mut [u64; 2],
+) -> u8
+    ensures { λ r. ⌜ record { number = r; report = now (report .exit); block = now (block .exit) } ≡ writtenNumbers (now (messages .entry)) (now (lengths .entry)) sequence (now (block .entry)) ⌝ }
+{
+    let told = writer::write_block(messages, lengths, sequence, block);
+    *report = [told.number as u64, told.len as u64];
+    told.number
 }

@@ -5,9 +5,9 @@ use mathlib.Core.Path.{_≡_, refl, sym, ap, _∙_}
 use mathlib.Core.List.{List, _++_}
 use mathlib.Core.Option.{none}
 use native.Mathlib.Omega.{arith}
-use lib.ListN.{length, take, drop, replicate, length-append, length-replicate, length-drop}
-use lib.Seq.{take-append-le, drop-append-le, drop-append-add, take-length}
+use lib.ListN.{length, replicate, length-append, length-replicate}
 use Rattle.field.specs.Field.{Bytes, be, part, field}
+use Rattle.field.proofs.JoinLaws.{part-front, part-after, part-whole}
 use Rattle.field.proofs.Laws.{length-part, bytes-append, bytes-part, part-part, field-part-0, field-part}
 use Rattle.field.proofs.ZeroLaws.{part-zeros, bytes-zeros}
 use Rattle.lists.specs.Lists.{every}
@@ -23,22 +23,6 @@ use Rattle.update.proofs.Model.{worked, blankReading, blanked}
 use Rattle.update.proofs.EntryLaws.{bytes-every, Kept}
 use Rattle.page.specs.Layout.{slotsAt, makerCount, quotesLength, pageLength, pageSymbol, pageLot, keptEntries, symbolAt, lotAt, headLength}
 use Rattle.text.specs.Form.{symbolLength}
-
--- ---- parts of lists end to end
-
-pub part-front : (a x : List ℕ) (i w : ℕ) → i + w ≤ length a → part (a ++ x) i w ≡ part a i w
-unfolding part
-part-front a x i w h =
-    let c : w ≤ length (drop i a) = rw length-drop (omega arith) in
-    rw (drop-append-le i a x (omega arith), take-append-le w (drop i a) x c)
-
-pub part-after : (a x : List ℕ) (n i w : ℕ) → length a ≡ n → part (a ++ x) (n + i) w ≡ part x i w
-unfolding part
-part-after a x n i w e = ap (take w) (rw (sym e) (drop-append-add a x i))
-
-pub part-whole : (a : List ℕ) (n : ℕ) → length a ≡ n → part a 0 n ≡ a
-unfolding part
-part-whole a n e = rw (sym e) (take-length a)
 
 -- ---- six entries of none
 
