@@ -2,7 +2,7 @@
 # make test   proves everything, tries every must-fail edit, reads the machine code, runs the C example and the Rust tests
 # make lib    proves the library, writes it for C and Rust to link, and says how
 # make bench  measures the library beside the second implementation, and the walk of a page beside the same walk in C
-# make fuzz   compares library, engine and reviewer on a million random calls: make fuzz CALLS=5000000 SEED=7
+# make fuzz   compares library, engine and reviewer on a million random calls, and the writers: make fuzz CALLS=5000000 SEED=7
 # make compare-definitions   has the prover compute the definitions on random lists with the second implementation's answers
 # make wrong-definitions   plants every wrong definition, not only those of the gate
 # make listing   prints the machine code that the tests look at

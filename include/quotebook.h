@@ -5,10 +5,10 @@
  *
  * Duties of the caller, which no call can check:
  *   - every pointer is valid for the length passed with it, also for length 0: never a null pointer;
- *   - the buffers of one call do not overlap: book, symbol, block, answer, report and publication lie apart;
+ *   - the buffers of one call do not overlap: book, symbol, messages, lengths, block, answer, report and publication lie apart;
  *   - nobody else reads or writes the book during a call that changes it. Several readers at once are fine.
- * Everything else is checked: any bytes of any length may be lent as book, symbol or block. A refused call changes no byte of the
- * book and fills no buffer, but for the report of a block, which says why.
+ * Everything else is checked: any bytes of any length may be lent as book, symbol, block or messages, and any numbers as lengths. A
+ * refused call changes no byte of the book and fills no buffer, but for the report, which says why.
  *
  * The result of a call is a number, QB_DONE (0) or the first check that refused. docs/CHECKS.md says what to do about each.
  */
@@ -27,6 +27,7 @@ enum {
     QB_OPENING_LEN = 847,
     QB_PAGE_LEN = 6054,
     QB_SYMBOL_LEN = 11,
+    QB_BLOCK_MAX = 1000,     /* no block is longer */
     QB_ANSWER_LEN = 180,     /* at least: 4 bytes for each of up to 45 messages */
     QB_PUBLICATION_LEN = 96, /* at least: six entries */
     QB_ENTRY_LEN = 16
@@ -35,7 +36,7 @@ enum {
 /* Numbers that calls answer. */
 enum {
     QB_DONE = 0,
-    QB_NO_BOOK = 1,             /* every call but make: the bytes or their length are not a book's */
+    QB_NO_BOOK = 1,             /* every call on a book but make: the bytes or their length are not a book's */
     QB_MAKE = 2,                /* make: n is not 1 to 64, or the length is not that of a book for n */
     QB_SYMBOL_MALFORMED = 3,    /* add: the symbol is malformed */
     QB_SYMBOL_LISTED = 4,       /* add: the symbol is already listed */
@@ -55,7 +56,10 @@ enum {
     QB_OFFSETS = 33,            /* block: the message count is not 1 to 45, or an offset rule is broken */
     QB_CONTROL_NOT_ALONE = 34,  /* block: a control message is not alone */
     QB_DUPLICATE = 35,          /* block: its sequence number lies behind the expected one */
-    QB_GAP = 70                 /* block: a warning; it was taken, and sequence numbers before it are missing */
+    QB_GAP = 70,                /* block: a warning; it was taken, and sequence numbers before it are missing */
+    QB_WRITE_MESSAGES = 71,     /* write: no messages, over 45, one under 20 bytes, lengths that do not add up, or a block over 1,000 */
+    QB_WRITE_CONTROL = 72,      /* write: a control message among others */
+    QB_WRITE_SHORT = 73         /* write: the output is shorter than the block */
 };
 
 /* Codes of messages, in the answer buffer. A Q K with 60 to 64 is partly accepted: its quote is in force, its odd lots did nothing. */
@@ -129,6 +133,13 @@ uint8_t qb_take_block(uint8_t *book, size_t len, uint32_t line, const uint8_t *b
  * 8 bytes with six implied decimals, and a size of 4 (round lots; of odd lots, shares), big-endian. None is four spaces and zeros. */
 uint8_t qb_read(const uint8_t *book, size_t len, const uint8_t *symbol, size_t symbol_len,
                 uint8_t *publication, size_t publication_len);
+
+/* Writes the block that carries count messages, laid end to end, under a sequence number. No book is needed. Answers 0, 71, 72, 73.
+ * lengths: one for each message, messages_len in all.
+ * block: 10 + 2 * count + messages_len bytes are needed, QB_BLOCK_MAX at most. The first report[1] are filled; the bytes behind stay.
+ * report: number, bytes written (0 after a refusal); always filled. */
+uint8_t qb_write_block(const uint8_t *messages, size_t messages_len, const uint32_t *lengths, size_t count,
+                       uint32_t sequence, uint8_t *block, size_t block_len, uint64_t report[2]);
 
 #ifdef __cplusplus
 }

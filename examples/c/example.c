@@ -1,4 +1,5 @@
-/* One quote of the New York Stock Exchange goes into a book, and the best prices come out. `tests/c-example` builds and runs it. */
+/* One quote of the New York Stock Exchange becomes a block, the block goes into a book, and the best prices come out. `tests/c-example`
+ * builds and runs it. */
 #include <stdio.h>
 #include <stdlib.h>
 #include <string.h>
@@ -15,36 +16,32 @@ static uint64_t get(const uint8_t *at, int len) {
     return number;
 }
 
-/* A block of one round-lot quote (Q K) for ZT: bid 10.00 for 3 lots, offer 10.02 for 2. */
-static void quote_block(uint8_t block[72]) {
-    uint16_t sum = 0;
-    uint8_t *quote = block + 12;
-    memset(block, 0, 72);
-    block[0] = 1;                                                           /* version */
-    block[1] = 1;                                                           /* messages */
-    put(block + 2, 2, 72);                                                  /* length */
-    put(block + 4, 4, 1);                                                   /* sequence number */
-    put(block + 10, 2, 12);                                                 /* where the message starts */
-    memcpy(quote, "QKN", 3);
+/* A round-lot quote (Q K) of N for ZT: bid 10.00 for 3 lots, offer 10.02 for 2. */
+static void quote_message(uint8_t quote[60]) {
+    memset(quote, 0, 60);
+    memcpy(quote, "QKN", 3);                                                /* category, type and letter */
+    put(quote + 4, 8, 34200000000000);                                      /* timestamp */
     memcpy(quote + 20, "ZT         R", 12);                                 /* symbol and condition */
     put(quote + 32, 8, 10000000); put(quote + 40, 4, 3);                    /* bid */
     put(quote + 44, 8, 10020000); put(quote + 52, 4, 2);                    /* offer */
     quote[56] = ' ';                                                        /* clears no odd lots */
-    for (int i = 0; i < 72; i++) sum = (uint16_t)(sum + block[i]);
-    put(block + 8, 2, sum);                                                 /* checksum */
 }
 
 int main(void) {
     static const uint8_t zt[] = "ZT         ";
-    uint8_t block[72], answer[QB_ANSWER_LEN], publication[QB_PUBLICATION_LEN];
-    uint64_t report[QB_REPORT_LEN];
+    uint8_t quote[60], block[QB_BLOCK_MAX], answer[QB_ANSWER_LEN], publication[QB_PUBLICATION_LEN];
+    const uint32_t lengths[] = {sizeof quote};                              /* one for each message */
+    uint64_t written[2], report[QB_REPORT_LEN];
     size_t len = (size_t)qb_book_len(1);
     uint8_t *book = (uint8_t *)malloc(len);
     if (!book || qb_make(book, len, 1) || qb_add_symbol(book, len, zt, QB_SYMBOL_LEN, 100)
         || qb_open_line(book, len, 5, 'N') || qb_start_day(book, len)) return 1;
 
-    quote_block(block);
-    uint8_t number = qb_take_block(book, len, 5, block, sizeof block, answer, sizeof answer, report);
+    quote_message(quote);                                                   /* the block carries it under sequence number 1 */
+    if (qb_write_block(quote, sizeof quote, lengths, 1, 1, block, sizeof block, written)) return 1;
+    printf("written: a block of %d bytes\n", (int)written[1]);
+
+    uint8_t number = qb_take_block(book, len, 5, block, (size_t)written[1], answer, sizeof answer, report);
     printf("block %d, next expected %d, message 0: code %d, flags %d\n", number, (int)report[QB_REPORT_EXPECTED], answer[1], answer[2]);
 
     if (qb_read(book, len, zt, QB_SYMBOL_LEN, publication, sizeof publication)) return 1;

@@ -1,4 +1,4 @@
-//! Compares the library with the second implementation for as long as one likes.
+//! Compares the library with the second implementation for as long as one likes, the writer too.
 //!
 //! usage: fuzz [CALLS [FIRST_SEED]], by default a million calls from a seed that the clock gives.
 
@@ -9,7 +9,8 @@ use std::process::ExitCode;
 use std::time::{Duration, Instant, SystemTime, UNIX_EPOCH};
 
 use second::coverage::Coverage;
-use support::compared::{run, CALLS};
+use second::writer::reached::Reached;
+use support::compared::{run, write_calls, CALLS};
 
 fn argument(at: usize) -> Option<u64> {
     let word = std::env::args().nth(at)?;
@@ -27,10 +28,12 @@ fn main() -> ExitCode {
     let first = argument(2).unwrap_or_else(new_seed);
     println!("{calls} calls on the library, the engine and the reviewer, from seed {first} on");
     let mut coverage = Coverage::default();
+    let mut reached = Reached::default();
     let began = Instant::now();
     let mut told = began;
     for seed in (first..).take(calls.div_ceil(CALLS as u64) as usize) {
-        if let Err(failure) = run(seed, &mut coverage) {
+        let failed = run(seed, &mut coverage).and_then(|()| write_calls(seed, &mut reached));
+        if let Err(failure) = failed {
             println!("{failure}");
             return ExitCode::FAILURE;
         }
@@ -39,8 +42,9 @@ fn main() -> ExitCode {
             tell(&coverage, began);
         }
     }
-    println!("{coverage}");
-    let missing = coverage.missing();
+    println!("{coverage}\n{reached}");
+    let mut missing = coverage.missing();
+    missing.extend(reached.missing().into_iter().map(String::from));
     if !missing.is_empty() {
         println!("not reached: {}", missing.join(", "));
     }

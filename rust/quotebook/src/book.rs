@@ -3,6 +3,7 @@
 use std::fmt::{self, Debug, Formatter};
 
 use crate::lent::{self, ANSWER_LEN, PUBLICATION_LEN, SYMBOL_LEN};
+use crate::message::filled_up;
 use crate::number::Refusal;
 use crate::publication::Publication;
 use crate::report::Taken;
@@ -32,7 +33,7 @@ impl Book {
 
     /// Adds a symbol with its round lot: 1, 10, 25, 50 or 100 shares.
     pub fn add_symbol(&mut self, symbol: impl AsRef<[u8]>, round_lot: u32) -> Result<(), Refusal> {
-        lent::add_symbol(&mut self.memory, &filled_up(symbol.as_ref()), round_lot).result()
+        lent::add_symbol(&mut self.memory, &symbol_bytes(symbol), round_lot).result()
     }
 
     /// Opens a line, 0 to 63, for a letter: A to Z without S. D is FINRA.
@@ -63,7 +64,7 @@ impl Book {
     /// Reads a symbol's publication.
     pub fn read(&self, symbol: impl AsRef<[u8]>) -> Result<Publication, Refusal> {
         let mut publication = [0; PUBLICATION_LEN];
-        lent::read(&self.memory, &filled_up(symbol.as_ref()), &mut publication).result()?;
+        lent::read(&self.memory, &symbol_bytes(symbol), &mut publication).result()?;
         Ok(Publication::from_bytes(&publication))
     }
 
@@ -73,13 +74,9 @@ impl Book {
     }
 }
 
-/// A symbol with spaces to its end. One that is too long gives spaces alone, which are refused alike.
-fn filled_up(symbol: &[u8]) -> [u8; SYMBOL_LEN] {
-    let mut filled = [b' '; SYMBOL_LEN];
-    if let Some(front) = filled.get_mut(..symbol.len()) {
-        front.copy_from_slice(symbol);
-    }
-    filled
+/// A symbol of eleven bytes. One that is too long gives spaces alone, which are refused alike.
+fn symbol_bytes(symbol: impl AsRef<[u8]>) -> [u8; SYMBOL_LEN] {
+    filled_up(symbol.as_ref()).unwrap_or([b' '; SYMBOL_LEN])
 }
 
 impl Debug for Book {

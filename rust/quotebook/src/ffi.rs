@@ -37,6 +37,16 @@ mod c {
             publication: *mut u8,
             publication_len: usize,
         ) -> u8;
+        pub fn qb_write_block(
+            messages: *const u8,
+            messages_len: usize,
+            lengths: *const u32,
+            count: usize,
+            sequence: u32,
+            block: *mut u8,
+            block_len: usize,
+            report: *mut u64,
+        ) -> u8;
     }
 }
 
@@ -112,6 +122,30 @@ pub fn read(book: &[u8], symbol: &[u8], publication: &mut [u8]) -> u8 {
             symbol.len(),
             publication.as_mut_ptr(),
             publication.len(),
+        )
+    }
+}
+
+/// The result of the call is the report's number too.
+pub fn write_block(
+    messages: &[u8],
+    lengths: &[u32],
+    sequence: u32,
+    block: &mut [u8],
+    report: &mut [u64; 2],
+) -> u8 {
+    // SAFETY: each pointer and its length are one slice's; the report has its two numbers; messages
+    // and lengths are only read.
+    unsafe {
+        c::qb_write_block(
+            messages.as_ptr(),
+            messages.len(),
+            lengths.as_ptr(),
+            lengths.len(),
+            sequence,
+            block.as_mut_ptr(),
+            block.len(),
+            report.as_mut_ptr(),
         )
     }
 }

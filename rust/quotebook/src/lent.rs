@@ -1,4 +1,5 @@
-//! The seven calls on lent memory, for those who keep a book elsewhere than in a [`Book`](crate::Book).
+//! The seven calls on lent memory, for those who keep a book elsewhere than in a [`Book`](crate::Book),
+//! and the writer of blocks.
 //!
 //! Any bytes of any length may be lent. A refused call changes no byte. In every buffer the bytes
 //! behind those that a call fills keep their contents.
@@ -6,7 +7,12 @@
 use crate::ffi;
 use crate::number::Number;
 use crate::report::Report;
+use crate::writer::Written;
 
+/// The length of the longest block.
+pub const BLOCK_MAX: usize = 1000;
+/// The most messages in a block.
+pub const MESSAGES_MAX: usize = 45;
 /// The shortest answer buffer: four bytes for each of 45 messages.
 pub const ANSWER_LEN: usize = 180;
 /// The length of a publication.
@@ -62,6 +68,18 @@ pub fn read(book: &[u8], symbol: &[u8], publication: &mut [u8]) -> Number {
     number(ffi::read(book, symbol, publication))
 }
 
+/// Writes the block that carries these messages, laid end to end with a length for each, under a
+/// sequence number. It needs 10 bytes, 2 for each message, and theirs; [`BLOCK_MAX`] always suffice.
+pub fn write_block(messages: &[u8], lengths: &[u32], sequence: u32, block: &mut [u8]) -> Written {
+    let mut fields = [0; 2];
+    let answered = ffi::write_block(messages, lengths, sequence, block, &mut fields);
+    let [_, len] = fields;
+    Written {
+        number: number(answered),
+        len: len as usize,
+    }
+}
+
 #[cfg(test)]
 mod tests {
     use super::*;
@@ -91,5 +109,20 @@ mod tests {
         assert_eq!(filled(5, &[], 180), [30, 0, 1, 0, 0, 0, 0]);
         assert_eq!(filled(4, &[], 180), [21, 0, 0, 0, 0, 0, 0]);
         assert_eq!(filled(5, &[], 179), [9, 0, 0, 0, 0, 0, 0]);
+    }
+
+    /// The writer writes both numbers of its report, and its result is the first.
+    #[test]
+    fn a_writers_report_is_filled() {
+        let filled = |messages: &[u8], lengths: &[u32], room| {
+            let mut fields = [u64::MAX; 2];
+            let result = ffi::write_block(messages, lengths, 1, &mut vec![0; room], &mut fields);
+            assert_eq!(u64::from(result), fields[0]);
+            fields
+        };
+        assert_eq!(filled(&[0; 20], &[20], 32), [0, 32]);
+        assert_eq!(filled(&[], &[], 32), [71, 0]);
+        assert_eq!(filled(&[b'C'; 40], &[20, 20], 54), [72, 0]);
+        assert_eq!(filled(&[0; 20], &[20], 31), [73, 0]);
     }
 }

@@ -30,6 +30,9 @@ table! {
     34 ControlNotAlone "A control message is not alone in its block.";
     35 Duplicate "The block is a duplicate: its sequence number lies behind the expected one.";
     70 Gap "The block was taken, and sequence numbers before it are missing.";
+    71 WriteMessages "No messages, over 45, one under 20 bytes, lengths that do not add up, or a block over 1,000.";
+    72 WriteControl "A control message among others: it has to be alone in its block.";
+    73 WriteShort "The output is shorter than the block to write.";
 }
 
 impl Number {

@@ -3,6 +3,7 @@
 use std::fmt::{self, Display, Formatter};
 
 use crate::lent::PUBLICATION_LEN;
+use crate::price::Price;
 
 const ENTRY_LEN: usize = 16;
 
@@ -145,20 +146,5 @@ impl PartialEq<&str> for Name {
 impl Display for Name {
     fn fmt(&self, f: &mut Formatter) -> fmt::Result {
         write!(f, "{}", self.as_bytes().escape_ascii())
-    }
-}
-
-/// A price in millionths: six implied decimals.
-#[derive(Clone, Copy, PartialEq, Eq, PartialOrd, Ord, Hash, Debug, Default)]
-pub struct Price(pub u64);
-
-/// A decimal number with two to six decimals, as many as are needed.
-impl Display for Price {
-    fn fmt(&self, f: &mut Formatter) -> fmt::Result {
-        const ONE: u64 = 1_000_000;
-        let decimals = format!("{:06}", self.0 % ONE);
-        let (cents, rest) = decimals.split_at(2);
-        let text = format!("{}.{cents}{}", self.0 / ONE, rest.trim_end_matches('0'));
-        f.pad(&text)
     }
 }

@@ -7,6 +7,7 @@ use second::build::{self, Odd, Round};
 use second::QuoteBook;
 use support::guarded::{broken, Guarded};
 use support::layout::{line, page, PAGE_LEN};
+use support::writing::Lent;
 
 /// Two symbols, N's line 5 and an open day.
 fn book() -> Guarded {
@@ -69,4 +70,48 @@ fn a_byte_at_a_read() {
     book.plant(page(0).start + 12);
     let read = book.read(&build::symbol("ZT"), &mut [0; 96]);
     assert_eq!(read, broken::BEYOND);
+}
+
+/// Writes a message of 20 bytes into an output, then plants a byte: what the guards tell.
+fn written(room: usize, plant: impl FnOnce(&mut Lent)) -> Option<&'static str> {
+    let output = vec![0xA5; room];
+    let mut lent = Lent::new(&[7; 20], &[20], &output);
+    let written = lent.write(1);
+    assert_eq!(written.number, if room < 32 { 73 } else { 0 });
+    plant(&mut lent);
+    lent.broken(written)
+}
+
+#[test]
+fn nothing_planted_at_the_writer() {
+    for room in [0, 31, 32, 40] {
+        assert_eq!(written(room, |_| ()), None);
+    }
+}
+
+#[test]
+fn a_byte_of_the_writers_arguments() {
+    for room in [31, 32] {
+        for at in [0, 19, 20] {
+            let told = written(room, |lent| lent.guarded_messages.plant(at));
+            assert_eq!(told, Some("a byte of or around the messages was written"));
+        }
+        for at in [0, 1] {
+            let told = written(room, |lent| lent.guarded_lengths.plant(at));
+            assert_eq!(told, Some("a number of or around the lengths was written"));
+        }
+    }
+}
+
+#[test]
+fn a_byte_of_the_writers_output() {
+    for room in [31, 40] {
+        let told = written(room, |lent| lent.guarded_block.plant(room));
+        assert_eq!(told, Some("a byte around the output was written"));
+    }
+    for (room, at) in [(31, 0), (31, 30), (40, 32), (40, 39)] {
+        let told = written(room, |lent| lent.guarded_block.plant(at));
+        let what = "a byte of the output was written that is not the block's";
+        assert_eq!(told, Some(what));
+    }
 }

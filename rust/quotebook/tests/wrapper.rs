@@ -9,12 +9,12 @@ use second::build::{self, Odd, Round};
 use second::{generate, terms, Call};
 
 #[test]
-fn numbers_and_codes_are_those_of_document_01() {
+fn numbers_and_codes_are_those_of_the_documents() {
     let numbers: Vec<u8> = (0..=255)
         .filter(|&byte| Number::try_from(byte).is_ok())
         .collect();
     let mut expected: Vec<u8> = (0..=12).collect();
-    expected.extend([20, 21, 30, 31, 32, 33, 34, 35, 70]);
+    expected.extend([20, 21, 30, 31, 32, 33, 34, 35, 70, 71, 72, 73]);
     assert_eq!(numbers, expected);
     let codes: Vec<u8> = (0..=255)
         .filter(|&byte| Code::try_from(byte).is_ok())

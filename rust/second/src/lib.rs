@@ -1,9 +1,10 @@
-//! The second implementation of the quote book, written from document 01 alone.
+//! The second implementation of the quote book, written from documents 01 and 02 alone.
 //!
 //! - [`Engine`] keeps native structs and works out a touched symbol's six entries after each
 //!   accepted message; [`Incremental`] is the same engine and ranks a side again only when its
 //!   leader worsens or leaves.
 //! - [`Reviewer`] holds a history of accepted messages and works out every answer anew from it.
+//! - [`writer`] makes a block of messages.
 //! - [`generate`] makes random lists of calls, [`compare`] runs a list on several books, [`shrink`]
 //!   makes a list short on which they differ, and [`coverage`] counts what the lists reach.
 //!
@@ -23,6 +24,7 @@ pub mod quote_book;
 pub mod reviewer;
 pub mod shrink;
 pub mod terms;
+pub mod writer;
 
 pub use call::{Call, List};
 pub use engine::{Engine, Incremental};

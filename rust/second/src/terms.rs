@@ -1,4 +1,4 @@
-//! The numbers, codes, flags and limits of document 01, as plain constants.
+//! The numbers, codes, flags and limits of documents 01 and 02, as plain constants.
 
 /// Numbers that a call answers or a block reports ("Operator, line and participant numbers").
 pub mod number {
@@ -44,6 +44,13 @@ pub mod number {
     pub const DUPLICATE: u8 = 35;
     /// The block was taken behind a gap.
     pub const GAP: u8 = 70;
+    /// To write: no messages, over 45, one under 20 bytes, lengths that do not add up to the bytes
+    /// lent, or a block over 1,000.
+    pub const WRITE_MESSAGES: u8 = 71;
+    /// To write: a control message among others.
+    pub const WRITE_CONTROL: u8 = 72;
+    /// The output is too short for the block.
+    pub const WRITE_SHORT: u8 = 73;
 }
 
 /// Codes that a message gets.

@@ -1,12 +1,15 @@
-//! One random list of calls on the library, the engine and the reviewer.
+//! One random list of calls on the library, the engine and the reviewer, and random calls of the
+//! writer.
 
 use second::compare::{compare, first_difference, observe, Fresh};
 use second::coverage::Coverage;
+use second::generate::Random;
 use second::shrink::shrink;
+use second::writer::{mistake, reached::Reached, write};
 use second::{generate, List};
 
 use super::guarded::broken;
-use super::{engine, library, reviewer};
+use super::{engine, library, reviewer, writing};
 
 /// Calls in a list. The reviewer works every answer out anew from its history, so that its time
 /// rises with the square of a list's length.
@@ -39,4 +42,27 @@ fn failure(seed: u64, name: &str, fresh: Fresh, list: &List) -> String {
         format!("{number}: {what}\n")
     });
     format!("seed {seed}: the {name} differs from the reviewer on\n{short}{difference}{said}")
+}
+
+/// Calls of the writer for each seed.
+pub const WRITINGS: usize = 100;
+
+/// Runs a seed's calls of the writer. Number, length and every byte of and around the output are
+/// equal.
+pub fn write_calls(seed: u64, reached: &mut Reached) -> Result<(), String> {
+    let mut random = Random::new(seed);
+    for _ in 0..WRITINGS {
+        let call = generate::writing(&mut random);
+        let expected = call.run(write::<{ mistake::NONE }>);
+        let observed = call.run(writing::library);
+        if observed != expected {
+            let (told, awaited) = (observed.0, expected.0);
+            return Err(format!(
+                "seed {seed}: the library writes {told:?}, the second implementation {awaited:?}, \
+                 for {call:?}"
+            ));
+        }
+        reached.note(&call, expected.0);
+    }
+    Ok(())
 }

@@ -2,7 +2,7 @@
 //! implementation cannot show: no byte around a buffer changed, no byte of a block or symbol did, a
 //! refused call changed no byte of the book, and any other only those that it may.
 
-use std::ops::Range;
+use std::ops::{BitXorAssign, Range};
 
 use quotebook::{lent, Number};
 use second::{build, QuoteBook, Report};
@@ -34,33 +34,40 @@ pub mod broken {
 
 const GUARD: usize = 64;
 
-/// Bytes with guards around them.
-pub struct Fenced(Vec<u8>);
+/// Bytes, or other numbers, with guards around them.
+pub struct Fenced<T = u8>(Vec<T>);
 
-impl Fenced {
-    const FENCE: [u8; GUARD] = [0xC3; GUARD];
-
-    pub fn new(bytes: &[u8]) -> Fenced {
-        Fenced([&Fenced::FENCE, bytes, &Fenced::FENCE].concat())
+impl<T: Copy + PartialEq + From<u8> + BitXorAssign> Fenced<T> {
+    fn fence() -> [T; GUARD] {
+        [T::from(0xC3); GUARD]
     }
 
-    pub fn bytes(&self) -> &[u8] {
+    pub fn new(bytes: &[T]) -> Fenced<T> {
+        Fenced([&Self::fence(), bytes, &Self::fence()].concat())
+    }
+
+    pub fn bytes(&self) -> &[T] {
         &self.0[GUARD..self.0.len() - GUARD]
     }
 
-    pub fn bytes_mut(&mut self) -> &mut [u8] {
+    pub fn bytes_mut(&mut self) -> &mut [T] {
         let end = self.0.len() - GUARD;
         &mut self.0[GUARD..end]
     }
 
     /// Whether the guards are as they were.
     pub fn stands(&self) -> bool {
-        self.0.starts_with(&Fenced::FENCE) && self.0.ends_with(&Fenced::FENCE)
+        self.0.starts_with(&Self::fence()) && self.0.ends_with(&Self::fence())
     }
 
     /// Whether the guards and the bytes are as they were.
-    pub fn keeps(&self, bytes: &[u8]) -> bool {
+    pub fn keeps(&self, bytes: &[T]) -> bool {
         self.stands() && self.bytes() == bytes
+    }
+
+    /// Alters one of the bytes, or of the guard behind them, behind the library's back.
+    pub fn plant(&mut self, at: usize) {
+        self.0[GUARD + at] ^= T::from(1);
     }
 }
 
@@ -95,7 +102,7 @@ impl Guarded {
 
     /// Writes a byte behind the library's back: of the book, or of the guard behind it.
     pub fn plant(&mut self, at: usize) {
-        self.memory.0[GUARD + at] ^= 1;
+        self.memory.plant(at);
     }
 
     /// The call's number, or what it broke. `allowed` are the bytes that the call may change if it

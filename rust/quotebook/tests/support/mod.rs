@@ -8,6 +8,7 @@ pub mod guarded;
 pub mod layout;
 pub mod parts;
 pub mod reading;
+pub mod writing;
 
 use guarded::Guarded;
 use second::{Engine, QuoteBook, Reviewer};

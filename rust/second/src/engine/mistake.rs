@@ -13,6 +13,7 @@ macro_rules! mistakes {
         pub const TABLE: &[(u8, &str)] = &[$(($name, $sentence)),*];
     };
 }
+pub(crate) use mistakes;
 
 mistakes! {
     1 CLEAR_STAYS "A clear stays although its odd part was refused.";

@@ -1,4 +1,4 @@
-//! Deterministic random lists of calls.
+//! Deterministic random lists of calls, and calls of a writer.
 //!
 //! A list is a function of its seed and length. While it is drawn its calls are also made on an
 //! engine, only to know which lines are open and which numbers they expect: most blocks are to be
@@ -9,6 +9,7 @@ mod damage;
 mod messages;
 mod pools;
 mod random;
+mod writing;
 
 use std::collections::VecDeque;
 
@@ -18,6 +19,7 @@ use crate::quote_book::QuoteBook;
 use crate::terms::{number, ANSWER_LEN, PUBLICATION_LEN, ROUND_LOTS};
 use pools::{Pools, Symbol, Theme};
 pub use random::{from_environment, Random};
+pub use writing::writing;
 
 /// The list of so many calls that a seed gives.
 pub fn list(seed: u64, calls: usize) -> List {
