@@ -14,7 +14,7 @@ use Rattle.field.proofs.Laws.{field-part, field-part-0, splice-part, splice-joi
 use Rattle.lists.specs.Lists.{isSome, member}
 use Rattle.lists.proofs.Searches.{less-one}
 use Rattle.quote.specs.declared.Quote.{Quote}
-use Rattle.quote.specs.Quote.{emptyQuote, quoteIn, quoteBytes, quoteLength}
+use Rattle.quote.specs.Quote.{emptyQuote, quoteOver, quoteIn, quoteBytes, quoteLength}
 use Rattle.entries.specs.Entries.{Maker}
 use Rattle.page.specs.Page.{makerIn, makerBytes}
 use Rattle.makers.specs.Makers.{named, cellOf, cellFor, markCell, markCells}
@@ -65,6 +65,11 @@ module _ (p : List ℕ) (k m : ℕ) (q : Quote) (a : ℕ) (e : a ≡ cellAt k) w
   pub free-maker : (p′ : List ℕ) → emptyQuote q ≡ true → p′ ≡ splice p a (replicate (a + cellLength - a) 0) → p′ ≡ splice p (cellAt k) (cellFor m q)
   unfolding cellFor
   free-maker p′ n d = let z : a + cellLength - a ≡ cellLength = omega arith in d ∙ rw (z, e, n)
+
+  -- its quote that stands there is read, and this one written over it
+  pub over-maker : (standing new : Quote) (p′ : List ℕ) → standing ≡ quoteIn (part p (a + nameLength) quoteLength) → new ≡ quoteOver standing q → p′ ≡ splice p (cellAt k) (cellFor m new)
+      → p′ ≡ splice p (cellAt k) (cellFor m (quoteOver (quoteIn (part p (cellAt k + nameLength) quoteLength)) q))
+  over-maker standing new p′ f g d = d ∙ rw (g, f, e)
 
 -- ---- zeros
 

@@ -12,7 +12,7 @@ use Rattle.lists.specs.declared.Found.{Found}
 use Rattle.lists.specs.declared.Found.the-variants.{At, Nothing}
 use Rattle.text.specs.Form.{nameLength}
 use Rattle.quote.specs.declared.Quote.{Quote}
-use Rattle.quote.specs.Quote.{emptyQuote}
+use Rattle.quote.specs.Quote.{emptyQuote, quoteOver}
 use Rattle.entries.specs.Entries.{Maker}
 use Rattle.page.specs.Layout.{cellLength, makerCount, cellAt}
 use Rattle.page.specs.Page.{makerIn, makerBytes}
@@ -50,6 +50,11 @@ putMakerBy m q p Nothing = cond (emptyQuote q) p (putAt p (freePlace p) (cellFor
 -- "and Q U its maker's"; "freed cells are used again"
 unfoldable pub putMaker : ℕ → Quote → List ℕ → List ℕ
 putMaker m q p = putMakerBy m q p (makerPlace p m)
+
+-- a maker's quote over the one that stands, if one does; "a freed maker cell forgets its times"
+abbrev pub makerOver : Option Maker → Quote → Quote
+makerOver none q = q
+makerOver (some x) q = quoteOver (x .quote) q
 
 -- ---- FINRA Close and Open
 

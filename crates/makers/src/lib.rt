@@ -1,11 +1,12 @@
 // The maker cells of a page: search, writing, FINRA Close and Open.
 ghost use mathlib.Core.Path.{_≡_};
 ghost use mathlib.Core.Bool.{not};
-ghost use Prim.Native.Nat.{_-_, _≤_, _<_};
+ghost use Prim.Native.Nat.{_+_, _-_, _≤_, _<_};
 ghost use lib.ListN.{length, replicate};
 ghost use Rattle.field.specs.Field.{part, splice};
 ghost use Rattle.lists.specs.Lists.{isSome};
-ghost use Rattle.quote.specs.Quote.{emptySide, emptyQuote};
+ghost use Rattle.text.specs.Form.{nameLength};
+ghost use Rattle.quote.specs.Quote.{emptySide, emptyQuote, quoteOver, quoteIn, quoteLength};
 ghost use Rattle.page.specs.Layout.{cellLength, makerCount, pageLength, cellAt};
 ghost use Rattle.makers.specs.Makers.{named, cellOf, cellFor, makerPlace, freePlace, markCell, markCells};
 use lists::Found;
@@ -97,6 +98,15 @@ pub fn put_cell(page: &mut [u8], k: usize, name: u32, quote: Quote)
     }
     field::put32(page, at, name);
     quote.put(page, at + Cell::QUOTE);
+}
+
+/// Writes a maker's quote into cell k over its quote that stands there: a resent side keeps its time. An empty one frees it.
+pub fn put_cell_over(page: &mut [u8], k: usize, name: u32, quote: Quote)
+    requires { ⌜ (length (now page) ≡ pageLength) × (k < makerCount) ⌝ }
+    ensures { λ _. ⌜ now (page .exit) ≡ splice (now (page .entry)) (cellAt k) (cellFor name (quoteOver (quoteIn (part (now (page .entry)) (cellAt k + nameLength) quoteLength)) quote)) ⌝ }
+{
+    let standing = Quote::get(page, page::cell_at(k) + Cell::QUOTE);
+    put_cell(page, k, name, quote.over(standing));
 }
 
 /// Writes zeros from `from` to `to`.

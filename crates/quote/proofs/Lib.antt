@@ -1,3 +1,4 @@
 pub mod QuoteLaws
 pub mod AdmitsLaws
+pub mod OverLaws
 pub mod Cases

@@ -1,10 +1,10 @@
--- Quotes: which sides count, and their bytes (document 01, "Messages").
+-- Quotes: which sides count, the times of a resent quote, and their bytes (document 01, "Messages"; document 02, T-02).
 -- Assumes nothing.
 use Prim.Native.Nat.{ℕ, _+_, _^_, _<_}
 use mathlib.Core.Bool.{Bool, true, false, not, _&&_, cond}
 use mathlib.Core.List.{List, [], _∷_, _++_}
 use mathlib.Core.Option.{Option, none, some}
-use lib.Dec.{eqb, ltb}
+use lib.Dec.{eqb, leb, ltb}
 use Rattle.field.specs.Field.{part, field, beBytes}
 use Rattle.field.specs.Low.{low, leBytes}
 use Rattle.field.specs.Ascii.{A, B, E, F, H, O, R, W}
@@ -48,6 +48,25 @@ emptyQuote q = emptySide (q .bid) && emptySide (q .offer)
 -- the quote under another condition
 unfoldable pub withCondition : ℕ → Quote → Quote
 withCondition c q = record { condition = c; bid = q .bid; offer = q .offer }
+
+-- ---- the times of a quote's sides (document 02, T-02): "The two sides of letters and makers so have a time each"
+
+abbrev pub withTime : ℕ → Level → Level
+withTime t l = record { price = l .price; size = l .size; time = t }
+
+-- the quote with a time for each side
+unfoldable pub withTimes : (Side → ℕ) → Quote → Quote
+withTimes t q = record { condition = q .condition; bid = withTime (t Bid) (q .bid); offer = withTime (t Offer) (q .offer) }
+
+-- "a round-lot side keeps the time it had if the new quote has the same price and a size no larger"; else it takes the new quote's
+unfoldable pub timeKept : Level → Level → ℕ
+timeKept standing new = cond (eqb (new .price) (standing .price) && leb (new .size) (standing .size)) (standing .time) (new .time)
+
+-- a quote over the one that stands: each side by itself; "The condition plays no part"
+unfoldable pub quoteOver : Quote → Quote → Quote
+quoteOver standing new = withTimes (λ s. timeKept (sideOf s standing) (sideOf s new)) new
+
+-- ---- candidates
 
 abbrev pub levelCandidate : ℕ → ℕ → Level → Candidate
 levelCandidate name condition l = record { name = name; price = l .price; size = l .size; time = l .time; condition = condition }

@@ -3,7 +3,7 @@ ghost use mathlib.Core.Path.{_≡_};
 ghost use Prim.Native.Nat.{_+_, _≤_};
 ghost use lib.ListN.{length};
 ghost use Rattle.field.specs.Field.{part, splice};
-ghost use Rattle.quote.specs.Quote.{levelLength, quoteLength, admits, isBid, levelIn, levelBytes, quoteIn, quoteBytes};
+ghost use Rattle.quote.specs.Quote.{levelLength, quoteLength, admits, isBid, withTime, timeKept, quoteOver, levelIn, levelBytes, quoteIn, quoteBytes};
 use ranking::Side;
 
 /// One side of a quote, or one odd-lot level. Sizes are round lots in a quote and shares in a level.
@@ -48,6 +48,30 @@ impl Level {
         field::put_low32(page, at + Level::SIZE, self.size);
         field::put_low64(page, at + Level::TIME, self.time);
     }
+
+    // The time of a new side over the one that stands: of the same price and a size no larger, it keeps the time.
+    fn time_over(self, standing: Level) -> u64
+        ensures { λ r. ⌜ r ≡ timeKept standing self ⌝ }
+    {
+        if self.price != standing.price {
+            return self.time;
+        }
+        if self.size <= standing.size {
+            return standing.time;
+        }
+        self.time
+    }
+
+    // A new side over the one that stands.
+    fn over(self, standing: Level) -> Level
+        ensures { λ r. ⌜ r ≡ withTime (timeKept standing self) self ⌝ }
+    {
+        Level {
+            price: self.price,
+            size: self.size,
+            time: self.time_over(standing),
+        }
+    }
 }
 
 /// A round-lot quote of a letter or a maker.
@@ -87,6 +111,29 @@ impl Quote {
         field::put8(page, at, self.condition);
         bid.put(page, at + Quote::BID);
         offer.put(page, at + Quote::OFFER);
+    }
+
+    /// A new quote over the one that stands: each side has its own time.
+    pub fn over(self, standing: Quote) -> Quote
+        ensures { λ r. ⌜ r ≡ quoteOver standing self ⌝ }
+    {
+        let bid = self.bid;
+        let offer = self.offer;
+        Quote {
+            condition: self.condition,
+            bid: bid.over(standing.bid),
+            offer: offer.over(standing.offer),
+        }
+    }
+
+    /// Writes the quote over the one that stands in a page at `at`.
+    pub fn put_over(self, page: &mut [u8], at: usize)
+        requires { ⌜ at + quoteLength ≤ length (now page) ⌝ }
+        ensures { λ _. ⌜ now (page .exit) ≡ splice (now (page .entry)) at (quoteBytes (quoteOver (quoteIn (part (now (page .entry)) at quoteLength)) self)) ⌝ }
+    {
+        let standing = Quote::get(page, at);
+        let new = self.over(standing);
+        new.put(page, at);
     }
 }
 

@@ -15,6 +15,7 @@ use Rattle.review.proofs.Cases as Cases
 use Rattle.review.proofs.Shared as Shared
 use Rattle.review.proofs.Checks as Checks
 use Rattle.review.proofs.Bounds as Bounds
+use Rattle.review.proofs.Times as Times
 
 abbrev pub OnBook : List Row → Type 0
 OnBook [] = Unit {0}
@@ -48,3 +49,7 @@ checks = on-book Checks.table refl Checks.cases
 pub bounds : OnBook Bounds.table
 unfolding Bounds.table blocksAreBytes every beBytes
 bounds = on-book Bounds.table refl Bounds.cases
+
+pub times : OnBook Times.table
+unfolding Times.table blocksAreBytes every beBytes
+times = on-book Times.table refl Times.cases

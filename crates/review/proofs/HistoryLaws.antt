@@ -12,51 +12,59 @@ use Rattle.lists.specs.Lists.{collect, consOption, mapOption, member}
 use Rattle.lists.proofs.Tests.{clash, Cut, equal, apart, cut}
 use Rattle.lists.proofs.Members.{In, Distinct, in-collect, collect-in, same-length}
 use Rattle.quote.specs.declared.Quote.{Quote}
-use Rattle.quote.specs.Quote.{emptyQuote, withCondition}
+use Rattle.quote.specs.Quote.{emptyQuote, withCondition, withTimes}
 use Rattle.levels.specs.Levels.{Odd}
 use Rattle.message.specs.Message.{Part, roundPart, oddPart, makerPart, finraPart}
 use Rattle.entries.specs.Entries.{Maker, finraBest}
 use Rattle.page.specs.Page.{occupied}
-use Rattle.makers.specs.Makers.{findMaker}
-use Rattle.update.proofs.Model.{standing, marked}
-use Rattle.review.specs.Reviewer.{lastOf, conditionOf, standingQuote, makerOf, withName, namesOf, makersOf}
+use Rattle.makers.specs.Makers.{findMaker, makerOver}
+use Rattle.update.proofs.Model.{asMaker, standing, marked}
+use Rattle.review.specs.Runs.{runTime, latest}
+use Rattle.review.specs.Reviewer.{makerQuotes, conditionOf, standingMaker, makerOf, withName, namesOf, makersOf}
 use Rattle.review.proofs.CellLaws.{Sole, in-find, find-in, occupied-distinct}
+use Rattle.review.proofs.TimeLaws.{over-latest}
 use Rattle.entries.proofs.FinraLaws.{finra-same}
 
 -- ---- one more part
 
+-- a maker's newest quote stands, or frees its cell
+newest-stands : (m : ℕ) (q : Quote) (qs : List Quote) → mapOption (standingMaker m (λ c. c)) (latest (cond (emptyQuote q) [] (q ∷ qs))) ≡ standing m (withTimes (runTime (q ∷ qs)) q)
+unfolding standing emptyQuote withTimes withCondition
+newest-stands m q qs = go (emptyQuote q)
+  where
+    go : (u : Bool) → mapOption (standingMaker m (λ c. c)) (latest (cond u [] (q ∷ qs))) ≡ cond u none (some (asMaker m (withTimes (runTime (q ∷ qs)) q)))
+    go true = refl
+    go false = refl
+
 pub maker-maker : (t k : ℕ) (q : Quote) (h : List Part) (s m : ℕ)
-    → makerOf (makerPart t k q ∷ h) s m ≡ cond (eqb t s && eqb k m) (standing m q) (makerOf h s m)
-unfolding makerOf lastOf conditionOf standing withCondition
+    → makerOf (makerPart t k q ∷ h) s m ≡ cond (eqb t s && eqb k m) (standing m (makerOver (makerOf h s m) q)) (makerOf h s m)
+unfolding makerOf makerQuotes conditionOf
 maker-maker t k q h s m = go (eqb t s && eqb k m)
   where
+    qs : List Quote
+    qs = makerQuotes h s m
+
     go : (b : Bool)
-        → standingQuote m (λ c. cond b c (conditionOf h s m c)) (cond b (some q) (lastOf h s m))
-        ≡ cond b (standing m q) (standingQuote m (conditionOf h s m) (lastOf h s m))
-    go true = refl
+        → mapOption (standingMaker m (λ c. cond b c (conditionOf h s m c))) (latest (cond b (cond (emptyQuote q) [] (q ∷ qs)) qs))
+        ≡ cond b (standing m (makerOver (mapOption (standingMaker m (conditionOf h s m)) (latest qs)) q)) (mapOption (standingMaker m (conditionOf h s m)) (latest qs))
+    go true = newest-stands m q qs ∙ sym (ap (standing m) (over-latest m (conditionOf h s m) qs q))
     go false = refl
 
-mark-standing : (m c : ℕ) (d : ℕ → ℕ) (o : Option Quote) → standingQuote m (λ _. c) o ≡ mapOption (marked c) (standingQuote m d o)
+mark-standing : (m c : ℕ) (d : ℕ → ℕ) (o : Option Quote) → mapOption (standingMaker m (λ _. c)) o ≡ mapOption (marked c) (mapOption (standingMaker m d) o)
 unfolding withCondition
 mark-standing m c d none = refl
-mark-standing m c d (some q) = go (emptyQuote q)
-  where
-    go : (b : Bool)
-        → cond b none (some (record { name = m; quote = withCondition c q }))
-        ≡ mapOption (marked c) (cond b none (some (record { name = m; quote = withCondition (d (q .condition)) q })))
-    go true = refl
-    go false = refl
+mark-standing m c d (some q) = refl
 
 pub maker-finra : (c : ℕ) (h : List Part) (s m : ℕ) → makerOf (finraPart c ∷ h) s m ≡ mapOption (marked c) (makerOf h s m)
-unfolding makerOf lastOf conditionOf
-maker-finra c h s m = mark-standing m c (conditionOf h s m) (lastOf h s m)
+unfolding makerOf makerQuotes conditionOf
+maker-finra c h s m = mark-standing m c (conditionOf h s m) (latest (makerQuotes h s m))
 
 pub maker-round : (t k : ℕ) (q : Quote) (h : List Part) (s m : ℕ) → makerOf (roundPart t k q ∷ h) s m ≡ makerOf h s m
-unfolding makerOf lastOf conditionOf
+unfolding makerOf makerQuotes conditionOf
 maker-round t k q h s m = refl
 
 pub maker-odd : (t k : ℕ) (o : Odd) (h : List Part) (s m : ℕ) → makerOf (oddPart t k o ∷ h) s m ≡ makerOf h s m
-unfolding makerOf lastOf conditionOf
+unfolding makerOf makerQuotes conditionOf
 maker-odd t k o h s m = refl
 
 -- ---- which makers the history has
@@ -105,15 +113,15 @@ name-distinct n xs d = go (member xs n) refl
     go true e = d
     go false e = (λ y m p. clash (sym (in-member y xs m) ∙ ap (λ (k : ℕ). member xs k) p ∙ e), d)
 
-last-named : (h : List Part) (s m : ℕ) (q : Quote) → lastOf h s m ≡ some q → In m (namesOf h s)
-unfolding lastOf namesOf
+last-named : (h : List Part) (s m : ℕ) (q : Quote) → latest (makerQuotes h s m) ≡ some q → In m (namesOf h s)
+unfolding makerQuotes namesOf
 last-named [] s m q e = clash (cc)
 last-named (roundPart t k r ∷ h) s m q e = last-named h s m q e
 last-named (oddPart t k o ∷ h) s m q e = last-named h s m q e
 last-named (makerPart t k r ∷ h) s m q e = go (eqb t s) (cut k m) (last-named h s m q) e
   where
-    go : (b : Bool) → Cut k m → (lastOf h s m ≡ some q → In m (namesOf h s))
-        → cond (b && eqb k m) (some r) (lastOf h s m) ≡ some q
+    go : (b : Bool) → Cut k m → (latest (makerQuotes h s m) ≡ some q → In m (namesOf h s))
+        → latest (cond (b && eqb k m) (cond (emptyQuote r) [] (r ∷ makerQuotes h s m)) (makerQuotes h s m)) ≡ some q
         → In m (cond b (withName k (namesOf h s)) (namesOf h s))
     go true (equal u p) down e = rw (sym p) (name-new k (namesOf h s))
     go true (apart u p) down e = name-old k m (namesOf h s) (down (rw u at e))
@@ -133,21 +141,17 @@ names-distinct (makerPart t k r ∷ h) s = go (eqb t s) (names-distinct h s)
 names-distinct (finraPart c ∷ h) s = names-distinct h s
 
 -- a maker that stands has its name, and its name is among the history's
-standing-name : (m : ℕ) (c : ℕ → ℕ) (o : Option Quote) (x : Maker) → standingQuote m c o ≡ some x → (x .name ≡ m) × ((q : Quote) × (o ≡ some q))
+standing-name : (m : ℕ) (c : ℕ → ℕ) (o : Option Quote) (x : Maker) → mapOption (standingMaker m c) o ≡ some x → (x .name ≡ m) × ((q : Quote) × (o ≡ some q))
 standing-name m c none x e = clash (cc)
-standing-name m c (some q) x e = go (emptyQuote q) e
-  where
-    go : (b : Bool) → cond b none (some (record { name = m; quote = withCondition (c (q .condition)) q })) ≡ some x → (x .name ≡ m) × ((r : Quote) × (some q ≡ some r))
-    go true e = clash (cc)
-    go false e = (ap (λ (o : Option Maker). elim o [ none ↦ 0 | some y ↦ y .name ]) (sym e), (q, refl))
+standing-name m c (some q) x e = (ap (λ (o : Option Maker). elim o [ none ↦ 0 | some y ↦ y .name ]) (sym e), (q, refl))
 
 pub maker-name : (h : List Part) (s m : ℕ) (x : Maker) → makerOf h s m ≡ some x → x .name ≡ m
 unfolding makerOf
-maker-name h s m x e = standing-name m (conditionOf h s m) (lastOf h s m) x e .0
+maker-name h s m x e = standing-name m (conditionOf h s m) (latest (makerQuotes h s m)) x e .0
 
 maker-named : (h : List Part) (s m : ℕ) (x : Maker) → makerOf h s m ≡ some x → In m (namesOf h s)
 unfolding makerOf
-maker-named h s m x e = let r = standing-name m (conditionOf h s m) (lastOf h s m) x e .1 in last-named h s m (r .0) (r .1)
+maker-named h s m x e = let r = standing-name m (conditionOf h s m) (latest (makerQuotes h s m)) x e .1 in last-named h s m (r .0) (r .1)
 
 pub in-makers : (h : List Part) (s : ℕ) (x : Maker) → In x (makersOf h s) → makerOf h s (x .name) ≡ some x
 unfolding makersOf

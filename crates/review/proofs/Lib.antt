@@ -1,4 +1,5 @@
 pub mod CellLaws
+pub mod TimeLaws
 pub mod HistoryLaws
 pub mod SilentLaws
 pub mod Agree
@@ -25,6 +26,7 @@ pub mod Cases
 pub mod Shared
 pub mod Checks
 pub mod Bounds
+pub mod Times
 pub mod Openings
 pub mod Statements
 pub mod BookCases

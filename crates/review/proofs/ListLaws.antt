@@ -15,7 +15,8 @@ use Rattle.update.specs.Parts.{Reading}
 use Rattle.update.proofs.Model.{worked, blankReading, blanked}
 use Rattle.work.specs.Work.{Listed, isListed, listing, listedOf}
 use Rattle.review.proofs.CellLaws.{empty-find, empty-sole}
-use Rattle.review.proofs.SilentLaws.{Silent, silent-quote, silent-maker, silent-levels}
+use Rattle.review.proofs.TimeLaws.{held}
+use Rattle.review.proofs.SilentLaws.{Silent, silent-rounds, silent-maker, silent-levels}
 use Rattle.review.proofs.Agree.{Good, AllGood, Apart, Core}
 use Rattle.review.proofs.PartLaws.{map-listed}
 use Rattle.page.specs.Layout.{makerCount}
@@ -23,10 +24,10 @@ use Rattle.page.specs.Layout.{makerCount}
 -- ---- a symbol with nothing
 
 blank-good : (s k : ℕ) (h : List Part) → Silent s h → Good h (blankReading s k)
-unfolding blankReading worked
+unfolding blankReading worked held
 blank-good s k h q =
     record {
-      quotes = λ l. sym (silent-quote s l h q);
+      quotes = λ l. sym (ap held (silent-rounds s l h q));
       sole = empty-sole makerCount;
       size = length-replicate {A = Option Maker} makerCount none;
       makers = λ m. empty-find m makerCount ∙ sym (silent-maker s m h q);

@@ -10,15 +10,17 @@ use borrow.Author.Tests.{eq-eqb, ne-eqb}
 use Rattle.lists.specs.Lists.{mapOption, orElse}
 use Rattle.lists.proofs.Tests.{clash, Cut, equal, apart, cut}
 use Rattle.quote.specs.declared.Quote.{Quote}
+use Rattle.quote.specs.Quote.{quoteOver}
 use Rattle.levels.specs.Levels.{Odd, oddOn}
 use Rattle.message.specs.Message.{Part, roundPart, oddPart, makerPart, finraPart}
 use Rattle.entries.specs.Entries.{Maker}
-use Rattle.makers.specs.Makers.{findMaker}
+use Rattle.makers.specs.Makers.{findMaker, makerOver}
 use Rattle.update.specs.Parts.{Reading}
 use Rattle.update.proofs.Model.{standing, makerPut, marked, worked, roundReading, oddReading, makerReading, finraReading, onReading, partReading}
 use Rattle.work.specs.Work.{Listed, isListed, findReading, listing, listedOf}
-use Rattle.review.specs.Reviewer.{quoteOf, makerOf, levelsOf}
+use Rattle.review.specs.Reviewer.{roundsOf, makerOf, levelsOf}
 use Rattle.review.proofs.CellLaws.{Room, put-other, put-same, put-sole, put-length, mark-find, mark-sole, mark-length}
+use Rattle.review.proofs.TimeLaws.{held}
 use Rattle.review.proofs.HistoryLaws.{maker-maker, maker-finra, maker-round, maker-odd}
 use Rattle.review.proofs.SilentLaws.{names}
 use Rattle.review.proofs.Agree.{Good, AllGood, Apart, Core}
@@ -30,10 +32,10 @@ module _ (h : List Part) (r : Reading) (g : Good h r) where
   own = eq-eqb (r .symbol) (r .symbol) refl
 
   round-good : (l : ℕ) (q : Quote) → Good (roundPart (r .symbol) l q ∷ h) (roundReading l q r)
-  unfolding roundReading worked quoteOf levelsOf
+  unfolding roundReading worked roundsOf levelsOf held
   round-good l q =
       record {
-        quotes = λ k. rw own (go k (eqb l k));
+        quotes = λ k. rw own (go k (cut l k));
         sole = g .sole;
         size = g .size;
         makers = λ m. g .makers m ∙ sym (maker-round (r .symbol) l q h (r .symbol) m);
@@ -41,12 +43,12 @@ module _ (h : List Part) (r : Reading) (g : Good h r) where
         entries = refl;
       }
     where
-      go : (k : ℕ) (t : Bool) → cond t q (r .quotes k) ≡ cond t q (quoteOf h (r .symbol) k)
-      go k true = refl
-      go k false = g .quotes k
+      go : (k : ℕ) → Cut l k → cond (eqb l k) (quoteOver (r .quotes l) q) (r .quotes k) ≡ held (cond (eqb l k) (q ∷ roundsOf h (r .symbol) k) (roundsOf h (r .symbol) k))
+      go k (equal t e) = rw (t, e, g .quotes k)
+      go k (apart t e) = rw t (g .quotes k)
 
   odd-good : (l : ℕ) (o : Odd) → Good (oddPart (r .symbol) l o ∷ h) (oddReading l o r)
-  unfolding oddReading worked quoteOf levelsOf
+  unfolding oddReading worked roundsOf levelsOf
   odd-good l o =
       record {
         quotes = g .quotes;
@@ -64,23 +66,26 @@ module _ (h : List Part) (r : Reading) (g : Good h r) where
       go k (apart t e) = rw t (g .levels k)
 
   maker-good : (m : ℕ) (q : Quote) → Room m (r .cells) → Good (makerPart (r .symbol) m q ∷ h) (makerReading m q r)
-  unfolding makerReading worked quoteOf levelsOf
+  unfolding makerReading worked roundsOf levelsOf
   maker-good m q room =
       record {
         quotes = g .quotes;
-        sole = put-sole m q (r .cells) (g .sole);
-        size = put-length m q (r .cells) ∙ g .size;
+        sole = put-sole m new (r .cells) (g .sole);
+        size = put-length m new (r .cells) ∙ g .size;
         makers = λ k. rw (maker-maker (r .symbol) m q h (r .symbol) k, own) (go k (cut m k));
         levels = g .levels;
         entries = refl;
       }
     where
-      go : (k : ℕ) → Cut m k → findMaker k (makerPut m q (r .cells)) ≡ cond (eqb m k) (standing k q) (makerOf h (r .symbol) k)
-      go k (equal t e) = rw (t, sym e) (put-same m q (r .cells) (g .sole) room)
-      go k (apart t e) = rw t (put-other m q (r .cells) k e ∙ g .makers k)
+      new : Quote
+      new = makerOver (findMaker m (r .cells)) q
+
+      go : (k : ℕ) → Cut m k → findMaker k (makerPut m new (r .cells)) ≡ cond (eqb m k) (standing k (makerOver (makerOf h (r .symbol) k) q)) (makerOf h (r .symbol) k)
+      go k (equal t e) = rw (t, sym e) (put-same m new (r .cells) (g .sole) room ∙ ap (λ (o : Option Maker). standing m (makerOver o q)) (g .makers m))
+      go k (apart t e) = rw t (put-other m new (r .cells) k e ∙ g .makers k)
 
   finra-good : (c : ℕ) → Good (finraPart c ∷ h) (finraReading c r)
-  unfolding finraReading worked quoteOf levelsOf
+  unfolding finraReading worked roundsOf levelsOf
   finra-good c =
       record {
         quotes = g .quotes;
@@ -101,7 +106,7 @@ Of s (makerPart t m q) = t ≡ s
 Of s (finraPart c) = ⊥
 
 other-good : (p : Part) (s : ℕ) (h : List Part) (r : Reading) → Of s p → (r .symbol ≡ s → ⊥) → Good h r → Good (p ∷ h) r
-unfolding quoteOf levelsOf
+unfolding roundsOf levelsOf
 other-good (roundPart t k q) s h r e n g =
     record {
       quotes = λ l. rw (ne-eqb t (r .symbol) (λ z. n (sym z ∙ e))) (g .quotes l);

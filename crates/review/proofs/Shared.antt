@@ -63,11 +63,11 @@ table =
     ∷ [])
     -- D stands with its maker's time: behind N at 7, before it at 5, and at 6 by its letter; A is before D
     ∷ inDay
-    (openLine 8 65 ∷ onN 1 (plain 78 6 3 noOdd ∷ []) ∷ onD 1 (standing 7 3 65 ∷ []) ∷ look ∷ onD 2 (standing 5 3 65 ∷ []) ∷ look
-    ∷ onD 3 (standing 6 3 65 ∷ []) ∷ take 8 (block 1 (plain 65 6 3 noOdd ∷ [])) 180 ∷ look ∷ [])
+    (openLine 8 65 ∷ onN 1 (plain 78 6 3 noOdd ∷ []) ∷ onD 1 (standing 7 3 65 ∷ []) ∷ look ∷ onD 2 (standing 5 3 66 ∷ []) ∷ look
+    ∷ onD 3 (makerOf 7 82 0 0 0 0 66 ∷ []) ∷ onD 4 (standing 6 3 67 ∷ []) ∷ take 8 (block 1 (plain 65 6 3 noOdd ∷ [])) 180 ∷ look ∷ [])
     (only 0 ∷ accepted 2 1 3 ∷ accepted 2 1 12 ∷ shown (bid 82) (offer 82) (finra 65 10000000 3) (finra 65 10020000 2) nothing nothing
-    ∷ accepted 3 2 3 ∷ shown (national 68 82 10000000 3) (national 68 82 10020000 2) (finra 65 10000000 3) (finra 65 10020000 2) nothing nothing
-    ∷ accepted 4 3 0 ∷ accepted 2 1 3 ∷ shown (national 65 82 10000000 3) (national 65 82 10020000 2) (finra 65 10000000 3) (finra 65 10020000 2) nothing nothing ∷ [])
+    ∷ accepted 3 2 15 ∷ shown (national 68 82 10000000 3) (national 68 82 10020000 2) (finra 66 10000000 3) (finra 66 10020000 2) nothing nothing
+    ∷ accepted 4 3 15 ∷ accepted 5 4 15 ∷ accepted 2 1 3 ∷ shown (national 65 82 10000000 3) (national 65 82 10020000 2) (finra 67 10000000 3) (finra 67 10020000 2) nothing nothing ∷ [])
     -- makers: lower name, earlier time, larger size, better price; each side by itself
     ∷ inDay
     (onD 1 (standing 7 3 67 ∷ []) ∷ onD 2 (standing 7 3 66 ∷ []) ∷ onD 3 (standing 6 3 68 ∷ []) ∷ onD 4 (standing 8 4 69 ∷ []) ∷ look

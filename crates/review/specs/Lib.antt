@@ -1,3 +1,4 @@
+pub mod Runs
 pub mod Reviewer
 pub mod Lists
 pub mod Frame

@@ -25,6 +25,7 @@ use Rattle.line.specs.Line.{done, advanced}
 use Rattle.calls.specs.Call.{Call, make, add, openLine, startDay, endDay, take, read, numberOf, letterOf, Answer, answerOf}
 use Rattle.work.specs.Work.{Listed, isListed, lotOf, flagsOf}
 use Rattle.told.specs.declared.Told.{Told}
+use Rattle.review.specs.Runs.{latest}
 
 -- ---- what the history says
 
@@ -43,21 +44,25 @@ unfoldable pub parts : List (List ℕ) → List Part
 parts [] = []
 parts (m ∷ h) = partsBy m (kindOf m) ++ parts h
 
--- "A letter's quote is its last round part naming the symbol"
-unfoldable pub quoteOf : List Part → ℕ → ℕ → Quote
-quoteOf [] s l = noQuote
-quoteOf (roundPart t k q ∷ h) s l = cond (eqb t s && eqb k l) q (quoteOf h s l)
-quoteOf (oddPart t k o ∷ h) s l = quoteOf h s l
-quoteOf (makerPart t m q ∷ h) s l = quoteOf h s l
-quoteOf (finraPart c ∷ h) s l = quoteOf h s l
+-- a letter's round parts naming the symbol, the newest first
+unfoldable pub roundsOf : List Part → ℕ → ℕ → List Quote
+roundsOf [] s l = []
+roundsOf (roundPart t k q ∷ h) s l = cond (eqb t s && eqb k l) (q ∷ roundsOf h s l) (roundsOf h s l)
+roundsOf (oddPart t k o ∷ h) s l = roundsOf h s l
+roundsOf (makerPart t m q ∷ h) s l = roundsOf h s l
+roundsOf (finraPart c ∷ h) s l = roundsOf h s l
 
--- "A maker's is its last Q U naming it"
-unfoldable pub lastOf : List Part → ℕ → ℕ → Option Quote
-lastOf [] s m = none
-lastOf (roundPart t k q ∷ h) s m = lastOf h s m
-lastOf (oddPart t k o ∷ h) s m = lastOf h s m
-lastOf (makerPart t k q ∷ h) s m = cond (eqb t s && eqb k m) (some q) (lastOf h s m)
-lastOf (finraPart c ∷ h) s m = lastOf h s m
+-- "A letter's quote is its last round part naming the symbol", its times by T-02
+unfoldable pub quoteOf : List Part → ℕ → ℕ → Quote
+quoteOf h s l = orElse (latest (roundsOf h s l)) noQuote
+
+-- a maker's Q U naming the symbol since its cell was last freed, the newest first: "a freed maker cell forgets its times"
+unfoldable pub makerQuotes : List Part → ℕ → ℕ → List Quote
+makerQuotes [] s m = []
+makerQuotes (roundPart t k q ∷ h) s m = makerQuotes h s m
+makerQuotes (oddPart t k o ∷ h) s m = makerQuotes h s m
+makerQuotes (makerPart t k q ∷ h) s m = cond (eqb t s && eqb k m) (cond (emptyQuote q) [] (q ∷ makerQuotes h s m)) (makerQuotes h s m)
+makerQuotes (finraPart c ∷ h) s m = makerQuotes h s m
 
 -- "the last FINRA Close or Open after it sets condition L or R"; c if there is none after it
 unfoldable pub conditionOf : List Part → ℕ → ℕ → ℕ → ℕ
@@ -67,13 +72,12 @@ conditionOf (oddPart t k o ∷ h) s m c = conditionOf h s m c
 conditionOf (makerPart t k q ∷ h) s m c = cond (eqb t s && eqb k m) c (conditionOf h s m c)
 conditionOf (finraPart d ∷ h) s m c = d
 
--- "none if both sides are 0 and 0"
-abbrev pub standingQuote : ℕ → (ℕ → ℕ) → Option Quote → Option Maker
-standingQuote m c none = none
-standingQuote m c (some q) = cond (emptyQuote q) none (some (record { name = m; quote = withCondition (c (q .condition)) q }))
+abbrev pub standingMaker : ℕ → (ℕ → ℕ) → Quote → Maker
+standingMaker m c q = record { name = m; quote = withCondition (c (q .condition)) q }
 
+-- "A maker's is its last Q U naming it, none if both sides are 0 and 0", its times by T-02
 unfoldable pub makerOf : List Part → ℕ → ℕ → Option Maker
-makerOf h s m = standingQuote m (conditionOf h s m) (lastOf h s m)
+makerOf h s m = mapOption (standingMaker m (conditionOf h s m)) (latest (makerQuotes h s m))
 
 abbrev pub withName : ℕ → List ℕ → List ℕ
 withName n xs = cond (member xs n) xs (n ∷ xs)

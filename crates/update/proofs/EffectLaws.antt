@@ -14,7 +14,7 @@ use Rattle.lists.specs.Lists.{upper, orElse}
 use Rattle.lists.specs.declared.Found.the-variants.{At, Nothing}
 use Rattle.lists.proofs.Tests.{Cut, equal, apart, cut, upper-low}
 use Rattle.quote.specs.declared.Quote.{Quote}
-use Rattle.quote.specs.Quote.{emptyQuote, quoteBytes, quoteLength}
+use Rattle.quote.specs.Quote.{emptyQuote, quoteOver, quoteIn, quoteBytes, quoteLength}
 use Rattle.levels.specs.Levels.{Standing, Odd, oddOn, idleOdd, oddIn, levelsIn, sideLength, levelsLength, itemLength}
 use Rattle.levels.specs.code.Cells.{joinedLevels, judgedNumber}
 use Rattle.oddpart.specs.code.Part.{oddAnswer, sidesOf, oddAnswerWith}
@@ -24,17 +24,18 @@ use Rattle.levels.specs.declared.Judged.the-variants.{Pass, Refused}
 use Rattle.oddpart.proofs.AnswerLaws.{answer-pass, refused-nothing, refused-code, odd-idle, idle-in, write-both}
 use Rattle.entries.specs.Publication.{publication, changeFlags, publicationLength}
 use Rattle.page.proofs.FrameLaws.{refreshed-part}
-use Rattle.page.specs.Page.{levelsFor, pageEntries, refreshed}
+use Rattle.page.specs.Page.{quotesIn, levelsFor, pageEntries, refreshed}
 use Rattle.message.specs.Message.{makerCode}
 use Rattle.makers.specs.Makers.{putMaker, makerPlace, freePlace, cellFor, markCell, markCells}
 use Rattle.update.specs.Parts.{readingOf, knownBy, putRound, roundOn, putLevels, putOdd, oddOnPage, makerOn, finraOn}
 use Rattle.update.specs.code.Update.{Updated, rejected, flagged, oddCodeOn, oddTaken, roundLotOn, oddLotOn, makerQuoteOn}
 use Rattle.update.proofs.EntryLaws.{kept-lot}
 use Rattle.update.proofs.CellLaws.{mark-length}
-use Rattle.update.proofs.MakerLaws.{maker-hit, free-hit, maker-code}
-use Rattle.update.proofs.SlotLaws.{levels-here, put-round-levels, put-round-kept, round-stands, odd-stands}
+use Rattle.update.proofs.MakerLaws.{maker-hit, free-hit, maker-code, over, over-known, over-new}
+use Rattle.update.proofs.SlotLaws.{quote-here, levels-here, put-round-levels, put-round-kept, round-stands, odd-stands}
 use Rattle.update.proofs.RefreshLaws.{one-refresh}
 use Rattle.field.specs.Ascii.{A, Z, space}
+use Rattle.text.specs.Form.{nameLength}
 use Rattle.page.specs.Layout.{entriesAt, slotsAt, slotLength, cellLength, makerCount, pageLength, pageLot, keptEntries, slotAt, cellAt}
 
 -- a write behind the entries leaves them
@@ -105,27 +106,31 @@ module _ (p : List ℕ) (l : ℕ) (o : Odd) (a : OddAnswer) (e : a ≡ oddAnswer
 module _ (p : List ℕ) (w : length p ≡ pageLength) (l : ℕ) (u : upper l ≡ true) (o : Odd) where
   -- Q K: the round part is written, then the odd part, and the entries are worked out once
   module _ (q : Quote) where
+    abbrev new : Quote
+    new = quoteOver (quotesIn p l) q
+
     abbrev x : List ℕ
-    x = putRound l q p
+    x = putRound l new p
 
     size : length x ≡ pageLength
-    size = put-round-kept p w l u q .size
+    size = put-round-kept p w l u new .size
 
     -- the round part leaves what the odd part's code is worked out from
     code-same : oddCodeOn l o x ≡ oddCodeOn l o p
-    code-same = rw (kept-lot p x (put-round-kept p w l u q), ap (λ (v : ℕ → Standing). v l) (put-round-levels p w l u q))
+    code-same = rw (kept-lot p x (put-round-kept p w l u new), ap (λ (v : ℕ → Standing). v l) (put-round-levels p w l u new))
 
     once : (code : ℕ) (t : Bool) → flagged code (cond t (putOdd l o x) x) (refreshed (cond t (putOdd l o x) x)) ≡ flagged code p (cond t (oddOnPage l o (roundOn l q p)) (roundOn l q p))
     unfolding oddOnPage roundOn
     once code true =
-        flagged-from code p (putOdd l o x) (refreshed (putOdd l o x)) (odd-stands x size l u o ∙ round-stands p w l u q) ∙ ap (flagged code p) (sym (one-refresh x size l u o))
-    once code false = flagged-from code p x (refreshed x) (round-stands p w l u q)
+        flagged-from code p (putOdd l o x) (refreshed (putOdd l o x)) (odd-stands x size l u o ∙ round-stands p w l u new) ∙ ap (flagged code p) (sym (one-refresh x size l u o))
+    once code false = flagged-from code p x (refreshed x) (round-stands p w l u new)
 
-    pub round-taken : (at : ℕ) (p′ : List ℕ) (code : ℕ) (p″ : List ℕ) (r : Updated) → at ≡ slotAt l → p′ ≡ splice p at (quoteBytes q)
+    pub round-taken : (at : ℕ) (p′ : List ℕ) (code : ℕ) (p″ : List ℕ) (r : Updated) → at ≡ slotAt l → p′ ≡ splice p at (quoteBytes (quoteOver (quoteIn (part p at quoteLength)) q))
         → code ≡ oddCodeOn l o p′ → p″ ≡ oddTaken l o p′ → r ≡ flagged code p″ (refreshed p″) → r ≡ roundLotOn l 0 q o p
     unfolding roundLotOn putRound
     round-taken at p′ code p″ r h d c g f =
-        let e : p′ ≡ x = d ∙ ap (λ (k : ℕ). splice p k (quoteBytes q)) h in
+        let e : p′ ≡ x =
+        d ∙ ap (λ (k : ℕ). splice p k (quoteBytes (quoteOver (quoteIn (part p k quoteLength)) q))) h ∙ ap (λ (v : Quote). splice p (slotAt l) (quoteBytes (quoteOver v q))) (sym (quote-here p l u)) in
         let k : code ≡ oddCodeOn l o p = c ∙ ap (oddCodeOn l o) e ∙ code-same in
         let y : p″ ≡ cond (eqb (oddCodeOn l o p) 0) (putOdd l o x) x = g ∙ ap (oddTaken l o) e ∙ rw code-same in
         f ∙ (λ i. flagged (k i) (y i) (refreshed (y i))) ∙ once (oddCodeOn l o p) (eqb (oddCodeOn l o p) 0)
@@ -153,27 +158,29 @@ module _ (p : List ℕ) (w : length p ≡ pageLength) (m : ℕ) (q : Quote) wher
   cell-stands k new h = entries-stand p (cellAt k) new w (omega arith) (omega arith)
 
   -- a page with the maker's quote in cell k, its entries worked out
-  written : (k : ℕ) (p′ : List ℕ) (r : Updated) → k < makerCount → p′ ≡ splice p (cellAt k) (cellFor m q) → putMaker m q p ≡ splice p (cellAt k) (cellFor m q)
+  written : (k : ℕ) (v : Quote) (p′ : List ℕ) (r : Updated) → k < makerCount → p′ ≡ splice p (cellAt k) (cellFor m v) → putMaker m (over m q p) p ≡ splice p (cellAt k) (cellFor m v)
       → makerCode (knownBy (readingOf p)) m ≡ 0 → r ≡ flagged 0 p′ (refreshed p′) → r ≡ makerQuoteOn 0 m q p
   unfolding makerQuoteOn makerOn
-  written k p′ r h d t c f =
+  written k v p′ r h d t c f =
       f ∙ ap (λ (z : List ℕ). flagged 0 z (refreshed z)) d
-      ∙ flagged-from 0 p (splice p (cellAt k) (cellFor m q)) (refreshed (splice p (cellAt k) (cellFor m q))) (cell-stands k (cellFor m q) h)
+      ∙ flagged-from 0 p (splice p (cellAt k) (cellFor m v)) (refreshed (splice p (cellAt k) (cellFor m v))) (cell-stands k (cellFor m v) h)
       ∙ rw (c, t)
 
-  pub maker-known : (k : ℕ) (p′ : List ℕ) (r : Updated) → makerPlace p m ≡ At k → p′ ≡ splice p (cellAt k) (cellFor m q) → r ≡ flagged 0 p′ (refreshed p′) → r ≡ makerQuoteOn 0 m q p
+  pub maker-known : (k : ℕ) (p′ : List ℕ) (r : Updated) → makerPlace p m ≡ At k → p′ ≡ splice p (cellAt k) (cellFor m (quoteOver (quoteIn (part p (cellAt k + nameLength) quoteLength)) q))
+      → r ≡ flagged 0 p′ (refreshed p′) → r ≡ makerQuoteOn 0 m q p
   unfolding putMaker
-  maker-known k p′ r e d f = written k p′ r (maker-hit p m k e .0) d (rw e) (maker-code p m ∙ rw e) f
+  maker-known k p′ r e d f =
+      written k (quoteOver (quoteIn (part p (cellAt k + nameLength) quoteLength)) q) p′ r (maker-hit p m k e .0) d (rw (over-known m q p k e, e)) (maker-code p m ∙ rw e) f
 
   pub maker-new : (k : ℕ) (p′ : List ℕ) (r : Updated) → makerPlace p m ≡ Nothing → freePlace p ≡ At k → emptyQuote q ≡ false
       → p′ ≡ splice p (cellAt k) (cellFor m q) → r ≡ flagged 0 p′ (refreshed p′) → r ≡ makerQuoteOn 0 m q p
   unfolding putMaker
-  maker-new k p′ r e g n d f = written k p′ r (free-hit p k g .0) d (rw (e, n, g)) (maker-code p m ∙ rw (e, g)) f
+  maker-new k p′ r e g n d f = written k q p′ r (free-hit p k g .0) d (rw (over-new m q p e, e, n, g)) (maker-code p m ∙ rw (e, g)) f
 
   -- an empty quote of a maker without a cell
   pub maker-nothing : (k : ℕ) (r : Updated) → makerPlace p m ≡ Nothing → freePlace p ≡ At k → emptyQuote q ≡ true → r ≡ flagged 0 p (refreshed p) → r ≡ makerQuoteOn 0 m q p
   unfolding makerQuoteOn makerOn putMaker
-  maker-nothing k r e g n f = f ∙ rw (maker-code p m, e, g, n)
+  maker-nothing k r e g n f = f ∙ rw (maker-code p m, over-new m q p e, e, g, n)
 
   -- 49: sixteen stand
   pub maker-full : makerPlace p m ≡ Nothing → freePlace p ≡ Nothing → _≡_ {A = Updated} (rejected 49 p) (makerQuoteOn 0 m q p)

@@ -3,13 +3,13 @@
 use Prim.Native.Nat.{ℕ, zero, suc, _+_, _*_, _^_, _≤_, _<_}
 use mathlib.Core.Path.{_≡_, refl, sym, ap, _∙_}
 use mathlib.Core.Bool.{Bool, true, false, not, cond}
-use mathlib.Core.List.{List, map}
+use mathlib.Core.List.{List, [], _∷_, map}
 use mathlib.Core.Option.{Option, none, some}
 use native.Mathlib.Omega.{arith}
-use lib.Dec.{ltb}
+use lib.Dec.{ltb, lit≤}
 use lib.ListN.{length}
-use Rattle.field.specs.Field.{Bytes, part, splice}
-use Rattle.field.proofs.Laws.{bytes-part, bytes-splice, part-before}
+use Rattle.field.specs.Field.{Bytes, part, field, splice}
+use Rattle.field.proofs.Laws.{length-part, bytes-part, bytes-splice, part-part, part-before}
 use Rattle.lists.specs.Lists.{range, isSome, mapOption}
 use Rattle.lists.proofs.Ranges.{map-range}
 use Rattle.lists.specs.declared.Found.{Found}
@@ -17,11 +17,13 @@ use Rattle.lists.specs.declared.Found.the-variants.{At, Nothing}
 use Rattle.lists.proofs.Searches.{Hit, first-hit}
 use Rattle.lists.proofs.Tests.{clash, upper-low}
 use Rattle.quote.specs.declared.Quote.{Quote}
-use Rattle.quote.specs.Quote.{emptyQuote, QuoteFits, quoteLength}
+use Rattle.quote.specs.Quote.{emptyQuote, quoteOver, quoteIn, QuoteFits, quoteLength}
+use Rattle.quote.proofs.QuoteLaws.{quote-fits}
+use Rattle.quote.proofs.OverLaws.{over-condition, over-fits}
 use Rattle.message.specs.Message.{makerCode}
 use Rattle.entries.specs.Entries.{Maker}
 use Rattle.page.specs.Page.{quotesIn, levelsFor, makerIn, makersIn, occupied, refreshed}
-use Rattle.makers.specs.Makers.{named, findMaker, cellOf, makerPlace, freePlace, cellFor, putAt, putMakerBy, putMaker, markCell, markCells}
+use Rattle.makers.specs.Makers.{named, findMaker, cellOf, makerPlace, freePlace, cellFor, putAt, putMakerBy, putMaker, makerOver, markCell, markCells}
 use Rattle.update.specs.Parts.{readingOf, makerOn, finraOn, knownBy}
 use Rattle.update.proofs.Model.{setAt, asMaker, standing, rewrite, allocate, makerPut, marked, markAll, makerReading, finraReading}
 use Rattle.update.proofs.TableLaws.{cell-same, cell-other, length-cell, eachCell, Each, each-cell, map-set, map-map-range}
@@ -29,6 +31,9 @@ use Rattle.update.proofs.SearchLaws.{foundBy, isAt, find-place, rewrite
 use Rattle.update.proofs.CellLaws.{Stands, length-for, bytes-for, cell-for, mark-length, mark-bytes, mark-cell}
 use Rattle.update.proofs.EntryLaws.{quotes-same, levels-same, Kept, kept-none, kept-then, kept-splice, refreshed-kept, reads-by}
 use Rattle.levels.specs.Levels.{levelsLength}
+use Rattle.field.specs.Ascii.{L, R}
+use Rattle.lists.specs.Lists.{member}
+use Rattle.text.specs.Form.{nameLength}
 use Rattle.page.specs.Layout.{cellsAt, cellLength, makerCount, pageLength, slotAt, cellAt}
 
 -- ---- the searches
@@ -129,10 +134,6 @@ module _ (m : ℕ) (q : Quote) (p : List ℕ) (w : length p ≡ pageLength) wher
   put-maker-front : (at n : ℕ) → at + n ≤ cellsAt → part (putMaker m q p) at n ≡ part p at n
   put-maker-front at n h = put-elim (λ x. part x at n ≡ part p at n) refl (λ k b. cell-front p w k b (cellFor m q) (length-for m q) at n h)
 
-  pub maker-kept : Kept p (makerOn m q p)
-  unfolding makerOn
-  maker-kept = kept-then p (putMaker m q p) (refreshed (putMaker m q p)) put-maker-kept (refreshed-kept (putMaker m q p) (put-maker-kept .size))
-
   rewrite-at : (k : ℕ) (c : Option Maker) → makerPlace p m ≡ At k → rewrite m c (makersIn p) ≡ map (setAt k c (cellOf p)) (range makerCount 0)
   unfolding makersIn makerPlace
   rewrite-at k c e = rewrite-place (cellOf p) makerCount m c ∙ ap (foundBy (λ j. map (setAt j c (cellOf p)) (range makerCount 0)) (map (cellOf p) (range makerCount 0))) e
@@ -160,12 +161,76 @@ module _ (m : ℕ) (q : Quote) (p : List ℕ) (w : length p ≡ pageLength) wher
         found (At k) e = one k (maker-hit p m k e .0) ∙ sym (rewrite-at k (standing m q) e)
         found Nothing e = free (emptyQuote q) refl (freePlace p) refl
 
-    -- a maker's quote goes to its cell, or to a free one; both sides 0 and 0 free it
+-- ---- over the maker's quote that stands
+
+-- the quote of a cell that stands
+over-named : (b : List ℕ) (m : ℕ) (q : Quote) → named m (makerIn b) ≡ true → makerOver (makerIn b) q ≡ quoteOver (quoteIn (part b nameLength quoteLength)) q
+unfolding makerIn
+over-named b m q = go (member (L ∷ R ∷ []) (field b nameLength 1))
+  where
+    here : Maker
+    here = record { name = field b 0 nameLength; quote = quoteIn (part b nameLength quoteLength) }
+
+    go : (t : Bool) → named m (cond t (some here) none) ≡ true → makerOver (cond t (some here) none) q ≡ quoteOver (quoteIn (part b nameLength quoteLength)) q
+    go true e = refl
+    go false e = clash (sym e)
+
+over-cell-fits : (b : List ℕ) → length b ≡ cellLength → Bytes b → (q : Quote) → QuoteFits q → QuoteFits (makerOver (makerIn b) q)
+unfolding makerIn
+over-cell-fits b w k q f = go (member (L ∷ R ∷ []) (field b nameLength 1))
+  where
+    here : Maker
+    here = record { name = field b 0 nameLength; quote = quoteIn (part b nameLength quoteLength) }
+
+    go : (t : Bool) → QuoteFits (makerOver (cond t (some here) none) q)
+    go true = over-fits (here .quote) q (quote-fits (part b nameLength quoteLength) (length-part b nameLength quoteLength (omega arith)) (bytes-part b nameLength quoteLength k)) f
+    go false = f
+
+over-stands : (o : Option Maker) (q : Quote) → makerOver o q .condition ≡ q .condition
+over-stands none q = refl
+over-stands (some x) q = over-condition (x .quote) q
+
+module _ (m : ℕ) (q : Quote) (p : List ℕ) where
+  abbrev pub over : Quote
+  over = makerOver (findMaker m (makersIn p)) q
+
+  -- a maker that has a cell; one that has none
+  pub over-known : (k : ℕ) → makerPlace p m ≡ At k → over ≡ quoteOver (quoteIn (part p (cellAt k + nameLength) quoteLength)) q
+  over-known k e =
+      ap (λ (o : Option Maker). makerOver o q) (find-maker p m ∙ ap (foundBy (cellOf p) none) e)
+      ∙ over-named (part p (cellAt k) cellLength) m q (maker-hit p m k e .1)
+      ∙ ap (λ (b : List ℕ). quoteOver (quoteIn b) q) (part-part p (cellAt k) cellLength nameLength quoteLength (lit≤ tt))
+
+  pub over-new : makerPlace p m ≡ Nothing → over ≡ q
+  over-new e = ap (λ (o : Option Maker). makerOver o q) (find-maker p m ∙ ap (foundBy (cellOf p) none) e)
+
+module _ (m : ℕ) (q : Quote) (p : List ℕ) (w : length p ≡ pageLength) where
+  pub maker-kept : Kept p (makerOn m q p)
+  unfolding makerOn
+  maker-kept =
+      let k : Kept p (putMaker m (over m q p) p) = put-maker-kept m (over m q p) p w in
+      kept-then p (putMaker m (over m q p) p) (refreshed (putMaker m (over m q p) p)) k (refreshed-kept (putMaker m (over m q p) p) (k .size))
+
+  module _ (b : Bytes p) (name : m < 256 ^ 4) (fits : QuoteFits q) (stands : Stands (q .condition)) where
+    over-fit : QuoteFits (over m q p)
+    over-fit = rw (find-maker p m) (go (makerPlace p m) refl)
+      where
+        go : (r : Found) → makerPlace p m ≡ r → QuoteFits (makerOver (foundBy (cellOf p) none r) q)
+        go (At k) e =
+            let h : k < makerCount = maker-hit p m k e .0 in
+            over-cell-fits (part p (cellAt k) cellLength) (length-part p (cellAt k) cellLength (omega arith)) (bytes-part p (cellAt k) cellLength b) q fits
+        go Nothing e = fits
+
+    over-stand : Stands (over m q p .condition)
+    over-stand = rw (over-stands (findMaker m (makersIn p)) q) stands
+
+    -- a maker's quote goes to its cell, or to a free one; both sides 0 and 0 free it; a resent side keeps its time
     pub maker-reads : readingOf (makerOn m q p) ≡ makerReading m q (readingOf p)
     unfolding makerOn makerReading readingOf
     maker-reads =
-        reads-by p (putMaker m q p) (quotesIn p) (makerPut m q (makersIn p)) (levelsFor p) put-maker-kept
-        (cells-quotes p (putMaker m q p) put-maker-front) put-makers (cells-levels p (putMaker m q p) put-maker-front)
+        let x : List ℕ = putMaker m (over m q p) p in
+        reads-by p x (quotesIn p) (makerPut m (over m q p) (makersIn p)) (levelsFor p) (put-maker-kept m (over m q p) p w)
+        (cells-quotes p x (put-maker-front m (over m q p) p w)) (put-makers m (over m q p) p w name over-fit over-stand) (cells-levels p x (put-maker-front m (over m q p) p w))
 
 -- ---- FINRA Close and Open
 

@@ -8,13 +8,13 @@ use lib.Dec.{eqb}
 use lib.ListN.{replicate}
 use Rattle.lists.specs.Lists.{isSome, orElse, mapOption}
 use Rattle.quote.specs.declared.Quote.{Quote}
-use Rattle.quote.specs.Quote.{noQuote, emptyQuote, withCondition}
+use Rattle.quote.specs.Quote.{noQuote, emptyQuote, quoteOver, withCondition}
 use Rattle.levels.specs.Levels.{Standing, noLevels, Odd, oddOn}
 use Rattle.message.specs.Message.{Part, roundPart, oddPart, makerPart, finraPart}
 use Rattle.entries.specs.Entries.{Maker, entriesOf}
 use Rattle.entries.specs.Publication.{publication}
 use Rattle.page.specs.Page.{occupied}
-use Rattle.makers.specs.Makers.{named, findMaker}
+use Rattle.makers.specs.Makers.{named, findMaker, makerOver}
 use Rattle.update.specs.Parts.{Reading}
 use Rattle.page.specs.Layout.{makerCount}
 
@@ -65,14 +65,14 @@ abbrev pub blanked : Reading → Reading
 blanked r = blankReading (r .symbol) (r .lot)
 
 unfoldable pub roundReading : ℕ → Quote → Reading → Reading
-roundReading l q r = worked (r .symbol) (r .lot) (setAt l q (r .quotes)) (r .cells) (r .levels)
+roundReading l q r = worked (r .symbol) (r .lot) (setAt l (quoteOver (r .quotes l) q) (r .quotes)) (r .cells) (r .levels)
 
 unfoldable pub oddReading : ℕ → Odd → Reading → Reading
 oddReading l o r =
     worked (r .symbol) (r .lot) (r .quotes) (r .cells) (setAt l (orElse (oddOn o (r .levels l)) (r .levels l)) (r .levels))
 
 unfoldable pub makerReading : ℕ → Quote → Reading → Reading
-makerReading m q r = worked (r .symbol) (r .lot) (r .quotes) (makerPut m q (r .cells)) (r .levels)
+makerReading m q r = worked (r .symbol) (r .lot) (r .quotes) (makerPut m (makerOver (findMaker m (r .cells)) q) (r .cells)) (r .levels)
 
 unfoldable pub finraReading : ℕ → Reading → Reading
 finraReading c r = worked (r .symbol) (r .lot) (r .quotes) (markAll c (r .cells)) (r .levels)

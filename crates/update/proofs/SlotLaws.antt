@@ -13,8 +13,9 @@ use Rattle.field.proofs.Laws.{length-part, bytes-part, part-put, part-before, p
 use Rattle.lists.specs.Lists.{upper, orElse}
 use Rattle.lists.proofs.Tests.{clash, Cut, equal, apart, cut, upper-low}
 use Rattle.quote.specs.declared.Quote.{Quote}
-use Rattle.quote.specs.Quote.{noQuote, quoteIn, quoteBytes, QuoteFits, quoteLength}
-use Rattle.quote.proofs.QuoteLaws.{length-quote, quote-back, bytes-quote}
+use Rattle.quote.specs.Quote.{noQuote, quoteOver, quoteIn, quoteBytes, QuoteFits, quoteLength}
+use Rattle.quote.proofs.QuoteLaws.{length-quote, quote-back, quote-fits, bytes-quote}
+use Rattle.quote.proofs.OverLaws.{over-fits}
 use Rattle.levels.specs.Levels.{Standing, noLevels, Odd, oddOn, idleOdd, levelsIn, levelsBytes, levelsLength}
 use Rattle.levels.proofs.LevelLaws.{LevelsGood, OddGood, none-good, odd-good-levels}
 use Rattle.levels.proofs.SideLaws.{length-levels, bytes-levels, levels-back, levels-good}
@@ -127,14 +128,28 @@ module _ (p : List ℕ) (w : length p ≡ pageLength) (l : ℕ) (u : upper l ≡
   unfolding putRound
   put-round-makers = slot-makers p w l u (slotAt l) (quoteBytes q) round-low round-high
 
+-- in a page of bytes a letter's quote fits
+quotes-fit : (p : List ℕ) → length p ≡ pageLength → Bytes p → (l : ℕ) → upper l ≡ true → QuoteFits (quotesIn p l)
+quotes-fit p w b l u =
+    rw (quote-here p l u)
+    (quote-fits (part p (slotAt l) quoteLength) (length-part p (slotAt l) quoteLength (omega (arith, upper-low l u .0, upper-low l u .1))) (bytes-part p (slotAt l) quoteLength b))
+
+module _ (p : List ℕ) (w : length p ≡ pageLength) (l : ℕ) (u : upper l ≡ true) (q : Quote) where
+  abbrev over : Quote
+  over = quoteOver (quotesIn p l) q
+
   pub round-kept : Kept p (roundOn l q p)
   unfolding roundOn
-  round-kept = kept-then p (putRound l q p) (refreshed (putRound l q p)) put-round-kept (refreshed-kept (putRound l q p) (put-round-kept .size))
+  round-kept =
+      let k : Kept p (putRound l over p) = put-round-kept p w l u over in
+      kept-then p (putRound l over p) (refreshed (putRound l over p)) k (refreshed-kept (putRound l over p) (k .size))
 
-  -- a round part replaces its letter's quote
-  pub round-reads : QuoteFits q → readingOf (roundOn l q p) ≡ roundReading l q (readingOf p)
+  -- a round part replaces its letter's quote; a resent side keeps its time
+  pub round-reads : Bytes p → QuoteFits q → readingOf (roundOn l q p) ≡ roundReading l q (readingOf p)
   unfolding roundOn roundReading readingOf
-  round-reads f = reads-by p (putRound l q p) (setAt l q (quotesIn p)) (makersIn p) (levelsFor p) put-round-kept (put-round-quotes f) put-round-makers put-round-levels
+  round-reads b f =
+      reads-by p (putRound l over p) (setAt l over (quotesIn p)) (makersIn p) (levelsFor p) (put-round-kept p w l u over)
+      (put-round-quotes p w l u over (over-fits (quotesIn p l) q (quotes-fit p w b l u) f)) (put-round-makers p w l u over) (put-round-levels p w l u over)
 
 -- ---- an odd part
 

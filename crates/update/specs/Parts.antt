@@ -9,14 +9,14 @@ use lib.ListN.{length, replicate}
 use Rattle.field.specs.Field.{part, splice}
 use Rattle.lists.specs.Lists.{isSome, orElse}
 use Rattle.quote.specs.declared.Quote.{Quote}
-use Rattle.quote.specs.Quote.{quoteBytes, quoteLength}
+use Rattle.quote.specs.Quote.{quoteOver, quoteBytes, quoteLength}
 use Rattle.levels.specs.Levels.{Standing, noLevels, Odd, oddOn, idleOdd, levelsBytes}
 use Rattle.message.specs.Message.{Known}
 use Rattle.entries.specs.Entries.{Maker}
 use Rattle.entries.specs.Publication.{noEntries}
 use Rattle.page.specs.Page.{quotesIn, levelsFor, makersIn, occupied, refreshed}
 use Rattle.page.specs.Layout.{headLength, makerCount, quotesLength, pageSymbol, pageLot, keptEntries, slotAt}
-use Rattle.makers.specs.Makers.{findMaker, putMaker, markCells}
+use Rattle.makers.specs.Makers.{findMaker, makerOver, putMaker, markCells}
 
 -- ---- a page as what it says
 
@@ -46,8 +46,9 @@ readingOf p =
 unfoldable pub putRound : ℕ → Quote → List ℕ → List ℕ
 putRound l q p = splice p (slotAt l) (quoteBytes q)
 
+-- its times by T-02
 unfoldable pub roundOn : ℕ → Quote → List ℕ → List ℕ
-roundOn l q p = refreshed (putRound l q p)
+roundOn l q p = refreshed (putRound l (quoteOver (quotesIn p l) q) p)
 
 -- ---- odd part
 
@@ -64,8 +65,9 @@ oddOnPage l o p = refreshed (putOdd l o p)
 
 -- ---- makers
 
+-- likewise
 unfoldable pub makerOn : ℕ → Quote → List ℕ → List ℕ
-makerOn m q p = refreshed (putMaker m q p)
+makerOn m q p = refreshed (putMaker m (makerOver (findMaker m (makersIn p)) q) p)
 
 -- ---- FINRA Close and Open
 

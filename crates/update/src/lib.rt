@@ -119,7 +119,7 @@ pub fn round_lot(
             flags: 0,
         };
     }
-    quote.put(page, page::slot_at(letter as usize));
+    quote.put_over(page, page::slot_at(letter as usize));
     let code = put_odd(page, letter, odd, items);
     renewed(page, code)
 }
@@ -150,7 +150,7 @@ pub fn maker_quote(page: &mut [u8], fault: u8, name: u32, quote: Quote) -> Effec
     }
     let known = makers::maker_place(page, name);
     if let Found::At(k) = known {
-        makers::put_cell(page, k, name, quote);
+        makers::put_cell_over(page, k, name, quote);
         return renewed(page, 0);
     }
     let free = makers::free_place(page);

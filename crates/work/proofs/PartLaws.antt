@@ -56,7 +56,7 @@ unfolding partOn partReading
 part-done n (roundPart s l q) b sd y (u, f) =
     let keeps : (p : List ℕ) → length p ≡ pageLength → Kept p (roundOn l q p) = λ p w. round-kept p w l u q in
     record {
-      pages = on-reads n b sd s (roundOn l q) keeps (roundReading l q) (λ k x. round-reads (pageAt b k) (length-page n b sd k (omega (arith, sd .count))) l u q f);
+      pages = on-reads n b sd s (roundOn l q) keeps (roundReading l q) (λ k x. round-reads (pageAt b k) (length-page n b sd k (omega (arith, sd .count))) l u q (bytes-page b k y) f);
       kept = on-kept n b sd s (roundOn l q) keeps;
     }
 part-done n (oddPart s l o) b sd y (u, f) =
@@ -70,7 +70,7 @@ part-done n (oddPart s l o) b sd y (u, f) =
 part-done n (makerPart s m q) b sd y (i, f, c) =
     let keeps : (p : List ℕ) → length p ≡ pageLength → Kept p (makerOn m q p) = λ p w. maker-kept m q p w in
     record {
-      pages = on-reads n b sd s (makerOn m q) keeps (makerReading m q) (λ k x. maker-reads m q (pageAt b k) (length-page n b sd k (omega (arith, sd .count))) i f c);
+      pages = on-reads n b sd s (makerOn m q) keeps (makerReading m q) (λ k x. maker-reads m q (pageAt b k) (length-page n b sd k (omega (arith, sd .count))) (bytes-page b k y) i f c);
       kept = on-kept n b sd s (makerOn m q) keeps;
     }
 part-done n (finraPart c) b sd y s =

@@ -17,6 +17,8 @@ mod line;
 mod messages;
 #[path = "../../second/tests/hand/operator.rs"]
 mod operator;
+#[path = "../../second/tests/hand/times.rs"]
+mod times;
 
 use second::compare::Fresh;
 

@@ -40,9 +40,7 @@ fn main() {
             continue;
         }
         written += 1;
-        for (call, observed) in list.calls.iter().zip(&observed) {
-            coverage.note(call, observed);
-        }
+        coverage.note(&list, &observed);
         let calls: Vec<String> = list.calls.iter().map(term).collect();
         let answers: Vec<String> = observed.iter().map(|one| row(&told(one))).collect();
         println!("{seed}\t{}\t{}\t{}", list.n, row(&calls), row(&answers));

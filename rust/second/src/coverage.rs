@@ -1,11 +1,14 @@
-//! Counting which numbers, codes and flags a run of lists has reached.
+//! Counting which numbers, codes, flags and cases of resent quotes a run of lists has reached.
+
+mod resent;
 
 use std::collections::BTreeMap;
 use std::fmt::{self, Display, Formatter};
 
 use crate::build;
-use crate::call::Call;
+use crate::call::{Call, List};
 use crate::compare::{lent_part, Observed};
+use resent::Resent;
 
 /// The numbers that each call can answer in a list.
 const NUMBERS: [(&str, &[u8]); 7] = [
@@ -40,26 +43,43 @@ const FLAGS: [(&str, &[u8]); 5] = [
     ("Q U", &[1, 2, 4, 8, 16, 32]),
 ];
 
-/// How often each number, code and flag was reached.
+/// How often each number, code, flag and case of a resent quote was reached.
 #[derive(Default)]
 pub struct Coverage {
     calls: u64,
     numbers: BTreeMap<(&'static str, u8), u64>,
     codes: BTreeMap<(&'static str, u8), u64>,
     flags: BTreeMap<(&'static str, u8), u64>,
+    resent: Resent,
 }
 
 impl Coverage {
-    /// Notes one call and what was observed at it.
-    pub fn note(&mut self, call: &Call, observed: &Observed) {
+    /// Notes a list and what was observed at each of its calls.
+    pub fn note(&mut self, list: &List, observed: &[Observed]) {
+        self.resent.start_list();
+        for (call, observed) in list.calls.iter().zip(observed) {
+            self.note_call(call, observed);
+        }
+    }
+
+    fn note_call(&mut self, call: &Call, observed: &Observed) {
         self.calls += 1;
         let name = call_name(call);
         *self.numbers.entry((name, observed.number)).or_default() += 1;
+        match (call, observed.number) {
+            (Call::Make { .. }, 0) => self.resent.start_list(),
+            (Call::StartDay, 0) => self.resent.start_day(),
+            _ => {}
+        }
         if let (Call::TakeBlock { block, .. }, 0 | 70) = (call, observed.number) {
             let messages = build::split(block).map_or(Vec::new(), |(_, messages)| messages);
             let answers = lent_part(&observed.buffer).chunks_exact(4);
             for (message, answer) in messages.iter().zip(answers) {
-                self.note_message(type_name(message), answer[1], answer[2]);
+                let name = type_name(message);
+                self.note_message(name, answer[1], answer[2]);
+                if answer[1] == 0 || name == "Q K" && answer[1] >= 60 {
+                    self.resent.note(message);
+                }
             }
         }
     }
@@ -78,11 +98,12 @@ impl Coverage {
         self.calls
     }
 
-    /// What document 01 lets happen in a list and was not reached.
+    /// What documents 01 and 02 let happen in a list and was not reached.
     pub fn missing(&self) -> Vec<String> {
         let mut missing = missing_in("number", &NUMBERS, &self.numbers);
         missing.extend(missing_in("code", &CODES, &self.codes));
         missing.extend(missing_in("flag", &FLAGS, &self.flags));
+        missing.extend(self.resent.missing());
         missing
     }
 
@@ -165,6 +186,6 @@ impl Display for Coverage {
                 write!(f, " {value} x{count}")?;
             }
         }
-        writeln!(f)
+        writeln!(f, "{}", self.resent)
     }
 }

@@ -1,5 +1,5 @@
 //! Random lists of calls on the engine, the incremental engine and the reviewer: after every call
-//! all that can be seen of them is equal, and every number, code and flag is reached.
+//! all that can be seen of them is equal, and every number, code, flag and case of a resent quote is reached.
 //!
 //! The variables FIRST_SEED and LISTS of the environment choose other lists or more of them.
 
@@ -23,9 +23,7 @@ fn lists_of_calls() {
     for seed in first..first + lists {
         let list = generate::list(seed, CALLS);
         let expected = observe(reviewer, &list);
-        for (call, observed) in list.calls.iter().zip(&expected) {
-            coverage.note(call, observed);
-        }
+        coverage.note(&list, &expected);
         for (name, fresh) in [("engine", engine as Fresh), ("incremental", incremental)] {
             if first_difference(&expected, fresh, &list).is_some() {
                 panic!("{}", failure(seed, name, fresh, &list));

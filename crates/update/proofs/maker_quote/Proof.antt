@@ -11,8 +11,8 @@ returns : tie.Need-returns
 unfolding makerQuoteOn
 returns c = rw (ne-eqb _ _ (c .if1 .taken))
 
-put-cell-requires : tie.Need-put-cell-requires
-put-cell-requires c κs =
+put-cell-over-requires : tie.Need-put-cell-over-requires
+put-cell-over-requires c κs =
     let m = c .before .before .before .before in
     (m .before .before .before .before .pre, maker-hit _ _ _ (sym (m .maker-place .ensures) ∙ c .before .before .known .given .1) .0)
 
@@ -24,7 +24,7 @@ returns-2 c =
     let m = k .before .before in
     let z = m .before .before in
     rw (z .if1 .left)
-    (maker-known _ (z .before .before .pre) _ _ _ _ _ (sym (m .maker-place .ensures) ∙ k .known .given .1) (p .put-cell .ensures) (r .renewed .ensures))
+    (maker-known _ (z .before .before .pre) _ _ _ _ _ (sym (m .maker-place .ensures) ∙ k .known .given .1) (p .put-cell-over .ensures) (r .renewed .ensures))
 
 returns-3 : tie.Need-returns-3
 returns-3 c =
@@ -46,8 +46,8 @@ returns-4 c =
     rw (z .if1 .left)
     (maker-nothing _ (z .before .before .pre) _ _ _ _ (sym (m .maker-place .ensures) ∙ t .enum-told .given .1) (sym (f .free-place .ensures) ∙ g .free .given .1) (sym (e .is-empty .ensures) ∙ r .before .before .if2 .taken) (r .renewed2 .ensures))
 
-put-cell-requires-2 : tie.Need-put-cell-requires-2
-put-cell-requires-2 c κs =
+put-cell-requires : tie.Need-put-cell-requires
+put-cell-requires c κs =
     let g = c .before .before .before .before in
     let f = g .before .before in
     let s = f .before .before .before .before .before .before .before .before in
@@ -65,7 +65,7 @@ returns-5 c =
     let z = m .before .before in
     rw (z .if1 .left)
     (maker-new _ (z .before .before .pre) _ _ _ _ _ (sym (m .maker-place .ensures) ∙ t .enum-told .given .1) (sym (f .free-place .ensures) ∙ g .free .given .1) (sym (e .is-empty .ensures) ∙ p .before .before .if2 .left)
-    (p .put-cell2 .ensures) (r .renewed3 .ensures))
+    (p .put-cell .ensures) (r .renewed3 .ensures))
 
 pub maker-quote-spec : {M : Type 1} → statement M
 maker-quote-spec =
@@ -74,7 +74,7 @@ maker-quote-spec =
     returns
     (λ c κs. search needs)
     (λ c. search needs)
-    put-cell-requires
+    put-cell-over-requires
     (λ c κs. search needs)
     (λ c. search needs)
     returns-2
@@ -88,7 +88,7 @@ maker-quote-spec =
     (λ c κs. search needs)
     (λ c. search needs)
     returns-4
-    put-cell-requires-2
+    put-cell-requires
     (λ c κs. search needs)
     (λ c. search needs)
     returns-5)

@@ -21,9 +21,7 @@ pub const CALLS: usize = 200;
 pub fn run(seed: u64, coverage: &mut Coverage) -> Result<(), String> {
     let list = generate::list(seed, CALLS);
     let expected = observe(reviewer, &list);
-    for (call, observed) in list.calls.iter().zip(&expected) {
-        coverage.note(call, observed);
-    }
+    coverage.note(&list, &expected);
     for (name, fresh) in [("library", library as Fresh), ("engine", engine)] {
         if first_difference(&expected, fresh, &list).is_some() {
             return Err(failure(seed, name, fresh, &list));

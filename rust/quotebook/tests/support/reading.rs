@@ -118,7 +118,7 @@ impl Reading {
             b"QU" => self.take_maker(message),
             b"QM" => self.take_odd(at, message, 31, 36),
             b"QK" => {
-                self.letters[at].0 = round(message);
+                self.letters[at].0 = over(&self.letters[at].0, round(message));
                 self.take_odd(at, message, 56, 60)
             }
             kind => {
@@ -143,10 +143,12 @@ impl Reading {
         let empty = is_empty_quote(message);
         let has_name = |cell: &Option<([u8; 4], Quote)>| cell.is_some_and(|(of, _)| of == name);
         let standing = self.makers.iter().position(has_name);
+        let of_standing = standing.and_then(|at| self.makers[at]);
         let free = self.makers.iter().position(Option::is_none);
         let Some(cell) = standing.or(free) else {
             return 49;
         };
+        let quote = of_standing.map_or(quote, |(_, standing)| over(&standing, quote));
         self.makers[cell] = (!empty).then_some((name, quote));
         0
     }
@@ -247,6 +249,17 @@ fn round(message: &[u8]) -> Quote {
         condition: message[31],
         sides: [side(32), side(44)],
     }
+}
+
+/// A new quote over the one that stands, whatever its bytes: "a round-lot side keeps the time it had
+/// if the new quote has the same price and a size no larger".
+fn over(standing: &Quote, mut new: Quote) -> Quote {
+    for (new, standing) in new.sides.iter_mut().zip(&standing.sides) {
+        if new.price == standing.price && new.size <= standing.size {
+            new.time = standing.time;
+        }
+    }
+    new
 }
 
 type Candidate = (Shown, [u8; 4]);

@@ -42,7 +42,7 @@ impl Side {
 pub struct Candidate {
     /// The price as [`Side::rank`] gives it.
     pub rank: u64,
-    /// The timestamp of the message.
+    /// The timestamp of the message; of a resent side of a quote, the time that the side had.
     pub time: u64,
     /// Round lots, or shares of a level.
     pub size: u32,
@@ -67,6 +67,23 @@ impl Candidate {
     #[inline]
     pub fn letter(&self) -> u8 {
         self.name.to_be_bytes()[0]
+    }
+
+    /// Whether this side of a new quote keeps the time of the one that stands: "the same price and a
+    /// size no larger".
+    #[inline]
+    pub fn is_resent<const M: u8>(&self, standing: &Candidate) -> bool {
+        let no_larger = match M {
+            mistake::RESENT_TAKES_TIME => false,
+            mistake::LARGER_KEEPS_TIME => true,
+            mistake::SAME_SIZE_ONLY => self.size == standing.size,
+            mistake::INDICATION_KEEPS_TIME => self.size <= standing.size || standing.size == 0,
+            mistake::CONDITION_ENDS_RUN => {
+                self.size <= standing.size && self.name == standing.name
+            }
+            _ => self.size <= standing.size,
+        };
+        self.rank == standing.rank && no_larger
     }
 
     /// The better price, then larger size, earlier time, lower name.

@@ -65,4 +65,13 @@ mistakes! {
     47 INDICATION_FREES "A maker's quote with indications only frees its cell.";
     48 REFERENCE_READ "43 is claimed for a reference number that is not 0.";
     49 LEADER_STAYS "The incremental engine keeps a leader that worsened or left.";
+    50 RESENT_TAKES_TIME "A resent quote takes its message's time.";
+    51 LARGER_KEEPS_TIME "A side keeps its time though its size is larger.";
+    52 ONE_TIME "The offer keeps its time or takes a new one as the bid does.";
+    53 CONDITION_ENDS_RUN "A letter's quote under another condition takes its message's time.";
+    54 INDICATION_KEEPS_TIME "A side keeps its time when its size rises from 0.";
+    55 EARLIEST_TIME "A resent side has the earlier of both times.";
+    56 FREED_KEEPS_TIMES "A freed maker cell keeps its times.";
+    57 START_KEEPS_TIMES "Start of Day keeps the times of letters' quotes.";
+    58 SAME_SIZE_ONLY "A side with a smaller size takes its message's time.";
 }

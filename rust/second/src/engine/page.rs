@@ -41,15 +41,23 @@ impl Page {
                 self.set_levels::<M>(letter, old.levels(letter));
             }
         }
+        if M == mistake::START_KEEPS_TIMES {
+            for (now, old) in self.sides.iter_mut().zip(&old.sides) {
+                for letter in b'A'..=b'Z' {
+                    now.set_quote(letter, old.quote(letter), false);
+                }
+            }
+        }
     }
 
     /// An accepted Q K replaces its letter's quote.
     #[inline]
     pub fn set_quote<const M: u8>(&mut self, letter: u8, quote: &Quote) {
         let name = national_name(letter, quote.condition);
-        for side in Side::BOTH {
-            let (candidate, counts) = quote.side::<M>(side, name);
-            self.sides[side as usize].set_quote(letter, candidate, counts);
+        let standing = [self.sides[0].quote(letter), self.sides[1].quote(letter)];
+        let over = over::<M>(quote, name, standing);
+        for (side, (candidate, counts)) in self.sides.iter_mut().zip(over) {
+            side.set_quote(letter, candidate, counts);
         }
     }
 
@@ -69,19 +77,19 @@ impl Page {
         self.maker_cell(FREE_CELL)
     }
 
-    /// An accepted Q U replaces its maker's quote.
+    /// An accepted Q U replaces its maker's quote. In a free cell nothing stands, so that its times
+    /// are the message's.
     #[inline]
     pub fn set_maker<const M: u8>(&mut self, cell: usize, name: u32, quote: &Quote) {
         self.maker_names[cell] = name;
-        for side in Side::BOTH {
-            let (candidate, counts) = quote.side::<M>(side, name);
-            self.sides[side as usize]
-                .makers
-                .set(cell, candidate, counts);
+        let makers = self.sides.each_ref().map(|side| &side.makers);
+        let over = over::<M>(quote, name, makers.map(|makers| makers.standing(cell)));
+        for (side, (candidate, counts)) in self.sides.iter_mut().zip(over) {
+            side.makers.set(cell, candidate, counts);
         }
     }
 
-    /// A maker's quote with both sides 0 and 0 frees its cell.
+    /// A maker's quote with both sides 0 and 0 frees its cell, which forgets its times.
     #[inline]
     pub fn free_maker<const M: u8>(&mut self, cell: usize) {
         self.maker_names[cell] = if M == mistake::CELL_NOT_REUSED {
@@ -90,7 +98,11 @@ impl Page {
             FREE_CELL
         };
         for side in &mut self.sides {
-            side.makers.set(cell, Candidate::NONE, false);
+            let left = match M {
+                mistake::FREED_KEEPS_TIMES => side.makers.standing(cell),
+                _ => Candidate::NONE,
+            };
+            side.makers.set(cell, left, false);
         }
     }
 
@@ -173,4 +185,32 @@ impl Page {
         }
         publication
     }
+}
+
+/// The sides of a new quote over those that stand, and whether they count: "a round-lot side keeps
+/// the time it had if the new quote has the same price and a size no larger". The condition plays no
+/// part, and each side has a time of its own.
+#[inline]
+fn over<const M: u8>(
+    quote: &Quote,
+    name: u32,
+    standing: [Candidate; 2],
+) -> [(Candidate, bool); 2] {
+    let mut bid_resent = false;
+    Side::BOTH.map(|side| {
+        let (mut candidate, counts) = quote.side::<M>(side, name);
+        let standing = &standing[side as usize];
+        let mut resent = candidate.is_resent::<M>(standing);
+        if M == mistake::ONE_TIME {
+            bid_resent = if side == Side::Bid { resent } else { bid_resent };
+            resent = bid_resent;
+        }
+        if resent {
+            candidate.time = match M {
+                mistake::EARLIEST_TIME => standing.time.min(candidate.time),
+                _ => standing.time,
+            };
+        }
+        (candidate, counts)
+    })
 }

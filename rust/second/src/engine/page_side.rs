@@ -48,6 +48,12 @@ impl PageSide {
         },
     };
 
+    /// A letter's quote, whether it counts or not.
+    #[inline]
+    pub fn quote(&self, letter: u8) -> Candidate {
+        self.quotes.standing(place(letter))
+    }
+
     #[inline]
     pub fn set_quote(&mut self, letter: u8, quote: Candidate, counts: bool) {
         self.quotes.set(place(letter), quote, counts);

@@ -2,7 +2,7 @@
 
 use super::pools::{Symbol, Theme};
 use super::random::Random;
-use super::Generator;
+use super::{Generator, Source};
 use crate::build::{header, maker_quote, odd_lot, round_lot, test, Odd, Round, Shown};
 use crate::terms::FINRA;
 
@@ -18,7 +18,7 @@ impl Generator {
             let odd = self.draw_odd(round_lot_shares);
             return odd_lot(letter, self.draw_time(), symbol, &odd);
         }
-        let round = self.draw_round(letter, symbol);
+        let round = self.draw_round((letter, None), symbol);
         let with_odd = match self.theme {
             Theme::Levels => 80,
             _ => 35,
@@ -32,14 +32,15 @@ impl Generator {
 
     fn maker_message(&mut self, letter: u8) -> Vec<u8> {
         let (symbol, _) = self.draw_symbol();
-        let mut round = self.draw_round(letter, symbol);
+        let maker = self.random.pick(&self.pools.makers);
+        let mut round = self.draw_round((letter, Some(maker)), symbol);
         round.condition = self.random.pick(b"RRRRRL");
         let empty = if self.theme == Theme::Makers { 8 } else { 20 };
         if self.random.percent(empty) {
             round.bid = (0, 0);
             round.offer = (0, 0);
         }
-        maker_quote(&round, self.random.pick(&self.pools.makers))
+        maker_quote(&round, maker)
     }
 
     /// A control message; on a line of D mostly FINRA Close or Open.
@@ -65,14 +66,32 @@ impl Generator {
         self.random.pick(&self.pools.times)
     }
 
-    fn draw_round(&mut self, letter: u8, symbol: Symbol) -> Round {
+    /// A new quote, or the last one of its letter or maker again.
+    fn draw_round(&mut self, source: Source, symbol: Symbol) -> Round {
+        let again = self.random.percent(35);
+        let last = self.quoted.get(&(source, symbol)).filter(|_| again);
+        let sides = match last.copied() {
+            Some(sides) => sides.map(|shown| self.draw_again(shown)),
+            None => [self.draw_shown(), self.draw_shown()],
+        };
+        self.quoted.insert((source, symbol), sides);
         Round {
-            letter,
+            letter: source.0,
             time: self.draw_time(),
             symbol,
             condition: self.random.usually(60, b"R", b"ABCEFHNORUWEF"),
-            bid: self.draw_shown(),
-            offer: self.draw_shown(),
+            bid: sides[0],
+            offer: sides[1],
+        }
+    }
+
+    /// The same side, mostly of the same size.
+    fn draw_again(&mut self, (price, size): Shown) -> Shown {
+        match self.random.weighted(&[55, 25, 8, 12]) {
+            0 => (price, size),
+            1 if price > 0 => (price, self.random.pick(&self.pools.sizes)),
+            2 => (price, 0),
+            _ => self.draw_shown(),
         }
     }
 

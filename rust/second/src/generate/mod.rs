@@ -11,8 +11,9 @@ mod pools;
 mod random;
 mod writing;
 
-use std::collections::VecDeque;
+use std::collections::{BTreeMap, VecDeque};
 
+use crate::build::Shown;
 use crate::call::{Call, List};
 use crate::engine::Engine;
 use crate::quote_book::QuoteBook;
@@ -73,7 +74,12 @@ struct Generator {
     lines: Vec<OpenLine>,
     listed: Vec<(Symbol, u32)>,
     day_open: bool,
+    /// The last sides drawn for a letter or a maker, and a symbol.
+    quoted: BTreeMap<(Source, Symbol), [Shown; 2]>,
 }
+
+/// A letter, and on D's line a maker.
+type Source = (u8, Option<[u8; 4]>);
 
 impl Generator {
     fn new(mut random: Random, theme: Theme, n: u32) -> Generator {
@@ -88,6 +94,7 @@ impl Generator {
             lines: Vec::new(),
             listed: Vec::new(),
             day_open: false,
+            quoted: BTreeMap::new(),
         };
         generator.set_up();
         generator

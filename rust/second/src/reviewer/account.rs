@@ -8,6 +8,41 @@ pub struct Account<'a> {
     messages: Vec<&'a [u8]>,
 }
 
+/// A letter's or a maker's quote as it stands: the last one, with a time for each side.
+pub struct Standing {
+    pub quote: Quote,
+    bid_time: u64,
+    offer_time: u64,
+}
+
+impl Standing {
+    /// The last of these quotes, the oldest first.
+    fn last(quotes: &[Quote]) -> Option<Standing> {
+        Some(Standing {
+            quote: *quotes.last()?,
+            bid_time: first_of_latest_run(quotes, Side::Bid)?.time,
+            offer_time: first_of_latest_run(quotes, Side::Offer)?.time,
+        })
+    }
+
+    pub fn time(&self, side: Side) -> u64 {
+        match side {
+            Side::Bid => self.bid_time,
+            Side::Offer => self.offer_time,
+        }
+    }
+}
+
+/// "The first quote of its latest run with one price and sizes that don't rise."
+fn first_of_latest_run(quotes: &[Quote], side: Side) -> Option<&Quote> {
+    let in_one_run = |earlier: &Quote, later: &Quote| {
+        let (earlier, later) = (earlier.side(side), later.side(side));
+        earlier.price == later.price && earlier.size >= later.size
+    };
+    let mut runs = quotes.chunk_by(in_one_run);
+    runs.next_back()?.first()
+}
+
 /// A level of one letter and side.
 #[derive(Clone, Copy, PartialEq, Eq, Debug)]
 pub struct Level {
@@ -28,16 +63,16 @@ impl<'a> Account<'a> {
     }
 
     /// "A letter's quote is its last round part naming the symbol."
-    pub fn quote(&self, letter: u8) -> Option<Quote> {
-        self.messages
-            .iter()
-            .rev()
-            .find(|message| Kind::of(message) == Some(Kind::RoundLot) && message[2] == letter)
-            .map(|message| Quote::of(message))
+    pub fn quote(&self, letter: u8) -> Option<Standing> {
+        let of_letter = |message: &&&[u8]| {
+            Kind::of(message) == Some(Kind::RoundLot) && message[2] == letter
+        };
+        let quotes = self.messages.iter().filter(of_letter);
+        Standing::last(&quotes.map(|message| Quote::of(message)).collect::<Vec<_>>())
     }
 
     /// The standing makers with their quotes.
-    pub fn makers(&self) -> Vec<(Vec<u8>, Quote)> {
+    pub fn makers(&self) -> Vec<(Vec<u8>, Standing)> {
         let mut names: Vec<&[u8]> = Vec::new();
         for message in &self.messages {
             if Kind::of(message) == Some(Kind::Maker) && !names.contains(&maker_of(message)) {
@@ -51,23 +86,30 @@ impl<'a> Account<'a> {
     }
 
     /// "A maker's is its last Q U naming it, none if both sides are 0 and 0; the last FINRA Close
-    /// or Open after it sets condition L or R."
-    pub fn maker(&self, name: &[u8]) -> Option<Quote> {
-        let last = self.messages.iter().rposition(|message| {
-            Kind::of(message) == Some(Kind::Maker) && maker_of(message) == name
-        })?;
-        let mut quote = Quote::of(self.messages[last]);
-        if quote.is_empty() {
-            return None;
-        }
-        for message in &self.messages[last + 1..] {
+    /// or Open after it sets condition L or R." An empty quote frees the maker's cell, and "a freed
+    /// maker cell forgets its times".
+    pub fn maker(&self, name: &[u8]) -> Option<Standing> {
+        let mut quotes: Vec<Quote> = Vec::new();
+        let mut set = None;
+        for message in &self.messages {
             match Kind::of(message) {
-                Some(Kind::FinraClose) => quote.condition = b'L',
-                Some(Kind::FinraOpen) => quote.condition = b'R',
+                Some(Kind::Maker) if maker_of(message) == name => {
+                    let quote = Quote::of(message);
+                    if quote.is_empty() {
+                        quotes.clear();
+                    } else {
+                        quotes.push(quote);
+                    }
+                    set = None;
+                }
+                Some(Kind::FinraClose) => set = Some(b'L'),
+                Some(Kind::FinraOpen) => set = Some(b'R'),
                 _ => {}
             }
         }
-        Some(quote)
+        let mut standing = Standing::last(&quotes)?;
+        standing.quote.condition = set.unwrap_or(standing.quote.condition);
+        Some(standing)
     }
 
     /// "Levels begin with none and take each odd part naming it, in order."

@@ -36,16 +36,18 @@ fn best(side: Side, mut candidates: Vec<Candidate>) -> Option<Candidate> {
 /// "FINRA best: over makers' counting sides." With it goes that maker's condition.
 fn finra_best(account: &Account, side: Side) -> Option<(Candidate, u8)> {
     let makers = account.makers();
-    let counting = makers.iter().filter(|(_, quote)| quote.counts(side));
-    let candidates = counting.map(|(name, quote)| Candidate {
+    let counting = makers
+        .iter()
+        .filter(|(_, standing)| standing.quote.counts(side));
+    let candidates = counting.map(|(name, standing)| Candidate {
         name: [name[0], name[1], name[2], name[3]],
-        price: quote.side(side).price,
-        size: quote.side(side).size,
-        time: quote.time,
+        price: standing.quote.side(side).price,
+        size: standing.quote.side(side).size,
+        time: standing.time(side),
     });
     let best = best(side, candidates.collect())?;
-    let (_, quote) = makers.iter().find(|(name, _)| name[..] == best.name)?;
-    Some((best, quote.condition))
+    let (_, standing) = makers.iter().find(|(name, _)| name[..] == best.name)?;
+    Some((best, standing.quote.condition))
 }
 
 /// "National best: the same over letters, D standing with its FINRA best and that maker's
@@ -60,13 +62,16 @@ fn national_best(account: &Account, side: Side) -> Option<Candidate> {
                     ..finra
                 });
             }
-        } else if let Some(quote) = account.quote(letter).filter(|quote| quote.counts(side)) {
-            candidates.push(Candidate {
-                name: [letter, quote.condition, b' ', b' '],
-                price: quote.side(side).price,
-                size: quote.side(side).size,
-                time: quote.time,
-            });
+        } else if let Some(standing) = account.quote(letter) {
+            let quote = standing.quote;
+            if quote.counts(side) {
+                candidates.push(Candidate {
+                    name: [letter, quote.condition, b' ', b' '],
+                    price: quote.side(side).price,
+                    size: quote.side(side).size,
+                    time: standing.time(side),
+                });
+            }
         }
     }
     best(side, candidates)

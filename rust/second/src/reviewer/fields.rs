@@ -66,12 +66,13 @@ pub struct Shown {
     pub size: u32,
 }
 
-/// A letter's or a maker's quote.
+/// A quote as its message shows it.
 #[derive(Clone, Copy, Debug)]
 pub struct Quote {
     pub condition: u8,
     pub bid: Shown,
     pub offer: Shown,
+    /// The message's timestamp.
     pub time: u64,
 }
 

@@ -60,7 +60,9 @@ fn d_stands_with_its_finra_best() {
         assert_eq!(desk.national_bid(), entry("AR", TEN, 3));
         // A better maker changes the FINRA entry alone while D does not lead.
         assert_eq!(desk.message(D, maker_at("YY", 7, b'R', (TEN, 3))), (0, 4));
-        assert_eq!(desk.message(D, maker_at("YY", 6, b'R', (TEN, 3))), (0, 1));
+        // Resent, it keeps its time; an earlier one of another maker brings D in front.
+        assert_eq!(desk.message(D, maker_at("YY", 6, b'R', (TEN, 3))), (0, 0));
+        assert_eq!(desk.message(D, maker_at("YZ", 6, b'R', (TEN, 3))), (0, 5));
         assert_eq!(desk.national_bid(), entry("DR", TEN, 3));
     });
 }

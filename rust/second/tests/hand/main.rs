@@ -12,5 +12,6 @@ mod entries;
 mod line;
 mod messages;
 mod operator;
+mod times;
 
 use common::BOOKS;

@@ -26,6 +26,7 @@ const BOOKS: &[(u8, Fresh)] = mistaken! {
         21 22 23 24 25 26 27 28 29 30 31 32 33 34 35 36 37 38 39 40
         41 42 43 44 45 46 47 48;
     incremental: 49;
+    engine: 50 51 52 53 54 55 56 57 58;
 };
 
 const LISTS: u64 = 400;
