@@ -13,7 +13,7 @@ use support::damage::{damage, overwrite, Wrong};
 use support::foretold::{self, ensure, Left, NUMBERS};
 use support::guarded::{Fenced, Guarded};
 use support::layout::{in_page, is_book, record, N, SYMBOL};
-use support::parts::{on_wrong_entries, PARTS};
+use support::parts::{on_wrong_entries, resent, PARTS, RESENT};
 
 const BOOKS: u64 = 4_000;
 /// Books in which the entries of pages are overwritten before each call.
@@ -25,6 +25,7 @@ const AFTER: usize = 40;
 #[test]
 fn any_memory() {
     let mut reached = BTreeMap::new();
+    let mut kept = BTreeMap::new();
     println!("{BOOKS} books from seed 0 on");
     for seed in 0..BOOKS {
         let mut random = Random::new(seed);
@@ -32,10 +33,18 @@ fn any_memory() {
         damage(&mut random, &mut memory);
         for call in &calls {
             let call = fit(&mut random, call, &memory);
-            let (number, _) = check_call(&mut memory, &call)
+            let Checked { number, resent, .. } = check_call(&mut memory, &call)
                 .unwrap_or_else(|what| panic!("seed {seed}, {call}: {what}"));
             *reached.entry((foretold::row(&call), number)).or_insert(0) += 1;
+            for side in resent {
+                *kept.entry(side).or_insert(0) += 1;
+            }
         }
+    }
+    for side in RESENT {
+        let times = kept.get(side).copied().unwrap_or(0);
+        println!("{side} keeps its time: {times} times");
+        assert_ne!(times, 0, "{side}");
     }
     for (row, (name, numbers)) in NUMBERS.iter().enumerate() {
         let of_call = reached.range((row, 0)..=(row, u8::MAX));
@@ -57,7 +66,7 @@ fn wrong_entries() {
         for call in &calls {
             let wrong = random.pick(&Wrong::ALL);
             overwrite(&mut random, wrong, &mut memory);
-            let (_, part) = check_call(&mut memory, call)
+            let Checked { part, .. } = check_call(&mut memory, call)
                 .unwrap_or_else(|what| panic!("seed {seed}, {wrong:?}, {call}: {what}"));
             if let Some(part) = part {
                 *reached.entry((wrong, part)).or_insert(0) += 1;
@@ -127,9 +136,17 @@ fn make_call(book: &mut Guarded, call: &Call, buffer: &mut [u8]) -> Report {
     }
 }
 
-/// Makes one call on any memory and looks at all that it answers and leaves. Answers the number, and
-/// for a taken block the kind of its first message, if that met wrong entries.
-fn check_call(memory: &mut Vec<u8>, call: &Call) -> Result<(u8, Option<&'static str>), String> {
+/// What a call on any memory led to.
+struct Checked {
+    number: u8,
+    /// The kind of a taken block's first message, if that met wrong entries.
+    part: Option<&'static str>,
+    /// Which of its sides keep a time.
+    resent: Vec<&'static str>,
+}
+
+/// Makes one call on any memory and looks at all that it answers and leaves.
+fn check_call(memory: &mut Vec<u8>, call: &Call) -> Result<Checked, String> {
     let room = match call {
         Call::TakeBlock { answer_len, .. } => *answer_len,
         Call::Read {
@@ -157,13 +174,17 @@ fn check_call(memory: &mut Vec<u8>, call: &Call) -> Result<(u8, Option<&'static 
         buffer: buffer.bytes(),
     };
     left.check(call, &report)?;
-    let part = match (call, number) {
-        (Call::TakeBlock { block, .. }, 0 | 70) => {
-            let (_, messages) = build::split(block).ok_or("no block")?;
-            on_wrong_entries(memory, &messages[0], buffer.bytes()[1])
-        }
-        _ => None,
+    let mut checked = Checked {
+        number,
+        part: None,
+        resent: Vec::new(),
     };
+    if let (Call::TakeBlock { block, .. }, 0 | 70) = (call, number) {
+        let (_, messages) = build::split(block).ok_or("no block")?;
+        let code = buffer.bytes()[1];
+        checked.part = on_wrong_entries(memory, &messages[0], code);
+        checked.resent = resent(memory, &messages[0], code);
+    }
     *memory = book.bytes().to_vec();
-    Ok((number, part))
+    Ok(checked)
 }

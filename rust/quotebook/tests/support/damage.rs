@@ -9,12 +9,12 @@ use super::layout::{
     LINES, LOT, N, OPENING_LEN, PAGE_LEN, SLOTS, SLOT_LEN, SYMBOL,
 };
 
-/// Damages a book: its opening, its length, its lines, its symbols, its pages, their entries alone,
-/// or all of it.
+/// Damages a book: its opening, its length, its lines, its symbols, its pages, their entries or times
+/// alone, or all of it.
 pub fn damage(random: &mut Random, memory: &mut Vec<u8>) {
     let pages = (memory.len() - OPENING_LEN) / PAGE_LEN;
     let at = random.below(pages);
-    match random.below(12) {
+    match random.below(13) {
         0 => {
             let (at, any) = (random.below(line(0).start), random.byte());
             memory[at] = random.usually(50, &[0, 1, 2, 64, 65, 255], &[any]);
@@ -52,7 +52,27 @@ pub fn damage(random: &mut Random, memory: &mut Vec<u8>) {
             let wrong = random.pick(&Wrong::ALL);
             overwrite(random, wrong, memory);
         }
+        10 => retime(random, &mut memory[page(at)]),
         _ => shuffle(random, &mut memory[page(at)]),
+    }
+}
+
+/// Gives each side of each quote of a page any time, and half of the letters' quotes condition 0 or
+/// another.
+fn retime(random: &mut Random, page: &mut [u8]) {
+    let slots = SLOTS.step_by(SLOT_LEN);
+    for quote in slots
+        .clone()
+        .chain((CELLS.start + 4..CELLS.end).step_by(CELL_LEN))
+    {
+        for side in [quote + 1, quote + 21] {
+            let time = random.bytes(8);
+            page[side + 12..side + 20].copy_from_slice(&time);
+        }
+    }
+    for quote in slots {
+        let any = random.byte();
+        page[quote] = random.usually(50, &[page[quote]], &[0, any]);
     }
 }
 

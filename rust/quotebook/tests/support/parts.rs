@@ -1,4 +1,5 @@
-//! The kinds of parts after which the entries of a page are worked out from its quotes.
+//! The kinds of parts after which the entries of a page are worked out from its quotes, and of sides
+//! that keep a time.
 
 use super::layout::{in_page, listed_page, page, ENTRIES, N};
 use super::reading::{is_empty_quote, Reading};
@@ -30,6 +31,35 @@ pub fn on_wrong_entries(book: &[u8], message: &[u8], code: u8) -> Option<&'stati
         (book[in_page(at, ENTRIES)] != reading.entries()).then_some(reading)
     })?;
     kind(&wrong, message, code)
+}
+
+/// What keeps a time that stands in a page of any bytes (T-02).
+pub const RESENT: [&str; 6] = [
+    "a letter's bid",
+    "a letter's offer",
+    "a letter's bid over condition 0",
+    "a letter's offer over condition 0",
+    "a maker's bid",
+    "a maker's offer",
+];
+
+/// Which of these a message by its code is.
+pub fn resent(book: &[u8], message: &[u8], code: u8) -> Vec<&'static str> {
+    let taken = code == 0 || &message[..2] == b"QK" && code >= 60;
+    let named = || listed_page(book, message.get(20..31)?);
+    let Some(at) = named().filter(|_| taken) else {
+        return Vec::new();
+    };
+    let Some((kept, condition)) = Reading::of(&book[page(at)]).resent(message) else {
+        return Vec::new();
+    };
+    let first = match (&message[..2], condition) {
+        (b"QU", _) => 4,
+        (_, 0) => 2,
+        _ => 0,
+    };
+    let sides = kept.into_iter().enumerate().filter(|(_, kept)| *kept);
+    sides.map(|(side, _)| RESENT[first + side]).collect()
 }
 
 fn kind(reading: &Reading, message: &[u8], code: u8) -> Option<&'static str> {

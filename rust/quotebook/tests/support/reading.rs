@@ -131,6 +131,31 @@ impl Reading {
         }
     }
 
+    /// The quote that stands of a Q K's letter or a Q U's maker.
+    fn standing(&self, message: &[u8]) -> Option<Quote> {
+        match &message[..2] {
+            b"QK" => Some(self.letters[usize::from(message[2] - b'A')].0),
+            b"QU" => {
+                let name = &message[56..60];
+                let mut makers = self.makers.iter().flatten();
+                makers.find(|(of, _)| of == name).map(|(_, quote)| *quote)
+            }
+            _ => None,
+        }
+    }
+
+    /// For bid and offer: whether an accepted quote keeps a time that is not its own. And the
+    /// condition that stood.
+    pub fn resent(&self, message: &[u8]) -> Option<([bool; 2], u8)> {
+        let (standing, new) = (self.standing(message)?, round(message));
+        let over = over(&standing, new);
+        let kept = SIDES.map(|side| {
+            let (new, over) = (new.sides[side], over.sides[side]);
+            new.price > 0 && new.time != over.time
+        });
+        Some((kept, standing.condition))
+    }
+
     /// Whether a maker stands.
     pub fn has_maker(&self, name: [u8; 4]) -> bool {
         self.makers.iter().flatten().any(|(of, _)| *of == name)

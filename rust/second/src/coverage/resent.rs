@@ -103,7 +103,11 @@ impl Resent {
     pub fn note(&mut self, message: &[u8]) {
         let key = match &message[..2] {
             b"QK" => (Of::Letter, message[20..31].to_vec(), vec![message[2]]),
-            b"QU" => (Of::Maker, message[20..31].to_vec(), message[56..60].to_vec()),
+            b"QU" => (
+                Of::Maker,
+                message[20..31].to_vec(),
+                message[56..60].to_vec(),
+            ),
             b"CC" | b"CO" => {
                 self.last.values_mut().for_each(|last| last.marked = true);
                 return;

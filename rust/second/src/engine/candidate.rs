@@ -78,9 +78,7 @@ impl Candidate {
             mistake::LARGER_KEEPS_TIME => true,
             mistake::SAME_SIZE_ONLY => self.size == standing.size,
             mistake::INDICATION_KEEPS_TIME => self.size <= standing.size || standing.size == 0,
-            mistake::CONDITION_ENDS_RUN => {
-                self.size <= standing.size && self.name == standing.name
-            }
+            mistake::CONDITION_ENDS_RUN => self.size <= standing.size && self.name == standing.name,
             _ => self.size <= standing.size,
         };
         self.rank == standing.rank && no_larger

@@ -191,18 +191,18 @@ impl Page {
 /// the time it had if the new quote has the same price and a size no larger". The condition plays no
 /// part, and each side has a time of its own.
 #[inline]
-fn over<const M: u8>(
-    quote: &Quote,
-    name: u32,
-    standing: [Candidate; 2],
-) -> [(Candidate, bool); 2] {
+fn over<const M: u8>(quote: &Quote, name: u32, standing: [Candidate; 2]) -> [(Candidate, bool); 2] {
     let mut bid_resent = false;
     Side::BOTH.map(|side| {
         let (mut candidate, counts) = quote.side::<M>(side, name);
         let standing = &standing[side as usize];
         let mut resent = candidate.is_resent::<M>(standing);
         if M == mistake::ONE_TIME {
-            bid_resent = if side == Side::Bid { resent } else { bid_resent };
+            bid_resent = if side == Side::Bid {
+                resent
+            } else {
+                bid_resent
+            };
             resent = bid_resent;
         }
         if resent {

@@ -64,9 +64,8 @@ impl<'a> Account<'a> {
 
     /// "A letter's quote is its last round part naming the symbol."
     pub fn quote(&self, letter: u8) -> Option<Standing> {
-        let of_letter = |message: &&&[u8]| {
-            Kind::of(message) == Some(Kind::RoundLot) && message[2] == letter
-        };
+        let of_letter =
+            |message: &&&[u8]| Kind::of(message) == Some(Kind::RoundLot) && message[2] == letter;
         let quotes = self.messages.iter().filter(of_letter);
         Standing::last(&quotes.map(|message| Quote::of(message)).collect::<Vec<_>>())
     }

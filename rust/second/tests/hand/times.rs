@@ -13,13 +13,7 @@ fn quote_at(line: u32, time: u64, bid: (u64, u32), offer: (u64, u32)) -> Vec<u8>
 }
 
 /// Q K at a time under a condition.
-fn quote_under(
-    condition: u8,
-    line: u32,
-    time: u64,
-    bid: (u64, u32),
-    offer: (u64, u32),
-) -> Vec<u8> {
+fn quote_under(condition: u8, line: u32, time: u64, bid: (u64, u32), offer: (u64, u32)) -> Vec<u8> {
     let mut round = round(line, bid, offer);
     round.time = time;
     round.condition = condition;
