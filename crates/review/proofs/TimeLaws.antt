@@ -44,7 +44,9 @@ first-behind x y (z ∷ zs) = refl
 
 run-step : (x y : Level) (ys : List Level) → timeKept (withTime (firstTime (latestRun (y ∷ ys))) y) x ≡ firstTime (latestRun (x ∷ y ∷ ys))
 unfolding timeKept latestRun
-run-step x y ys = rw (not-rising (x .size) (y .size)) (go (eqb (x .price) (y .price) && leb (x .size) (y .size)))
+run-step x y ys =
+    go (eqb (x .price) (y .price) && leb (x .size) (y .size))
+    ∙ ap (λ (t : Bool). firstTime (x ∷ cond (eqb (x .price) (y .price) && t) (latestRun (y ∷ ys)) [])) (sym (not-rising (x .size) (y .size)))
   where
     go : (t : Bool) → cond t (firstTime (latestRun (y ∷ ys))) (x .time) ≡ firstTime (x ∷ cond t (latestRun (y ∷ ys)) [])
     go true = sym (first-behind x y ys)

@@ -207,9 +207,7 @@ module _ (m : ℕ) (q : Quote) (p : List ℕ) where
 module _ (m : ℕ) (q : Quote) (p : List ℕ) (w : length p ≡ pageLength) where
   pub maker-kept : Kept p (makerOn m q p)
   unfolding makerOn
-  maker-kept =
-      let k : Kept p (putMaker m (over m q p) p) = put-maker-kept m (over m q p) p w in
-      kept-then p (putMaker m (over m q p) p) (refreshed (putMaker m (over m q p) p)) k (refreshed-kept (putMaker m (over m q p) p) (k .size))
+  maker-kept = kept-then p _ _ (put-maker-kept m _ p w) (refreshed-kept _ (put-maker-kept m _ p w .size))
 
   module _ (b : Bytes p) (name : m < 256 ^ 4) (fits : QuoteFits q) (stands : Stands (q .condition)) where
     over-fit : QuoteFits (over m q p)

@@ -140,9 +140,7 @@ module _ (p : List ℕ) (w : length p ≡ pageLength) (l : ℕ) (u : upper l ≡
 
   pub round-kept : Kept p (roundOn l q p)
   unfolding roundOn
-  round-kept =
-      let k : Kept p (putRound l over p) = put-round-kept p w l u over in
-      kept-then p (putRound l over p) (refreshed (putRound l over p)) k (refreshed-kept (putRound l over p) (k .size))
+  round-kept = kept-then p _ _ (put-round-kept p w l u _) (refreshed-kept _ (put-round-kept p w l u _ .size))
 
   -- a round part replaces its letter's quote; a resent side keeps its time
   pub round-reads : Bytes p → QuoteFits q → readingOf (roundOn l q p) ≡ roundReading l q (readingOf p)
