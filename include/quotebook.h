@@ -74,7 +74,7 @@ enum {
     QB_CODE_CONDITION = 46,          /* the condition is not one that the type takes */
     QB_CODE_SIZE_WITHOUT_PRICE = 47, /* price 0 with a size, on either side */
     QB_CODE_MAKER = 48,              /* the maker is malformed */
-    QB_CODE_MAKERS_FULL = 49,        /* a new maker while sixteen stand */
+    QB_CODE_MAKERS_FULL = 49,        /* a new maker while sixteen stand; its empty quote is accepted */
     QB_CODE_CLEAR_MARK = 60,         /* the clear mark is not space, B, S or X */
     QB_CODE_ITEM_COUNT = 61,         /* more than four odd bids or odd offers */
     QB_CODE_ITEM_PRICE = 62,         /* an odd lot with price 0 */

@@ -5,6 +5,7 @@ use mathlib.Core.Bool.{Bool, true, false, _&&_, cond}
 use mathlib.Core.List.{List, [], _∷_}
 use lib.Dec.{ltb, leb, eqb}
 use lib.ListN.{length, drop}
+use Rattle.quote.specs.Quote.{emptyQuote}
 use Rattle.field.specs.Field.{part, field}
 use Rattle.field.specs.Ascii.{A, B, C, D, E, F, H, I, K, L, M, N, O, Q, R, T, U, W, five, space}
 use Rattle.lists.specs.Lists.{at, member, all}
@@ -214,9 +215,9 @@ pub record Known : Type 0 where
   pub stands : ℕ → Bool
   pub levels : ℕ → Standing
 
--- "49 new maker while sixteen stand, an empty quote too"
-unfoldable pub makerCode : Known → ℕ → ℕ
-makerCode e name = cond (e .stands name) 0 (cond (ltb (e .count) 16) 0 49)
+-- "49 new maker while sixteen stand"; document 02, T-03: "The empty quote now goes first, and, if the maker has no cell, is accepted"
+unfoldable pub makerCode : Known → ℕ → Quote → ℕ
+makerCode e name q = cond (emptyQuote q) 0 (cond (e .stands name) 0 (cond (ltb (e .count) 16) 0 49))
 
 -- 45 not listed; then the faults that the message told; then 49 or the odd part
 abbrev pub codeBy : Known → ℕ → List ℕ → Message → ℕ
@@ -225,7 +226,7 @@ codeBy e letter m says.Idle = 0
 codeBy e letter m (says.Finra condition) = 0
 codeBy e letter m (says.RoundLot fault q o) = cond (e .listed) (cond (eqb fault 0) (oddCode (e .lot) (e .levels letter) (oddOf m o)) fault) 45
 codeBy e letter m (says.OddLot o) = cond (e .listed) (oddCode (e .lot) (e .levels letter) (oddOf m o)) 45
-codeBy e letter m (says.Maker fault name q) = cond (e .listed) (cond (eqb fault 0) (makerCode e name) fault) 45
+codeBy e letter m (says.Maker fault name q) = cond (e .listed) (cond (eqb fault 0) (makerCode e name q) fault) 45
 
 -- document 01's code of a message on a line with that letter
 unfoldable pub codeOf : Known → ℕ → List ℕ → ℕ

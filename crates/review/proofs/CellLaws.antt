@@ -148,9 +148,13 @@ allocate-length y (some x ∷ cs) = ap suc (allocate-length y cs)
 
 -- ---- a maker's quote
 
--- the maker has a cell, or one is free
-unfoldable pub Room : ℕ → List (Option Maker) → Type 0
-Room m cs = (isSome (findMaker m cs) ≡ true) ⊎ (length (occupied cs) < length cs)
+-- the maker has a cell, or one is free, unless its quote is empty
+unfoldable pub Room : ℕ → Quote → List (Option Maker) → Type 0
+Room m q cs = emptyQuote q ≡ false → (isSome (findMaker m cs) ≡ true) ⊎ (length (occupied cs) < length cs)
+
+pub room-same : (m : ℕ) (q v : Quote) (cs : List (Option Maker)) → emptyQuote v ≡ emptyQuote q → Room m q cs → Room m v cs
+unfolding Room
+room-same m q v cs e r n = r (sym e ∙ n)
 
 not-some : {A : Type 0} (o : Option A) → isSome o ≡ false → o ≡ none
 not-some none e = refl
@@ -174,20 +178,20 @@ module _ (m : ℕ) (q : Quote) (cs : List (Option Maker)) where
       go false true = refl
       go false false = allocate-other (asMaker m q) k cs h
 
-  pub put-same : Sole cs → Room m cs → findMaker m (makerPut m q cs) ≡ standing m q
+  pub put-same : Sole cs → Room m q cs → findMaker m (makerPut m q cs) ≡ standing m q
   unfolding makerPut standing Room
-  put-same s r = go (isSome (findMaker m cs)) refl (emptyQuote q)
+  put-same s r = go (isSome (findMaker m cs)) refl (emptyQuote q) refl
     where
-      room : isSome (findMaker m cs) ≡ false → Room m cs → length (occupied cs) < length cs
+      room : isSome (findMaker m cs) ≡ false → (isSome (findMaker m cs) ≡ true) ⊎ (length (occupied cs) < length cs) → length (occupied cs) < length cs
       room e (inl t) = clash (sym t ∙ e)
       room e (inr h) = h
 
-      go : (t : Bool) → isSome (findMaker m cs) ≡ t → (u : Bool)
+      go : (t : Bool) → isSome (findMaker m cs) ≡ t → (u : Bool) → emptyQuote q ≡ u
           → findMaker m (cond t (rewrite m (cond u none (some (asMaker m q))) cs) (cond u cs (allocate (asMaker m q) cs))) ≡ cond u none (some (asMaker m q))
-      go true e true = rewrite-same m none cs tt s e
-      go true e false = rewrite-same m (some (asMaker m q)) cs refl s e
-      go false e true = not-some (findMaker m cs) e
-      go false e false = allocate-same (asMaker m q) cs (not-some (findMaker m cs) e) (room e r)
+      go true e true f = rewrite-same m none cs tt s e
+      go true e false f = rewrite-same m (some (asMaker m q)) cs refl s e
+      go false e true f = not-some (findMaker m cs) e
+      go false e false f = allocate-same (asMaker m q) cs (not-some (findMaker m cs) e) (room e (r f))
 
   pub put-sole : Sole cs → Sole (makerPut m q cs)
   unfolding makerPut

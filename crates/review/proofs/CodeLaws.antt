@@ -113,7 +113,7 @@ module _ (e : Known) (letter : ℕ) (m : List ℕ) (c : ℕ) (t : Takes c) where
     pub size : length m ≡ makerLength
     pub known : e .listed ≡ true
     pub condition : member makerConditions (quoteAt m .condition) ≡ true
-    pub room : makerCode e (makerName m) ≡ c
+    pub room : makerCode e (makerName m) (quoteAt m) ≡ c
 
   pub maker-taken : codeOf e letter m ≡ c → kindOf m ≡ kind.Maker → MakerTaken
   unfolding readMaker

@@ -7,6 +7,7 @@ use mathlib.Core.List.{List, [], _∷_, _++_}
 use mathlib.Core.Option.{Option, none, some}
 use lib.Dec.{ltb, leb, eqb}
 use lib.ListN.{length}
+use Rattle.quote.specs.Quote.{emptyQuote}
 use Rattle.field.specs.Field.{be, field}
 use Rattle.lists.specs.Lists.{at, member, isSome}
 use Rattle.quote.specs.declared.Quote.{Quote}
@@ -98,9 +99,9 @@ module _ (e : Known) (letter : ℕ) (m : List ℕ) where
   unfolding member
   faulted {f} a b = either (e .listed) (either (eqb f 0) b a) (in-codes 45 refl)
 
-  room-known : (name : ℕ) → Among codes (makerCode e name)
+  room-known : (name : ℕ) (q : Quote) → Among codes (makerCode e name q)
   unfolding makerCode member
-  room-known name = either (e .stands name) (in-codes 0 refl) (either (ltb (e .count) makerCount) (in-codes 0 refl) (in-codes 49 refl))
+  room-known name q = either (emptyQuote q) (in-codes 0 refl) (either (e .stands name) (in-codes 0 refl) (either (ltb (e .count) makerCount) (in-codes 0 refl) (in-codes 49 refl)))
 
   read-known : (k : Kind) → Coded (readBy letter m k)
   unfolding readInquiry readTest readFinra readRoundLot readOddLot readMaker member
@@ -122,7 +123,7 @@ module _ (e : Known) (letter : ℕ) (m : List ℕ) where
       form (eqb (length m) makerLength) (headerZero m)
       (one (isD letter)
       (one (symbolGood (symbolText m))
-      (coded (faulted (fault-known makerConditions (quoteAt m) _ (either (makerGood (makerText m)) (in-codes 0 refl) (in-codes 48 refl))) (room-known (makerName m))))
+      (coded (faulted (fault-known makerConditions (quoteAt m) _ (either (makerGood (makerText m)) (in-codes 0 refl) (in-codes 48 refl))) (room-known (makerName m) (quoteAt m))))
       (refuse 45 refl))
       (refuse 44 refl))
   read-known kind.Unknown = refuse 40 refl

@@ -7,10 +7,11 @@ use mathlib.Core.List.{List, [], _∷_, map}
 use mathlib.Core.Option.{Option, none, some}
 use lib.Dec.{eqb}
 use borrow.Author.Tests.{eq-eqb, ne-eqb}
+use Rattle.quote.proofs.OverLaws.{over-empty}
 use Rattle.lists.specs.Lists.{mapOption, orElse}
 use Rattle.lists.proofs.Tests.{clash, Cut, equal, apart, cut}
 use Rattle.quote.specs.declared.Quote.{Quote}
-use Rattle.quote.specs.Quote.{quoteOver}
+use Rattle.quote.specs.Quote.{emptyQuote, quoteOver}
 use Rattle.levels.specs.Levels.{Odd, oddOn}
 use Rattle.message.specs.Message.{Part, roundPart, oddPart, makerPart, finraPart}
 use Rattle.entries.specs.Entries.{Maker}
@@ -19,7 +20,7 @@ use Rattle.update.specs.Parts.{Reading}
 use Rattle.update.proofs.Model.{standing, makerPut, marked, worked, roundReading, oddReading, makerReading, finraReading, onReading, partReading}
 use Rattle.work.specs.Work.{Listed, isListed, findReading, listing, listedOf}
 use Rattle.review.specs.Reviewer.{roundsOf, makerOf, levelsOf}
-use Rattle.review.proofs.CellLaws.{Room, put-other, put-same, put-sole, put-length, mark-find, mark-sole, mark-length}
+use Rattle.review.proofs.CellLaws.{Room, room-same, put-other, put-same, put-sole, put-length, mark-find, mark-sole, mark-length}
 use Rattle.review.proofs.TimeLaws.{held}
 use Rattle.review.proofs.HistoryLaws.{maker-maker, maker-finra, maker-round, maker-odd}
 use Rattle.review.proofs.SilentLaws.{names}
@@ -65,7 +66,7 @@ module _ (h : List Part) (r : Reading) (g : Good h r) where
       go k (equal t e) = rw (t, e, g .levels k)
       go k (apart t e) = rw t (g .levels k)
 
-  maker-good : (m : ℕ) (q : Quote) → Room m (r .cells) → Good (makerPart (r .symbol) m q ∷ h) (makerReading m q r)
+  maker-good : (m : ℕ) (q : Quote) → Room m q (r .cells) → Good (makerPart (r .symbol) m q ∷ h) (makerReading m q r)
   unfolding makerReading worked roundsOf levelsOf
   maker-good m q room =
       record {
@@ -80,8 +81,16 @@ module _ (h : List Part) (r : Reading) (g : Good h r) where
       new : Quote
       new = makerOver (findMaker m (r .cells)) q
 
+      -- a quote is as empty over the one that stands as by itself
+      same-empty : (o : Option Maker) → emptyQuote (makerOver o q) ≡ emptyQuote q
+      same-empty none = refl
+      same-empty (some x) = over-empty (x .quote) q
+
+      room-over : Room m q (r .cells) → Room m new (r .cells)
+      room-over f = room-same m q new (r .cells) (same-empty (findMaker m (r .cells))) f
+
       go : (k : ℕ) → Cut m k → findMaker k (makerPut m new (r .cells)) ≡ cond (eqb m k) (standing k (makerOver (makerOf h (r .symbol) k) q)) (makerOf h (r .symbol) k)
-      go k (equal t e) = rw (t, sym e) (put-same m new (r .cells) (g .sole) room ∙ ap (λ (o : Option Maker). standing m (makerOver o q)) (g .makers m))
+      go k (equal t e) = rw (t, sym e) (put-same m new (r .cells) (g .sole) (room-over room) ∙ ap (λ (o : Option Maker). standing m (makerOver o q)) (g .makers m))
       go k (apart t e) = rw t (put-other m new (r .cells) k e ∙ g .makers k)
 
   finra-good : (c : ℕ) → Good (finraPart c ∷ h) (finraReading c r)
@@ -196,7 +205,7 @@ cellsIn (some r) = r .cells
 abbrev pub RoomFor : Part → List Reading → Type 0
 RoomFor (roundPart s l q) rs = Unit {0}
 RoomFor (oddPart s l o) rs = Unit {0}
-RoomFor (makerPart s m q) rs = Room m (cellsIn (findReading s rs))
+RoomFor (makerPart s m q) rs = Room m q (cellsIn (findReading s rs))
 RoomFor (finraPart c) rs = Unit {0}
 
 part-good : (p : Part) (h : List Part) (rs : List Reading) → Apart (listedOf rs) → AllGood h rs → RoomFor p rs → AllGood (p ∷ h) (partReading p rs)
@@ -205,7 +214,7 @@ part-good (roundPart s l q) h rs a g m = on-good (roundPart s l q) s h refl (rou
 part-good (oddPart s l o) h rs a g m = on-good (oddPart s l o) s h refl (oddReading l o) rs a g (λ r f e d. rw (sym e) (odd-good h r d l o))
 part-good (makerPart s n q) h rs a g m =
     on-good (makerPart s n q) s h refl (makerReading n q) rs a g
-    (λ r f e d. let room : Room n (r .cells) = rw f at m in rw (sym e) (maker-good h r d n q room))
+    (λ r f e d. let room : Room n q (r .cells) = rw f at m in rw (sym e) (maker-good h r d n q room))
 part-good (finraPart c) h rs a g m = map-good (finraPart c) (finraReading c) h rs (λ r d. finra-good h r d c) g
 
 -- the history and the readings take a part together

@@ -75,12 +75,14 @@ table =
     (accepted 2 1 15 ∷ accepted 3 2 12 ∷ accepted 4 3 12 ∷ accepted 5 4 5
     ∷ shown (national 68 82 10000000 4) (national 68 82 10020000 2) (finra 69 10000000 4) (finra 68 10020000 2) nothing nothing
     ∷ accepted 6 5 15 ∷ shown (national 68 82 10010000 1) (national 68 82 10010000 1) (finra 70 10010000 1) (finra 70 10010000 1) nothing nothing ∷ [])
-    -- sixteen makers fit; 49, an empty quote too; an indication keeps its cell, 0 and 0 frees it, and a freed cell is used again
+    -- sixteen makers fit, another is 49; its empty quote is accepted, R or L, and it stays unknown (T-03); a price with size 0 is 49, a malformed name 48;
+    -- an indication keeps its cell, 0 and 0 frees it, and a freed cell is used again
     ∷ inDay
-    (onD 1 (eight 65) ∷ onD 9 (eight 73) ∷ onD 17 (standing 7 3 81 ∷ []) ∷ onD 18 (makerOf 7 82 0 0 0 0 81 ∷ []) ∷ onD 19 (makerOf 7 82 5000000 0 0 0 66 ∷ [])
-    ∷ onD 20 (standing 7 3 81 ∷ []) ∷ onD 21 (makerOf 7 76 0 0 0 0 66 ∷ []) ∷ onD 22 (standing 6 3 81 ∷ []) ∷ onD 23 (standing 7 3 66 ∷ []) ∷ look ∷ [])
-    (eightTold 9 8 15 ∷ eightTold 17 16 0 ∷ rejected 18 17 49 ∷ rejected 19 18 49 ∷ accepted 20 19 0 ∷ rejected 21 20 49 ∷ accepted 22 21 0 ∷ accepted 23 22 12
-    ∷ rejected 24 23 49 ∷ shown (national 68 82 10000000 3) (national 68 82 10020000 2) (finra 81 10000000 3) (finra 81 10020000 2) nothing nothing ∷ [])
+    (onD 1 (eight 65) ∷ onD 9 (eight 73) ∷ onD 17 (standing 7 3 81 ∷ []) ∷ onD 18 (makerOf 7 82 0 0 0 0 81 ∷ []) ∷ onD 19 (makerOf 7 76 0 0 0 0 81 ∷ [])
+    ∷ onD 20 (makerOf 7 82 5000000 0 0 0 81 ∷ []) ∷ onD 21 (makerOf 7 82 0 0 0 0 97 ∷ []) ∷ onD 22 (makerOf 7 82 5000000 0 0 0 66 ∷ [])
+    ∷ onD 23 (standing 7 3 81 ∷ []) ∷ onD 24 (makerOf 7 76 0 0 0 0 66 ∷ []) ∷ onD 25 (standing 6 3 81 ∷ []) ∷ onD 26 (standing 7 3 66 ∷ []) ∷ look ∷ [])
+    (eightTold 9 8 15 ∷ eightTold 17 16 0 ∷ rejected 18 17 49 ∷ accepted 19 18 0 ∷ accepted 20 19 0 ∷ rejected 21 20 49 ∷ rejected 22 21 48 ∷ accepted 23 22 0
+    ∷ rejected 24 23 49 ∷ accepted 25 24 0 ∷ accepted 26 25 12 ∷ rejected 27 26 49 ∷ shown (national 68 82 10000000 3) (national 68 82 10020000 2) (finra 81 10000000 3) (finra 81 10020000 2) nothing nothing ∷ [])
     -- FINRA Close and Open in every symbol, and the flags of any; a later Q U has its own condition again
     ∷ fromMake 2
     (add zt 100 ∷ add ab 10 ∷ openLine 7 68 ∷ startDay ∷ onD 1 (makerOf 7 82 10000000 3 0 0 65 ∷ [])

@@ -9,11 +9,13 @@ use native.Mathlib.Omega.{arith}
 use lib.Dec.{ltb, eqb}
 use lib.ListN.{length}
 use borrow.Author.Tests.{ltb-true, ne-eqb}
+use Rattle.quote.specs.declared.Quote.{Quote}
+use Rattle.quote.specs.Quote.{emptyQuote}
 use Rattle.lists.specs.Lists.{isSome}
 use Rattle.lists.proofs.Tests.{clash, Cut, equal, apart, cut}
 use Rattle.message.specs.declared.Kind.{Kind}
 use Rattle.message.specs.declared.Kind.the-variants as kind
-use Rattle.message.specs.Message.{kindOf, symbolOf, makerName, oddAt, Known, makerCode, codeOf, Part, roundPartOf, wholeBy, partlyTaken, partsOf, roundLotOdd, roundLotItems}
+use Rattle.message.specs.Message.{quoteAt, kindOf, symbolOf, makerName, oddAt, Known, makerCode, codeOf, Part, roundPartOf, wholeBy, partlyTaken, partsOf, roundLotOdd, roundLotItems}
 use Rattle.page.specs.Page.{occupied}
 use Rattle.makers.specs.Makers.{findMaker}
 use Rattle.update.specs.Parts.{Reading, knownBy, knownOf}
@@ -87,10 +89,10 @@ module _ (h : List Part) (rs : List Reading) (g : AllGood h rs) (s : ℕ) where
   only : knownOf (findReading s rs) .listed ≡ true → (k : ℕ) → isListed k (listedOf rs) ≡ false → eqb s k ≡ false
   only e k f = ne-eqb s k (λ p. clash (sym (listed-is e) ∙ ap (λ (j : ℕ). isListed j (listedOf rs)) p ∙ f))
 
-  -- without 49 a cell is the maker's, or one is free
-  room-of : (m : ℕ) → knownOf (findReading s rs) .listed ≡ true → makerCode (knownOf (findReading s rs)) m ≡ 0 → Room m (cellsIn (findReading s rs))
+  -- without 49 a cell is the maker's, or one is free, unless its quote is empty
+  room-of : (m : ℕ) (q : Quote) → knownOf (findReading s rs) .listed ≡ true → makerCode (knownOf (findReading s rs)) m q ≡ 0 → Room m q (cellsIn (findReading s rs))
   unfolding makerCode knownOf knownBy Room
-  room-of m k e = go (reading-of s h rs g) k e
+  room-of m q k e n = go (reading-of s h rs g) k (rw n at e)
     where
       at : (r : Reading) → Good h r → (b : Bool) → isSome (findMaker m (r .cells)) ≡ b → (d : Bool) → ltb (length (occupied (r .cells))) makerCount ≡ d
           → _≡_ {A = ℕ} (cond b 0 (cond d 0 49)) 0 → (isSome (findMaker m (r .cells)) ≡ true) ⊎ (length (occupied (r .cells)) < length (r .cells))
@@ -131,7 +133,7 @@ module _ (letter : ℕ) (m : List ℕ) (h : List Part) (rs : List Reading) (g : 
       go kind.OddLot k = (named _ (λ s. refl) tt (odd-taken e letter m c (takes-whole c z) x k .known), tt)
       go kind.Maker k =
           let t : MakerTaken e letter m c (takes-whole c z) = maker-taken e letter m c (takes-whole c z) x k in
-          (named _ (λ s. refl) (room-of h rs g (symbolOf m) (makerName m) (t .known) (t .room ∙ z)) (t .known), tt)
+          (named _ (λ s. refl) (room-of h rs g (symbolOf m) (makerName m) (quoteAt m) (t .known) (t .room ∙ z)) (t .known), tt)
       go kind.Unknown k = tt
 
   message-ready : AllReady (partsOf c m) rs

@@ -159,7 +159,7 @@ module _ (p : List ℕ) (w : length p ≡ pageLength) (m : ℕ) (q : Quote) wher
 
   -- a page with the maker's quote in cell k, its entries worked out
   written : (k : ℕ) (v : Quote) (p′ : List ℕ) (r : Updated) → k < makerCount → p′ ≡ splice p (cellAt k) (cellFor m v) → putMaker m (over m q p) p ≡ splice p (cellAt k) (cellFor m v)
-      → makerCode (knownBy (readingOf p)) m ≡ 0 → r ≡ flagged 0 p′ (refreshed p′) → r ≡ makerQuoteOn 0 m q p
+      → makerCode (knownBy (readingOf p)) m q ≡ 0 → r ≡ flagged 0 p′ (refreshed p′) → r ≡ makerQuoteOn 0 m q p
   unfolding makerQuoteOn makerOn
   written k v p′ r h d t c f =
       f ∙ ap (λ (z : List ℕ). flagged 0 z (refreshed z)) d
@@ -170,22 +170,26 @@ module _ (p : List ℕ) (w : length p ≡ pageLength) (m : ℕ) (q : Quote) wher
       → r ≡ flagged 0 p′ (refreshed p′) → r ≡ makerQuoteOn 0 m q p
   unfolding putMaker
   maker-known k p′ r e d f =
-      written k (quoteOver (quoteIn (part p (cellAt k + nameLength) quoteLength)) q) p′ r (maker-hit p m k e .0) d (rw (over-known m q p k e, e)) (maker-code p m ∙ rw e) f
+      written k (quoteOver (quoteIn (part p (cellAt k + nameLength) quoteLength)) q) p′ r (maker-hit p m k e .0) d (rw (over-known m q p k e, e)) (maker-code p m q ∙ rw e (either-zero (emptyQuote q))) f
+    where
+      either-zero : (t : Bool) → _≡_ {A = ℕ} (cond t 0 0) 0
+      either-zero true = refl
+      either-zero false = refl
 
   pub maker-new : (k : ℕ) (p′ : List ℕ) (r : Updated) → makerPlace p m ≡ Nothing → freePlace p ≡ At k → emptyQuote q ≡ false
       → p′ ≡ splice p (cellAt k) (cellFor m q) → r ≡ flagged 0 p′ (refreshed p′) → r ≡ makerQuoteOn 0 m q p
   unfolding putMaker
-  maker-new k p′ r e g n d f = written k q p′ r (free-hit p k g .0) d (rw (over-new m q p e, e, n, g)) (maker-code p m ∙ rw (e, g)) f
+  maker-new k p′ r e g n d f = written k q p′ r (free-hit p k g .0) d (rw (over-new m q p e, e, n, g)) (maker-code p m q ∙ rw (n, e, g)) f
 
   -- an empty quote of a maker without a cell
-  pub maker-nothing : (k : ℕ) (r : Updated) → makerPlace p m ≡ Nothing → freePlace p ≡ At k → emptyQuote q ≡ true → r ≡ flagged 0 p (refreshed p) → r ≡ makerQuoteOn 0 m q p
+  pub maker-nothing : (r : Updated) → makerPlace p m ≡ Nothing → emptyQuote q ≡ true → r ≡ flagged 0 p (refreshed p) → r ≡ makerQuoteOn 0 m q p
   unfolding makerQuoteOn makerOn putMaker
-  maker-nothing k r e g n f = f ∙ rw (maker-code p m, over-new m q p e, e, g, n)
+  maker-nothing r e n f = f ∙ rw (maker-code p m q, over-new m q p e, e, n)
 
-  -- 49: sixteen stand
-  pub maker-full : makerPlace p m ≡ Nothing → freePlace p ≡ Nothing → _≡_ {A = Updated} (rejected 49 p) (makerQuoteOn 0 m q p)
+  -- 49: sixteen stand, and the quote is not empty
+  pub maker-full : makerPlace p m ≡ Nothing → freePlace p ≡ Nothing → emptyQuote q ≡ false → _≡_ {A = Updated} (rejected 49 p) (makerQuoteOn 0 m q p)
   unfolding makerQuoteOn
-  maker-full e g = rw (maker-code p m, e, g)
+  maker-full e g n = rw (maker-code p m q, e, g, n)
 
 -- ---- FINRA Close and Open
 

@@ -76,9 +76,9 @@ module _ (p : List ℕ) where
   room-at = room-place (cellOf p) makerCount 0
 
   -- 49, by the two searches
-  pub maker-code : (m : ℕ) → makerCode (knownBy (readingOf p)) m ≡ cond (isAt (makerPlace p m)) 0 (cond (isAt (freePlace p)) 0 49)
+  pub maker-code : (m : ℕ) (q : Quote) → makerCode (knownBy (readingOf p)) m q ≡ cond (emptyQuote q) 0 (cond (isAt (makerPlace p m)) 0 (cond (isAt (freePlace p)) 0 49))
   unfolding makerCode knownBy readingOf
-  maker-code m = rw (stands-at m, room-at)
+  maker-code m q = rw (stands-at m, room-at)
 
 -- a quote that is not empty stands
 full : (m : ℕ) (q : Quote) → emptyQuote q ≡ false → standing m q ≡ some (asMaker m q)

@@ -121,9 +121,9 @@ module _ (p : List ℕ) where
 
   maker-told : (f m : ℕ) (q : Quote)
       → makerQuoteOn f m q p
-      ≡ told (cond (eqb f 0) (makerCode (knownBy (readingOf p)) m) f) p (cond (eqb (cond (eqb f 0) (makerCode (knownBy (readingOf p)) m) f) 0) (makerOn m q p) p)
+      ≡ told (cond (eqb f 0) (makerCode (knownBy (readingOf p)) m q) f) p (cond (eqb (cond (eqb f 0) (makerCode (knownBy (readingOf p)) m q) f) 0) (makerOn m q p) p)
   unfolding makerQuoteOn flagged
-  maker-told f m q = go (makerCode (knownBy (readingOf p)) m) (cut f 0)
+  maker-told f m q = go (makerCode (knownBy (readingOf p)) m q) (cut f 0)
     where
       one : (k : ℕ) → Cut k 0 → cond (eqb k 0) (told 0 p (makerOn m q p)) (rejected k p) ≡ told k p (cond (eqb k 0) (makerOn m q p) p)
       one k (equal t e) = rw (t, e)

@@ -153,13 +153,13 @@ pub fn maker_quote(page: &mut [u8], fault: u8, name: u32, quote: Quote) -> Effec
         makers::put_cell_over(page, k, name, quote);
         return renewed(page, 0);
     }
+    if makers::is_empty(quote) {
+        return renewed(page, 0);
+    }
     let free = makers::free_place(page);
     let Found::At(k) = free else {
         return Effect { code: 49, flags: 0 };
     };
-    if makers::is_empty(quote) {
-        return renewed(page, 0);
-    }
     makers::put_cell(page, k, name, quote);
     renewed(page, 0)
 }

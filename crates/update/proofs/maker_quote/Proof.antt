@@ -26,45 +26,49 @@ returns-2 c =
     rw (z .if1 .left)
     (maker-known _ (z .before .before .pre) _ _ _ _ _ (sym (m .maker-place .ensures) ∙ k .known .given .1) (p .put-cell-over .ensures) (r .renewed .ensures))
 
+-- an empty quote of a maker without a cell
 returns-3 : tie.Need-returns-3
 returns-3 c =
-    let f = c .before .before in
-    let t = f .before .before in
-    let m = t .before .before in
-    let z = m .before .before in
-    rw (z .if1 .left) (maker-full _ (z .before .before .pre) _ _ (sym (m .maker-place .ensures) ∙ t .enum-told .given .1) (sym (f .free-place .ensures) ∙ c .enum-told2 .given .1))
-
-returns-4 : tie.Need-returns-4
-returns-4 c =
     let r = c .before .before in
-    let e = r .before .before .before in
-    let g = e .before .before in
-    let f = g .before .before in
-    let t = f .before .before in
+    let i = r .before .before in
+    let e = i .before in
+    let t = e .before in
     let m = t .before .before in
     let z = m .before .before in
     rw (z .if1 .left)
-    (maker-nothing _ (z .before .before .pre) _ _ _ _ (sym (m .maker-place .ensures) ∙ t .enum-told .given .1) (sym (f .free-place .ensures) ∙ g .free .given .1) (sym (e .is-empty .ensures) ∙ r .before .before .if2 .taken) (r .renewed2 .ensures))
+    (maker-nothing _ (z .before .before .pre) _ _ _ (sym (m .maker-place .ensures) ∙ t .enum-told .given .1) (sym (e .is-empty .ensures) ∙ i .if2 .taken) (r .renewed2 .ensures))
+
+returns-4 : tie.Need-returns-4
+returns-4 c =
+    let f = c .before .before in
+    let i = f .before .before in
+    let e = i .before in
+    let t = e .before in
+    let m = t .before .before in
+    let z = m .before .before in
+    rw (z .if1 .left)
+    (maker-full _ (z .before .before .pre) _ _ (sym (m .maker-place .ensures) ∙ t .enum-told .given .1) (sym (f .free-place .ensures) ∙ c .enum-told2 .given .1) (sym (e .is-empty .ensures) ∙ i .if2 .left))
 
 put-cell-requires : tie.Need-put-cell-requires
 put-cell-requires c κs =
-    let g = c .before .before .before .before in
+    let g = c .before .before in
     let f = g .before .before in
-    let s = f .before .before .before .before .before .before .before .before in
+    let s = f .before .before .before .before .before .before .before .before .before .before in
     (s .pre, free-hit _ _ (sym (f .free-place .ensures) ∙ g .free .given .1) .0)
 
 returns-5 : tie.Need-returns-5
 returns-5 c =
     let r = c .before .before in
     let p = r .before .before .before .before in
-    let e = p .before .before .before in
-    let g = e .before .before in
+    let g = p .before .before .before in
     let f = g .before .before in
-    let t = f .before .before in
+    let i = f .before .before in
+    let e = i .before in
+    let t = e .before in
     let m = t .before .before in
     let z = m .before .before in
     rw (z .if1 .left)
-    (maker-new _ (z .before .before .pre) _ _ _ _ _ (sym (m .maker-place .ensures) ∙ t .enum-told .given .1) (sym (f .free-place .ensures) ∙ g .free .given .1) (sym (e .is-empty .ensures) ∙ p .before .before .if2 .left)
+    (maker-new _ (z .before .before .pre) _ _ _ _ _ (sym (m .maker-place .ensures) ∙ t .enum-told .given .1) (sym (f .free-place .ensures) ∙ g .free .given .1) (sym (e .is-empty .ensures) ∙ i .if2 .left)
     (p .put-cell .ensures) (r .renewed3 .ensures))
 
 pub maker-quote-spec : {M : Type 1} → statement M
@@ -80,12 +84,12 @@ maker-quote-spec =
     returns-2
     (λ c. search needs)
     (λ c κs. search needs)
-    (λ c. search needs)
-    (λ c. search needs)
+    (λ c κs. search needs)
     (λ c. search needs)
     returns-3
     (λ c κs. search needs)
-    (λ c κs. search needs)
+    (λ c. search needs)
+    (λ c. search needs)
     (λ c. search needs)
     returns-4
     put-cell-requires

@@ -48,5 +48,5 @@ oddLotOn l o p = cond (eqb (oddCodeOn l o p) 0) (flagged 0 p (oddOnPage l o p)) 
 unfoldable pub makerQuoteOn : ℕ → ℕ → Quote → List ℕ → Updated
 makerQuoteOn fault m q p =
     cond (eqb fault 0)
-    (cond (eqb (makerCode (knownBy (readingOf p)) m) 0) (flagged 0 p (makerOn m q p)) (rejected (makerCode (knownBy (readingOf p)) m) p))
+    (cond (eqb (makerCode (knownBy (readingOf p)) m q) 0) (flagged 0 p (makerOn m q p)) (rejected (makerCode (knownBy (readingOf p)) m q) p))
     (rejected fault p)

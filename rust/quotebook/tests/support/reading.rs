@@ -161,7 +161,8 @@ impl Reading {
         self.makers.iter().flatten().any(|(of, _)| *of == name)
     }
 
-    /// The first cell of the name, else one that is free.
+    /// The first cell of the name, else one that is free. The empty quote of a maker without a cell
+    /// changes no maker.
     fn take_maker(&mut self, message: &[u8]) -> u8 {
         let name = [message[56], message[57], message[58], message[59]];
         let quote = round(message);
@@ -170,6 +171,9 @@ impl Reading {
         let standing = self.makers.iter().position(has_name);
         let of_standing = standing.and_then(|at| self.makers[at]);
         let free = self.makers.iter().position(Option::is_none);
+        if empty && standing.is_none() {
+            return 0;
+        }
         let Some(cell) = standing.or(free) else {
             return 49;
         };

@@ -146,7 +146,8 @@ impl<U: Update, const M: u8> Book<U, M> {
         Ok(Worked::accepted(page.changes::<M>(&before)))
     }
 
-    /// Q U: a FINRA maker's quote replaces its last one or frees its cell.
+    /// Q U: a FINRA maker's quote replaces its last one or frees its cell. The empty quote of a maker
+    /// without a cell changes no maker, however many stand (T-03).
     fn maker(&mut self, letter: u8, message: &[u8]) -> Result<Worked, u8> {
         check(message[2] == letter, code::LETTER)?;
         let fixed: &[u8; MAKER_LEN] = message.try_into().map_err(|_| code::LENGTH)?;
@@ -161,19 +162,26 @@ impl<U: Update, const M: u8> Book<U, M> {
         let name = u32::from_be_bytes(maker);
 
         let standing = page.maker_cell(name);
-        if M == mistake::EMPTY_MAKER_TAKEN && standing.is_none() && quote.is_empty::<M>() {
-            return Ok(Worked::accepted(0));
-        }
-        let cell = standing
-            .or_else(|| page.free_cell::<M>())
-            .ok_or(code::MAKERS_FULL)?;
         let before = page.entries;
-        if !quote.is_empty::<M>() {
+        let touched = if quote.is_empty::<M>() {
+            if M == mistake::EMPTY_MAKER_REFUSED && standing.is_none() {
+                page.free_cell::<M>().ok_or(code::MAKERS_FULL)?;
+            }
+            match standing {
+                Some(cell) => {
+                    page.free_maker::<M>(cell);
+                    Touched::Maker(cell, name)
+                }
+                None => Touched::Makers,
+            }
+        } else {
+            let cell = standing
+                .or_else(|| page.free_cell::<M>())
+                .ok_or(code::MAKERS_FULL)?;
             page.set_maker::<M>(cell, name, &quote);
-        } else if standing.is_some() {
-            page.free_maker::<M>(cell);
-        }
-        U::update::<M>(page, Touched::Maker(cell, name));
+            Touched::Maker(cell, name)
+        };
+        U::update::<M>(page, touched);
         Ok(Worked::accepted(page.changes::<M>(&before)))
     }
 

@@ -39,7 +39,7 @@ mistakes! {
     21 E_ADMITS_BID "Condition E admits the bid too.";
     22 FIFTH_BEFORE_FAULT "64 of an item goes before 62 and 63 of a later one.";
     23 ZERO_SHARES_ADDED "Zero shares of an unknown price count as an added level.";
-    24 EMPTY_MAKER_TAKEN "An empty quote of a new maker is accepted while sixteen stand.";
+    24 EMPTY_MAKER_REFUSED "49 is claimed for an empty quote of a new maker while sixteen stand.";
     25 CLOSE_RENEWS_TIMES "FINRA Open and Close give makers' quotes their own time.";
     26 REPLACED_KEEPS_TIME "A level that is replaced keeps its old time.";
     27 HALF_RANGE_IS_GAP "A difference of 2,147,483,648 is a gap.";

@@ -94,13 +94,14 @@ fn quote_fault(quote: &Quote, conditions: &[u8]) -> Option<u8> {
     None
 }
 
-/// Checks 48 and 49, the makers being those that the history gives.
+/// Checks 48 and 49, the makers being those that the history gives. An empty quote asks for no cell.
 fn maker_code(message: &[u8], account: &Account) -> u8 {
     let maker = maker_of(message);
     if !is_maker(maker) {
         return code::MAKER;
     }
-    if account.maker(maker).is_none() && account.makers().len() >= MAKERS_MAX {
+    let is_new = account.maker(maker).is_none();
+    if !Quote::of(message).is_empty() && is_new && account.makers().len() >= MAKERS_MAX {
         return code::MAKERS_FULL;
     }
     code::ACCEPTED

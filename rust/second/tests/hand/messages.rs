@@ -162,7 +162,10 @@ fn a_seventeenth_maker() {
         assert_eq!(desk.message(D, maker("Q", NOTHING, NOTHING)), (0, 0));
         sixteen_makers(desk);
         assert_eq!(desk.code(D, maker("Q", (TEN, 1), NOTHING)), 49);
-        assert_eq!(desk.code(D, maker("Q", NOTHING, NOTHING)), 49);
+        // Its empty quote is accepted and changes no maker: it stays unknown (T-03).
+        assert_eq!(desk.message(D, maker("Q", NOTHING, NOTHING)), (0, 0));
+        assert_eq!(desk.code(D, maker("Q", (TEN, 1), NOTHING)), 49);
+        assert_eq!(desk.code(D, maker("Q", (TEN, 0), NOTHING)), 49);
         assert_eq!(desk.code(D, maker("q", NOTHING, NOTHING)), 48);
         assert_eq!(desk.code(D, maker("B", (TEN + CENT, 1), NOTHING)), 0);
         // An indication keeps its cell, an empty quote frees it.
