@@ -1,18 +1,19 @@
 -- The messages of a block on a book's bytes are those on its readings.
 -- Assumes nothing.
-use Prim.Native.Nat.{ℕ, zero, suc, _+_}
+use Prim.Native.Nat.{ℕ, zero, suc, _+_, _≤_}
 use mathlib.Core.Path.{_≡_, refl, ap, _∙_}
 use mathlib.Core.Bool.{Bool, true, false, cond}
 use mathlib.Core.List.{List, [], _∷_}
 use native.Mathlib.Omega.{arith}
-use lib.Dec.{eqb}
+use lib.Dec.{leb, eqb}
+use lib.ListN.{length}
 use Rattle.field.specs.Field.{Bytes}
 use Rattle.field.proofs.Laws.{bytes-part}
-use Rattle.lists.specs.Lists.{at, member, upper}
+use Rattle.lists.specs.Lists.{at, upper}
 use Rattle.lists.proofs.Tests.{Cut, equal, apart, cut}
-use Rattle.message.specs.declared.Kind.{Kind}
-use Rattle.message.specs.declared.Kind.the-variants as kind
-use Rattle.message.specs.Message.{kindOf, symbolOf, oddAt, Known, codeOf, Part, roundPartOf, wholeBy, partlyTaken, partsOf, roundLotOdd, oddLotOdd, roundLength, roundLotItems, oddLotItems}
+use Rattle.message.specs.declared.Message.{Message}
+use Rattle.message.specs.Message.{symbolOf, oddAt, oddLength, messageOf, Known, codeBy, codeOf, Part, roundPartOf, oddPartOf, makerPartOf, partlyTaken, partsOf, roundLotOdd, oddLotOdd, roundLength, roundLotItems, oddLotItems}
+use Rattle.message.proofs.SpokenLaws.{Spoken, refused, idle, finra, round, odd, maker, spoken, parts-refused, parts-whole, parts-round, parts-odd, parts-maker}
 use Rattle.block.specs.Block.{countIn, messageAt, messagesFrom, messagesOf}
 use Rattle.update.specs.Parts.{Reading, knownOf}
 use Rattle.opening.specs.Opening.{pagesIn}
@@ -21,8 +22,7 @@ use Rattle.opening.proofs.OpeningLaws.{Sound}
 use Rattle.opening.proofs.PageLaws.{OpeningKept, opening-none, opening-then, kept-sound}
 use Rattle.work.proofs.PartLaws.{PartGood, PartDone, part-done}
 use Rattle.review.proofs.FitLaws.{quote-fits, name-fits, odd-message}
-use Rattle.review.proofs.CodeLaws.{Takes, takes-whole, takes-partly, letter-is, OddTaken, round-taken, odd-taken, MakerTaken, maker-taken}
-use Rattle.review.proofs.KeptLaws.{partly-is}
+use Rattle.review.proofs.CodeLaws.{takes-whole, OddTaken, round-taken, odd-taken, maker-taken}
 use Rattle.review.proofs.WorkLaws.{partsReading, messageReading, messagesReading, toldReading}
 
 -- ---- the parts of a message that is taken are good
@@ -31,45 +31,43 @@ abbrev pub AllPartGood : List Part → Type 0
 AllPartGood [] = Unit {0}
 AllPartGood (p ∷ ps) = PartGood p × AllPartGood ps
 
-module _ (e : Known) (letter : ℕ) (m : List ℕ) (u : upper letter ≡ true) (by : Bytes m) (c : ℕ) (x : codeOf e letter m ≡ c) where
-  up : Takes c → upper (at m 2) ≡ true
-  up t = rw (letter-is e letter m c t x) u
+module _ (e : Known) (letter : ℕ) (m : List ℕ) (u : upper letter ≡ true) (by : Bytes m) (c : ℕ) where
+  up : at m 2 ≡ letter → upper (at m 2) ≡ true
+  up l = rw l u
 
-  round-good : (t : Takes c) → OddTaken e letter m c t (roundLotOdd m) → PartGood (roundPartOf m)
+  -- an odd part with code 0
+  odd-good : at m 2 ≡ letter → (i j : ℕ) → 12 ≤ j → length m ≡ oddLength (oddAt m i j) → (z : c ≡ 0) → OddTaken e letter m c (takes-whole c z) (oddAt m i j) → PartGood (oddPartOf m (oddAt m i j))
+  odd-good l i j h n z r = (up l, odd-message m by i j h n (e .lot) (e .levels letter) (r .odd ∙ z))
+
+  good-by : (x : Message) → codeBy e letter m x ≡ c → Spoken letter m x → AllPartGood (partsOf c m)
   unfolding oddAt
-  round-good t r = (up t, quote-fits m by (omega (arith, r .size)))
-
-  whole-good : c ≡ 0 → (k : Kind) → kindOf m ≡ k → AllPartGood (wholeBy m k)
-  unfolding member
-  whole-good z kind.Inquiry k = tt
-  whole-good z kind.Close k = (refl, tt)
-  whole-good z kind.Open k = (refl, tt)
-  whole-good z kind.Test k = tt
-  whole-good z kind.RoundLot k =
-      let t : Takes c = takes-whole c z in
-      let r : OddTaken e letter m c t (roundLotOdd m) = round-taken e letter m c t x k in
-      (round-good t r, ((up t, odd-message m by roundLength roundLotItems (omega arith) (r .size) (e .lot) (e .levels letter) (r .odd ∙ z)), tt))
-  whole-good z kind.OddLot k =
-      let t : Takes c = takes-whole c z in
-      let r : OddTaken e letter m c t (oddLotOdd m) = odd-taken e letter m c t x k in
-      ((up t, odd-message m by 31 oddLotItems (omega arith) (r .size) (e .lot) (e .levels letter) (r .odd ∙ z)), tt)
-  whole-good z kind.Maker k =
-      let t : Takes c = takes-whole c z in
-      let r : MakerTaken e letter m c t = maker-taken e letter m c t x k in
-      ((name-fits m by (omega (arith, r .size)), quote-fits m by (omega (arith, r .size)), r .condition), tt)
-  whole-good z kind.Unknown k = tt
-
-  parts-good : AllPartGood (partsOf c m)
-  unfolding partsOf
-  parts-good = go (cut c 0) (partlyTaken c m) refl
+  good-by x q (refused k lo hi) = rw (parts-refused c m (omega arith) (omega arith)) tt
+  good-by x q (idle w) = rw (← q, parts-whole m, w) tt
+  good-by x q (finra k d w) = rw (← q, parts-whole m, w) (d, tt)
+  good-by x q (round l k n) = rw (parts-round c m k) (go (cut c 0) (leb 60 c))
     where
-      go : Cut c 0 → (p : Bool) → partlyTaken c m ≡ p → AllPartGood (cond (eqb c 0) (wholeBy m (kindOf m)) (cond p (roundPartOf m ∷ []) []))
-      go (equal t z) p f = rw t (whole-good z (kindOf m) refl)
-      go (apart t z) true f =
-          let r = partly-is c m f in
-          let k : Takes c = takes-partly c (r .1) in
-          rw t (round-good k (round-taken e letter m c k x (r .0)), tt)
-      go (apart t z) false f = rw t tt
+      round-good : PartGood (roundPartOf m)
+      round-good = (up l, quote-fits m by (omega (arith, n)))
+
+      go : Cut c 0 → (p : Bool) → AllPartGood (cond (eqb c 0) (roundPartOf m ∷ oddPartOf m (roundLotOdd m) ∷ []) (cond p (roundPartOf m ∷ []) []))
+      go (equal t z) p = rw t (round-good, (odd-good l roundLength roundLotItems (omega arith) n z (round-taken e letter m c (takes-whole c z) (roundLotOdd m) q), tt))
+      go (apart t z) true = rw t (round-good, tt)
+      go (apart t z) false = rw t tt
+  good-by x q (odd l k n) = rw (parts-odd c m k) (go (cut c 0))
+    where
+      go : Cut c 0 → AllPartGood (cond (eqb c 0) (oddPartOf m (oddLotOdd m) ∷ []) [])
+      go (equal t z) = rw t (odd-good l 31 oddLotItems (omega arith) n z (odd-taken e letter m c (takes-whole c z) (oddLotOdd m) q), tt)
+      go (apart t z) = rw t tt
+  good-by x q (maker k n) = rw (parts-maker c m k) (go (cut c 0))
+    where
+      go : Cut c 0 → AllPartGood (cond (eqb c 0) (makerPartOf m ∷ []) [])
+      go (equal t z) =
+          rw t ((name-fits m by (omega (arith, n)), quote-fits m by (omega (arith, n)), maker-taken e letter m c (takes-whole c z) q .condition), tt)
+      go (apart t z) = rw t tt
+
+  parts-good : codeOf e letter m ≡ c → AllPartGood (partsOf c m)
+  unfolding codeOf
+  parts-good x = good-by (messageOf letter m) x (spoken letter m)
 
 -- ---- the messages of a block of bytes are bytes
 

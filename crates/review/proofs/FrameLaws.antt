@@ -18,7 +18,7 @@ use Rattle.update.specs.Parts.{knownOf, roundOn, oddOnPage, makerOn}
 use Rattle.update.proofs.EntryLaws.{Kept}
 use Rattle.update.proofs.SlotLaws.{round-kept, odd-kept}
 use Rattle.update.proofs.MakerLaws.{maker-kept}
-use Rattle.update.proofs.SpokenLaws.{Shaped, AllShaped, shaped}
+use Rattle.message.proofs.SpokenLaws.{Shaped, AllShaped, shaped}
 use Rattle.opening.specs.declared.Line.{Line}
 use Rattle.opening.specs.Opening.{symbolsOf, sound, linesIn, restIn, pageAt, pagesIn, onPage}
 use Rattle.line.specs.Line.{done, advanced}

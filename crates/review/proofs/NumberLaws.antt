@@ -9,16 +9,15 @@ use lib.Dec.{ltb, leb, eqb}
 use lib.ListN.{length}
 use Rattle.quote.specs.Quote.{emptyQuote}
 use Rattle.field.specs.Field.{be, field}
-use Rattle.lists.specs.Lists.{at, member, isSome}
+use Rattle.lists.specs.Lists.{at, member, all, isSome}
+use Rattle.lists.proofs.Tables.{in-range}
 use Rattle.quote.specs.declared.Quote.{Quote}
 use Rattle.levels.specs.declared.Item.{Item}
 use Rattle.levels.specs.Levels.{Standing, Odd, oddOn, itemsBad, oddBad, fifth, oddCode, clearMarks}
 use Rattle.text.specs.Form.{symbolGood, makerGood, letterGood}
-use Rattle.message.specs.declared.Kind.{Kind}
-use Rattle.message.specs.declared.Kind.the-variants as kind
 use Rattle.message.specs.declared.Message.{Message}
-use Rattle.message.specs.declared.Message.the-variants as says
-use Rattle.message.specs.Message.{kindOf, quoteAt, makerName, roundLotOdd, oddLotOdd, oddOf, oddLength, sideBad, roundConditions, makerConditions, priceFault, quoteFault, isD, testBytes, readInquiry, readTest, readFinra, readRoundLot, readOddLot, readMaker, readBy, isUnknown, messageOf, Known, makerCode, codeBy, codeOf, headerLength, testLength, makerLength, symbolText, makerText, headerZero}
+use Rattle.message.specs.Message.{quoteAt, makerName, roundLotOdd, oddLotOdd, oddOf, sideBad, roundConditions, makerConditions, priceFault, quoteFault, messageOf, Known, makerCode, codeBy, codeOf, makerText}
+use Rattle.message.proofs.SpokenLaws.{Spoken, refused, idle, finra, round, odd, maker, spoken}
 use Rattle.block.specs.Block.{countIn, sequenceIn, checksumOf, lengthGood, tableGood, controlAmong, checked, idleBlock, answerLength}
 use Rattle.block.specs.Sequence.{arrivalOf}
 use Rattle.block.specs.declared.Checked.{Checked}
@@ -76,24 +75,6 @@ fault-known table q rest r =
     either (member table (q .condition)) (either (sideBad (q .bid)) (in-codes 47 refl) (either (sideBad (q .offer)) (in-codes 47 refl) r)) (in-codes 46 refl)
 
 module _ (e : Known) (letter : ℕ) (m : List ℕ) where
-  data Coded : Message → Type 0 where
-    coded : {x : Message} → Among codes (codeBy e letter m x) → Coded x
-
-  code-of : {x : Message} → Coded x → Among codes (codeBy e letter m x)
-  code-of (coded a) = a
-
-  one : {x y : Message} (t : Bool) → Coded x → Coded y → Coded (cond t x y)
-  one true a b = a
-  one false a b = b
-
-  refuse : (k : ℕ) → member codes k ≡ true → Coded (says.Refused k)
-  refuse k a = coded (in-codes k a)
-
-  -- 42, 43, then what follows
-  form : {x : Message} (s t : Bool) → Coded x → Coded (cond s (cond t x (says.Refused 43)) (says.Refused 42))
-  unfolding member
-  form s t a = one s (one t a (refuse 43 refl)) (refuse 42 refl)
-
   -- 45, then the fault, then what follows
   faulted : {f x : ℕ} → Among codes f → Among codes x → Among codes (cond (e .listed) (cond (eqb f 0) x f) 45)
   unfolding member
@@ -103,35 +84,20 @@ module _ (e : Known) (letter : ℕ) (m : List ℕ) where
   unfolding makerCode member
   room-known name q = either (emptyQuote q) (in-codes 0 refl) (either (e .stands name) (in-codes 0 refl) (either (ltb (e .count) makerCount) (in-codes 0 refl) (in-codes 49 refl)))
 
-  read-known : (k : Kind) → Coded (readBy letter m k)
-  unfolding readInquiry readTest readFinra readRoundLot readOddLot readMaker member
-  read-known kind.Inquiry = form (eqb (length m) headerLength) (headerZero m) (coded (in-codes 0 refl))
-  read-known kind.Close = form (eqb (length m) headerLength) (headerZero m) (one (isD letter) (coded (in-codes 0 refl)) (refuse 44 refl))
-  read-known kind.Open = form (eqb (length m) headerLength) (headerZero m) (one (isD letter) (coded (in-codes 0 refl)) (refuse 44 refl))
-  read-known kind.Test = form (eqb (length m) testLength) (headerZero m && testBytes m) (coded (in-codes 0 refl))
-  read-known kind.RoundLot =
-      form (eqb (length m) (oddLength (roundLotOdd m))) (headerZero m && eqb (at m 59) 0)
-      (one (isD letter) (refuse 44 refl)
-      (one (symbolGood (symbolText m))
-      (coded (faulted (fault-known roundConditions (quoteAt m) 0 (in-codes 0 refl)) (odd-known (e .lot) (e .levels letter) (oddOf m (roundLotOdd m)))))
-      (refuse 45 refl)))
-  read-known kind.OddLot =
-      form (eqb (length m) (oddLength (oddLotOdd m))) (headerZero m && (eqb (at m 34) 0 && eqb (at m 35) 0))
-      (one (isD letter) (refuse 44 refl)
-      (one (symbolGood (symbolText m)) (coded (either (e .listed) (odd-known (e .lot) (e .levels letter) (oddOf m (oddLotOdd m))) (in-codes 45 refl))) (refuse 45 refl)))
-  read-known kind.Maker =
-      form (eqb (length m) makerLength) (headerZero m)
-      (one (isD letter)
-      (one (symbolGood (symbolText m))
-      (coded (faulted (fault-known makerConditions (quoteAt m) _ (either (makerGood (makerText m)) (in-codes 0 refl) (in-codes 48 refl))) (room-known (makerName m) (quoteAt m))))
-      (refuse 45 refl))
-      (refuse 44 refl))
-  read-known kind.Unknown = refuse 40 refl
+  code-by : (x : Message) → Spoken letter m x → Among codes (codeBy e letter m x)
+  unfolding member all
+  code-by x (refused c lo hi) = among (in-range codes 40 6 c refl lo hi)
+  code-by x (idle w) = in-codes 0 refl
+  code-by x (finra c d w) = in-codes 0 refl
+  code-by x (round l k z) = faulted (fault-known roundConditions (quoteAt m) 0 (in-codes 0 refl)) (odd-known (e .lot) (e .levels letter) (oddOf m (roundLotOdd m)))
+  code-by x (odd l k z) = either (e .listed) (odd-known (e .lot) (e .levels letter) (oddOf m (oddLotOdd m))) (in-codes 45 refl)
+  code-by x (maker k z) =
+      faulted (fault-known makerConditions (quoteAt m) _ (either (makerGood (makerText m)) (in-codes 0 refl) (in-codes 48 refl))) (room-known (makerName m) (quoteAt m))
 
   -- the code of a message is one of document 01's
   pub code-known : member codes (codeOf e letter m) ≡ true
-  unfolding codeOf messageOf member
-  code-known = is-among (code-of (one (isUnknown (kindOf m)) (refuse 40 refl) (one (eqb (at m 2) letter) (read-known (kindOf m)) (refuse 41 refl))))
+  unfolding codeOf
+  code-known = is-among (code-by (messageOf letter m) (spoken letter m))
 
 -- ---- numbers
 

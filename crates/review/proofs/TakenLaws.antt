@@ -13,9 +13,8 @@ use Rattle.field.specs.Field.{Bytes}
 use Rattle.lists.specs.Lists.{at, member, every}
 use Rattle.lists.proofs.Tests.{clash, Cut, equal, apart, cut}
 use Rattle.entries.specs.Publication.{sameEntry, flag, changeFlags}
-use Rattle.message.specs.declared.Kind.{Kind}
-use Rattle.message.specs.declared.Kind.the-variants as kind
 use Rattle.message.specs.Message.{kindOf, symbolOf, partlyBy, partlyTaken}
+use Rattle.message.proofs.SpokenLaws.{partly-no}
 use Rattle.block.specs.Block.{countIn, messagesFrom, messagesOf, messagesMost, answerLength}
 use Rattle.block.specs.declared.Checked.the-variants as checks
 use Rattle.block.proofs.CheckLaws.{Passed, passed}
@@ -63,22 +62,12 @@ abbrev AllClean : List Told → Type 0
 AllClean [] = Unit {0}
 AllClean (t ∷ ts) = Clean t × AllClean ts
 
-none-partly : (k : Kind) → partlyBy 0 k ≡ false
-none-partly kind.Inquiry = refl
-none-partly kind.Close = refl
-none-partly kind.Open = refl
-none-partly kind.Test = refl
-none-partly kind.RoundLot = refl
-none-partly kind.OddLot = refl
-none-partly kind.Maker = refl
-none-partly kind.Unknown = refl
-
 accepted-whole : (c : ℕ) (m : List ℕ) → eqb c 0 ≡ true → partlyTaken c m ≡ false
 unfolding partlyTaken
 accepted-whole c m e = go (cut c 0) e
   where
     go : Cut c 0 → eqb c 0 ≡ true → partlyBy c (kindOf m) ≡ false
-    go (equal t p) e = rw p (none-partly (kindOf m))
+    go (equal t p) e = rw p (partly-no 0 (kindOf m) refl)
     go (apart t p) e = clash (sym e ∙ t)
 
 told-clean : (b : List ℕ) (letter : ℕ) (ms : List (List ℕ)) → AllClean (toldOn b letter ms)

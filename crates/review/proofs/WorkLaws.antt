@@ -6,16 +6,18 @@ use mathlib.Core.Bool.{Bool, true, false, cond}
 use mathlib.Core.Logic.{_⊎_, inl, inr}
 use mathlib.Core.List.{List, [], _∷_}
 use native.Mathlib.Omega.{arith}
-use lib.Dec.{ltb, eqb}
+use lib.Dec.{ltb, leb, eqb}
 use lib.ListN.{length}
-use borrow.Author.Tests.{ltb-true, ne-eqb}
+use borrow.Author.Tests.{ltb-true, leb-true, ne-eqb}
 use Rattle.quote.specs.declared.Quote.{Quote}
 use Rattle.quote.specs.Quote.{emptyQuote}
 use Rattle.lists.specs.Lists.{isSome}
 use Rattle.lists.proofs.Tests.{clash, Cut, equal, apart, cut}
 use Rattle.message.specs.declared.Kind.{Kind}
 use Rattle.message.specs.declared.Kind.the-variants as kind
-use Rattle.message.specs.Message.{quoteAt, kindOf, symbolOf, makerName, oddAt, Known, makerCode, codeOf, Part, roundPartOf, wholeBy, partlyTaken, partsOf, roundLotOdd, roundLotItems}
+use Rattle.message.specs.declared.Message.{Message}
+use Rattle.message.specs.Message.{quoteAt, kindOf, symbolOf, makerName, oddAt, messageOf, Known, makerCode, codeBy, codeOf, Part, roundPartOf, oddPartOf, makerPartOf, wholeBy, partlyTaken, partsOf, roundLotOdd, oddLotOdd, roundLotItems}
+use Rattle.message.proofs.SpokenLaws.{Spoken, refused, idle, finra, round, odd, maker, spoken, parts-refused, parts-whole, parts-round, parts-odd, parts-maker}
 use Rattle.page.specs.Page.{occupied}
 use Rattle.makers.specs.Makers.{findMaker}
 use Rattle.update.specs.Parts.{Reading, knownBy, knownOf}
@@ -27,8 +29,8 @@ use Rattle.review.proofs.CellLaws.{Room}
 use Rattle.review.proofs.SilentLaws.{names}
 use Rattle.review.proofs.Agree.{Good, good-reviewed, AllGood, Core, ReadingOf, missing, found, reading-of, known-same}
 use Rattle.review.proofs.PartLaws.{RoomFor, cellsIn, core-part, part-listed}
-use Rattle.review.proofs.CodeLaws.{Takes, takes-whole, takes-partly, OddTaken, round-taken, odd-taken, MakerTaken, maker-taken}
-use Rattle.review.proofs.KeptLaws.{onto, partly-is, kept-parts}
+use Rattle.review.proofs.CodeLaws.{Takes, takes-whole, takes-partly, round-taken, odd-taken, MakerTaken, maker-taken}
+use Rattle.review.proofs.KeptLaws.{onto, kept-parts}
 use Rattle.page.specs.Layout.{makerCount}
 
 -- ---- the book's work, on readings
@@ -119,38 +121,52 @@ module _ (letter : ℕ) (m : List ℕ) (h : List Part) (rs : List Reading) (g : 
   named-then : (p q : Part) → ((s : ℕ) → names q s ≡ eqb (symbolOf m) s) → RoomFor q (partReading p rs) → e .listed ≡ true → Ready q (partReading p rs)
   named-then p q f room k = record { room = room; listed = λ s d. f s ∙ only h rs g (symbolOf m) k s (rw (part-listed p rs) at d) }
 
-  whole-ready : c ≡ 0 → AllReady (wholeBy m (kindOf m)) rs
-  whole-ready z = go (kindOf m) refl
+  ready-by : (y : Message) → codeBy e letter m y ≡ c → Spoken letter m y → AllReady (partsOf c m) rs
+  ready-by y q (refused k lo hi) = rw (parts-refused c m (omega arith) (omega arith)) tt
+  ready-by y q (idle w) = rw (← q, parts-whole m, w) tt
+  ready-by y q (finra k d w) = rw (← q, parts-whole m, w) (record { room = tt; listed = λ s d. refl }, tt)
+  ready-by y q (round l k n) = rw (parts-round c m k) (go (cut c 0) (leb 60 c) refl)
     where
-      go : (k : Kind) → kindOf m ≡ k → AllReady (wholeBy m k) rs
-      go kind.Inquiry k = tt
-      go kind.Close k = (record { room = tt; listed = λ s d. refl }, tt)
-      go kind.Open k = (record { room = tt; listed = λ s d. refl }, tt)
-      go kind.Test k = tt
-      go kind.RoundLot k =
-          let t : OddTaken e letter m c (takes-whole c z) (roundLotOdd m) = round-taken e letter m c (takes-whole c z) x k in
-          (named _ (λ s. refl) tt (t .known), (named-then _ _ (λ s. refl) tt (t .known), tt))
-      go kind.OddLot k = (named _ (λ s. refl) tt (odd-taken e letter m c (takes-whole c z) x k .known), tt)
-      go kind.Maker k =
-          let t : MakerTaken e letter m c (takes-whole c z) = maker-taken e letter m c (takes-whole c z) x k in
-          (named _ (λ s. refl) (room-of h rs g (symbolOf m) (makerName m) (quoteAt m) (t .known) (t .room ∙ z)) (t .known), tt)
-      go kind.Unknown k = tt
+      part-ready : Takes c → Ready (roundPartOf m) rs
+      part-ready t = named _ (λ s. refl) tt (round-taken e letter m c t (roundLotOdd m) q .known)
+
+      go : Cut c 0 → (p : Bool) → leb 60 c ≡ p → AllReady (cond (eqb c 0) (roundPartOf m ∷ oddPartOf m (roundLotOdd m) ∷ []) (cond p (roundPartOf m ∷ []) [])) rs
+      go (equal t z) p f =
+          rw t (part-ready (takes-whole c z), (named-then _ _ (λ s. refl) tt (round-taken e letter m c (takes-whole c z) (roundLotOdd m) q .known), tt))
+      go (apart t z) true f = rw t (part-ready (takes-partly c (leb-true 60 c f)), tt)
+      go (apart t z) false f = rw t tt
+  ready-by y q (odd l k n) = rw (parts-odd c m k) (go (cut c 0))
+    where
+      go : Cut c 0 → AllReady (cond (eqb c 0) (oddPartOf m (oddLotOdd m) ∷ []) []) rs
+      go (equal t z) = rw t (named _ (λ s. refl) tt (odd-taken e letter m c (takes-whole c z) (oddLotOdd m) q .known), tt)
+      go (apart t z) = rw t tt
+  ready-by y q (maker k n) = rw (parts-maker c m k) (go (cut c 0))
+    where
+      go : Cut c 0 → AllReady (cond (eqb c 0) (makerPartOf m ∷ []) []) rs
+      go (equal t z) =
+          let r : MakerTaken e letter m c (takes-whole c z) = maker-taken e letter m c (takes-whole c z) q in
+          rw t (named _ (λ s. refl) (room-of h rs g (symbolOf m) (makerName m) (quoteAt m) (r .known) (r .room ∙ z)) (r .known), tt)
+      go (apart t z) = rw t tt
 
   message-ready : AllReady (partsOf c m) rs
-  unfolding partsOf
-  message-ready = go (cut c 0) (partlyTaken c m) refl
-    where
-      go : Cut c 0 → (p : Bool) → partlyTaken c m ≡ p → AllReady (cond (eqb c 0) (wholeBy m (kindOf m)) (cond p (roundPartOf m ∷ []) [])) rs
-      go (equal t z) p f = rw t (whole-ready z)
-      go (apart t z) true f =
-          let r = partly-is c m f in
-          rw t (named _ (λ s. refl) tt (round-taken e letter m c (takes-partly c (r .1)) x (r .0) .known), tt)
-      go (apart t z) false f = rw t tt
+  unfolding codeOf
+  message-ready = ready-by (messageOf letter m) x (spoken letter m)
 
-  -- a Q K that is taken has 60 bytes or more
+  -- a Q K that is taken has 60 bytes or more; it alone has two parts
   long : Takes c → kindOf m ≡ kind.RoundLot → roundLotItems ≤ length m
-  unfolding oddAt
-  long t k = let r : OddTaken e letter m c t (roundLotOdd m) = round-taken e letter m c t x k in omega (arith, r .size)
+  unfolding codeOf oddAt Takes
+  long t r = go (messageOf letter m) x (spoken letter m)
+    where
+      count : (k : Kind) → kindOf m ≡ k → length (wholeBy m k) ≡ 2
+      count k i = ap (λ (j : Kind). length (wholeBy m j)) (sym i ∙ r)
+
+      go : (y : Message) → codeBy e letter m y ≡ c → Spoken letter m y → roundLotItems ≤ length m
+      go y q (refused k lo hi) = absurd (omega (arith, t (omega arith)))
+      go y q (idle w) = absurd (omega (arith, count (kindOf m) refl, ap (λ (ps : List Part). length ps) w))
+      go y q (finra k d w) = absurd (omega (arith, count (kindOf m) refl, ap (λ (ps : List Part). length ps) w))
+      go y q (round l k n) = omega (arith, n)
+      go y q (odd l k n) = absurd (omega (arith, count kind.OddLot k))
+      go y q (maker k n) = absurd (omega (arith, count kind.Maker k))
 
 module _ (letter : ℕ) (m : List ℕ) (hist : List (List ℕ)) (rs : List Reading) (co : Core (parts hist) rs) where
   pub code-same : codeIn letter m rs ≡ codeR (listedOf rs) letter m hist

@@ -7,7 +7,6 @@ pub mod SlotLaws
 pub mod MakerLaws
 pub mod BlankLaws
 pub mod RefreshLaws
-pub mod SpokenLaws
 pub mod WorkLaws
 pub mod UpdateLaws
 pub mod StoreLaws

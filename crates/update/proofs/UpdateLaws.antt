@@ -24,7 +24,7 @@ use Rattle.entries.specs.Publication.{sameEntry, changeFlags, entryLength}
 use Rattle.page.specs.Page.{levelsFor}
 use Rattle.update.specs.Parts.{readingOf, roundOn, oddOnPage, makerOn, knownBy}
 use Rattle.update.specs.code.Update.{Updated, rejected, flagged, oddCodeOn, roundLotOn, oddLotOn, makerQuoteOn}
-use Rattle.update.proofs.SpokenLaws.{Spoken, refused, idle, finra, round, odd, maker, spoken}
+use Rattle.message.proofs.SpokenLaws.{Spoken, refused, idle, finra, round, odd, maker, spoken}
 use Rattle.update.proofs.WorkLaws.{pageCode, saidPage, pageAfter}
 use Rattle.page.specs.Layout.{pageLot, keptEntries}
 
@@ -150,10 +150,10 @@ module _ (letter : ℕ) (m : List ℕ) (p : List ℕ) where
   unfolding knownBy readingOf
   update-by x (refused k lo hi) = told-none k p
   update-by x (idle w) = told-none 0 p
-  update-by x (finra c w) = told-none 0 p
-  update-by x (round l k) = round-told p letter (quoteFault roundConditions (quoteAt m) 0) (quoteAt m) (oddOf m (roundLotOdd m)) (fault-low roundConditions (quoteAt m) 0 (lit< tt))
-  update-by x (odd l k) = odd-told p letter (oddOf m (oddLotOdd m))
-  update-by x (maker k) = maker-told p (quoteFault makerConditions (quoteAt m) (cond (makerGood (makerText m)) 0 48)) (makerName m) (quoteAt m)
+  update-by x (finra c d w) = told-none 0 p
+  update-by x (round l k z) = round-told p letter (quoteFault roundConditions (quoteAt m) 0) (quoteAt m) (oddOf m (roundLotOdd m)) (fault-low roundConditions (quoteAt m) 0 (lit< tt))
+  update-by x (odd l k z) = odd-told p letter (oddOf m (oddLotOdd m))
+  update-by x (maker k z) = maker-told p (quoteFault makerConditions (quoteAt m) (cond (makerGood (makerText m)) 0 48)) (makerName m) (quoteAt m)
 
   -- the code of the page's message, its flags, and the page after it
   pub update-is : updatedBy letter m p (messageOf letter m) ≡ told (pageCode letter m p) p (pageAfter letter m (messageOf letter m) p)

@@ -7,7 +7,7 @@ use mathlib.Core.List.{List, [], _∷_}
 use Rattle.lists.specs.Lists.{upper}
 use Rattle.message.specs.Message.{symbolOf, partsOf}
 use Rattle.update.specs.Parts.{knownOf}
-use Rattle.update.proofs.SpokenLaws.{shaped}
+use Rattle.message.proofs.SpokenLaws.{shaped}
 use Rattle.opening.specs.Opening.{pagesIn}
 use Rattle.work.specs.Work.{findReading, codeOn, messageOn, messagesOn}
 use Rattle.opening.proofs.OpeningLaws.{Sound}

@@ -1,29 +1,27 @@
--- One message as the code works it: the form that its type has, and what is told of it, by the page that is lent.
+-- One message as the code works it: the length that its type has, and what is told of it, by the page that is lent.
 -- Assumes nothing.
 use Prim.Native.Nat.{ℕ, _+_, _*_, _-_, _≤_, _<_}
 use mathlib.Core.Path.{_≡_, refl, sym, ap, _∙_}
-use mathlib.Core.Bool.{Bool, true, false, _&&_, cond}
+use mathlib.Core.Bool.{Bool, true, false}
 use mathlib.Core.List.{List}
 use native.Mathlib.Omega.{arith}
-use lib.Dec.{leb, eqb}
+use lib.Dec.{leb}
 use lib.ListN.{length, take, drop, length-drop}
 use lib.Seq.{take-all}
-use borrow.Author.Tests.{eqb-true, lt-leb}
+use borrow.Author.Tests.{lt-leb}
 use Rattle.field.specs.Field.{be, part, field}
-use Rattle.lists.specs.Lists.{at, upper}
+use Rattle.lists.specs.Lists.{upper}
 use Rattle.lists.specs.declared.Found.the-variants.{At, Nothing}
 use Rattle.lists.proofs.Tests.{clash}
 use Rattle.quote.specs.declared.Quote.{Quote}
-use Rattle.text.specs.Form.{symbolGood, symbolLength}
-use Rattle.message.specs.declared.Kind.{Kind}
-use Rattle.message.specs.declared.Kind.the-variants as kind
+use Rattle.text.specs.Form.{symbolLength}
 use Rattle.message.specs.declared.OddPart.{OddPart}
 use Rattle.message.specs.declared.Message.{Message}
 use Rattle.message.specs.declared.Message.the-variants as says
-use Rattle.message.specs.Message.{kindOf, symbolOf, oddLength, roundLotOdd, oddLotOdd, oddAt, isD, testBytes, readInquiry, readTest, readFinra, readRoundLot, readOddLot, readMaker, readBy, isUnknown, messageOf, partlyTaken, headerLength, testLength, makerLength, symbolText, roundLotItems, oddLotItems, headerZero}
+use Rattle.message.specs.Message.{kindOf, symbolOf, oddLength, oddAt, messageOf, partlyTaken, headerLength, makerLength}
 use Rattle.update.specs.Parts.{finraOn}
 use Rattle.update.specs.code.Update.{Updated}
-use Rattle.update.proofs.SpokenLaws.{Spoken, refused, idle, finra, round, odd, maker, spoken, partly-no}
+use Rattle.message.proofs.SpokenLaws.{Spoken, refused, idle, finra, round, odd, maker, spoken, partly-no}
 use Rattle.update.proofs.WorkLaws.{pageCode, pageAfter, said-kept}
 use Rattle.update.proofs.UpdateLaws.{updatedBy, update-is}
 use Rattle.opening.specs.Opening.{sound, symbolsOf, pageAt, setPage, pagePlace, eachPage}
@@ -41,18 +39,17 @@ use Rattle.work.proofs.TakeLaws.{names, saidCode, Worked, worked-at, wo
 use Rattle.page.specs.Layout.{pageLength}
 use Rattle.opening.specs.Layout.{pageStart, symbolsMost}
 use Rattle.levels.specs.Levels.{itemLength}
-use Rattle.field.specs.Ascii.{L, R}
 
--- ---- the form of a message that names a symbol
+-- ---- the length of a message that names a symbol
 
--- its type and length: 42 is passed
-abbrev pub Formed : List ℕ → Message → Type 0
-Formed m (says.Refused k) = Unit {0}
-Formed m says.Idle = Unit {0}
-Formed m (says.Finra c) = Unit {0}
-Formed m (says.RoundLot f q o) = (kindOf m ≡ kind.RoundLot) × ((o .items ≡ roundLotItems) × (length m ≡ oddLength o))
-Formed m (says.OddLot o) = (kindOf m ≡ kind.OddLot) × ((o .items ≡ oddLotItems) × (length m ≡ oddLength o))
-Formed m (says.Maker f name q) = (kindOf m ≡ kind.Maker) × (length m ≡ makerLength)
+-- 42 is passed
+abbrev pub Sized : List ℕ → Message → Type 0
+Sized m (says.Refused k) = Unit {0}
+Sized m says.Idle = Unit {0}
+Sized m (says.Finra c) = Unit {0}
+Sized m (says.RoundLot f q o) = length m ≡ oddLength o
+Sized m (says.OddLot o) = length m ≡ oddLength o
+Sized m (says.Maker f name q) = length m ≡ makerLength
 
 -- the part of the message from the items on
 abbrev pub items : List ℕ → OddPart → List ℕ
@@ -62,74 +59,50 @@ pub items-are : (m : List ℕ) (o : OddPart) → items m o ≡ drop (o .items) m
 items-are m o = take-all (length m - o .items) (drop (o .items) m) (simp length-drop (omega arith))
 
 module _ (letter : ℕ) (m : List ℕ) where
-  -- a check that refuses with k
-  check : (t : Bool) (x : Message) (k : ℕ) → (t ≡ true → Formed m x) → Formed m (cond t x (says.Refused k))
-  check true x k f = f refl
-  check false x k f = tt
+  sized : (x : Message) → Spoken letter m x → Sized m x
+  sized x (refused c lo hi) = tt
+  sized x (idle w) = tt
+  sized x (finra c d w) = tt
+  sized x (round l k z) = z
+  sized x (odd l k z) = z
+  sized x (maker k z) = z
 
-  check-not : (t : Bool) (x : Message) (k : ℕ) → Formed m x → Formed m (cond t (says.Refused k) x)
-  check-not true x k f = tt
-  check-not false x k f = f
-
-  form : (s t : Bool) (x : Message) → (s ≡ true → Formed m x) → Formed m (cond s (cond t x (says.Refused 43)) (says.Refused 42))
-  form s t x f = check s (cond t x (says.Refused 43)) 42 (λ e. check t x 43 (λ h. f e))
-
-  read-formed : (k : Kind) → kindOf m ≡ k → Formed m (readBy letter m k)
-  unfolding readInquiry readTest readFinra readRoundLot readOddLot readMaker oddAt
-  read-formed kind.Inquiry e = form (eqb (length m) headerLength) (headerZero m) says.Idle (λ h. tt)
-  read-formed kind.Close e = form (eqb (length m) headerLength) (headerZero m) (cond (isD letter) (says.Finra L) (says.Refused 44)) (λ h. check (isD letter) (says.Finra L) 44 (λ d. tt))
-  read-formed kind.Open e = form (eqb (length m) headerLength) (headerZero m) (cond (isD letter) (says.Finra R) (says.Refused 44)) (λ h. check (isD letter) (says.Finra R) 44 (λ d. tt))
-  read-formed kind.Test e = form (eqb (length m) testLength) (headerZero m && testBytes m) says.Idle (λ h. tt)
-  read-formed kind.RoundLot e =
-      form (eqb (length m) (oddLength (roundLotOdd m))) (headerZero m && eqb (at m 59) 0) _
-      (λ h. check-not (isD letter) _ 44 (check (symbolGood (symbolText m)) _ 45 (λ g. (e, (refl, eqb-true (length m) (oddLength (roundLotOdd m)) h)))))
-  read-formed kind.OddLot e =
-      form (eqb (length m) (oddLength (oddLotOdd m))) (headerZero m && (eqb (at m 34) 0 && eqb (at m 35) 0)) _
-      (λ h. check-not (isD letter) _ 44 (check (symbolGood (symbolText m)) _ 45 (λ g. (e, (refl, eqb-true (length m) (oddLength (oddLotOdd m)) h)))))
-  read-formed kind.Maker e =
-      form (eqb (length m) makerLength) (headerZero m) _
-      (λ h. check (isD letter) _ 44 (λ d. check (symbolGood (symbolText m)) _ 45 (λ g. (e, eqb-true (length m) makerLength h))))
-  read-formed kind.Unknown e = tt
-
-  formed : Formed m (messageOf letter m)
-  unfolding messageOf
-  formed = check-not (isUnknown (kindOf m)) _ 40 (check (eqb (at m 2) letter) _ 41 (λ e. read-formed (kindOf m) refl))
+  -- its symbol is inside
+  symbol-by : (x : Message) → Spoken letter m x → names x ≡ true → headerLength + symbolLength ≤ length m
+  unfolding oddAt
+  symbol-by x (refused c lo hi) h = clash (sym h)
+  symbol-by x (idle w) h = clash (sym h)
+  symbol-by x (finra c d w) h = clash (sym h)
+  symbol-by x (round l k z) h = omega (arith, z)
+  symbol-by x (odd l k z) h = omega (arith, z)
+  symbol-by x (maker k z) h = omega (arith, z)
 
   module _ (x : Message) (e : messageOf letter m ≡ x) where
-    formed-as : Formed m x
-    formed-as = rw e at formed
-
-    -- its symbol is inside
-    symbol-by : (y : Message) → names y ≡ true → Formed m y → headerLength + symbolLength ≤ length m
-    symbol-by (says.Refused k) h f = clash (sym h)
-    symbol-by says.Idle h f = clash (sym h)
-    symbol-by (says.Finra c) h f = clash (sym h)
-    symbol-by (says.RoundLot j q o) h f = omega (arith, f .1 .0, f .1 .1)
-    symbol-by (says.OddLot o) h f = omega (arith, f .1 .0, f .1 .1)
-    symbol-by (says.Maker j name q) h f = omega (arith, f .1)
+    spoken-as : Spoken letter m x
+    spoken-as = rw e at (spoken letter m)
 
     pub symbol-inside : names x ≡ true → headerLength + symbolLength ≤ length m
-    symbol-inside h = symbol-by x h formed-as
+    symbol-inside h = symbol-by x spoken-as h
 
   -- so are the items of an odd part, which are lent to the message's end
   items-by : (o : OddPart) → length m ≡ oddLength o → (o .items ≤ length m) × (length (items m o) ≡ itemLength * (o .bids + o .offers))
   items-by o l = (omega arith, rw (items-are m o) (simp length-drop (omega arith)))
 
   pub round-items : (f : ℕ) (q : Quote) (o : OddPart) → messageOf letter m ≡ says.RoundLot f q o → (o .items ≤ length m) × (length (items m o) ≡ itemLength * (o .bids + o .offers))
-  round-items f q o e = items-by o (formed-as (says.RoundLot f q o) e .1 .1)
+  round-items f q o e = items-by o (sized (says.RoundLot f q o) (spoken-as (says.RoundLot f q o) e))
 
   pub odd-items : (o : OddPart) → messageOf letter m ≡ says.OddLot o → (o .items ≤ length m) × (length (items m o) ≡ itemLength * (o .bids + o .offers))
-  odd-items o e = items-by o (formed-as (says.OddLot o) e .1 .1)
+  odd-items o e = items-by o (sized (says.OddLot o) (spoken-as (says.OddLot o) e))
 
 -- ---- partly accepted: a Q K alone
 
 low-code : (letter : ℕ) (m : List ℕ) (x : Message) → Spoken letter m x → leb 60 (saidCode x) ≡ false
-low-code letter m x (refused c lo hi) = lt-leb 60 c hi
+low-code letter m x (refused c lo hi) = lt-leb 60 c (omega arith)
 low-code letter m x (idle w) = refl
-low-code letter m x (finra c w) = refl
-low-code letter m x (round l k) = refl
-low-code letter m x (odd l k) = refl
-low-code letter m x (maker k) = refl
+low-code letter m x (finra c d w) = refl
+low-code letter m x (round l k z) = refl
+low-code letter m x (odd l k z) = refl
+low-code letter m x (maker k z) = refl
 
 -- by what the message says
 abbrev pub partlyAs : ℕ → Message → Bool
@@ -140,14 +113,14 @@ partlyAs c (says.RoundLot f q o) = leb 60 c
 partlyAs c (says.OddLot o) = false
 partlyAs c (says.Maker f name q) = false
 
-partly-named : (c : ℕ) (m : List ℕ) (x : Message) → names x ≡ true → Formed m x → partlyTaken c m ≡ partlyAs c x
+partly-named : (c letter : ℕ) (m : List ℕ) (x : Message) → Spoken letter m x → names x ≡ true → partlyTaken c m ≡ partlyAs c x
 unfolding partlyTaken
-partly-named c m (says.Refused k) h f = clash (sym h)
-partly-named c m says.Idle h f = clash (sym h)
-partly-named c m (says.Finra k) h f = clash (sym h)
-partly-named c m (says.RoundLot j q o) h f = rw (f .0)
-partly-named c m (says.OddLot o) h f = rw (f .0)
-partly-named c m (says.Maker j name q) h f = rw (f .0)
+partly-named c letter m x (refused k lo hi) h = clash (sym h)
+partly-named c letter m x (idle w) h = clash (sym h)
+partly-named c letter m x (finra k d w) h = clash (sym h)
+partly-named c letter m x (round l k z) h = rw k
+partly-named c letter m x (odd l k z) h = rw k
+partly-named c letter m x (maker k z) h = rw k
 
 -- ---- what is told of it, and the book after it
 
@@ -203,7 +176,7 @@ module _ (b : List ℕ) (s : sound b ≡ true) where
             let l : length old ≡ pageLength = length-page (symbolsOf b) b sd k (below (be (take symbolLength (drop headerLength m))) k p) in
             rw (page-back b k page (ap length z ∙ said-kept letter u m old l (pageCode letter m old) (messageOf letter m) .size))
             (done code flags (partlyAs code x) (setPage b k page)
-            (rw (← r) at (worked-at (symbolsOf b) b sd letter u m k p named)) (partly-named code m x h (formed-as letter m x e)))
+            (rw (← r) at (worked-at (symbolsOf b) b sd letter u m k p named)) (partly-named code letter m x (spoken-as letter m x e) h))
 
     -- FINRA Close and Open
     pub told-finra : (c flags : ℕ) (after : List ℕ) → messageOf letter m ≡ says.Finra c → flags ≡ finraFlags c b → after ≡ eachPage (finraOn c) 0 (symbolsOf b) b

@@ -14,7 +14,7 @@ use Rattle.message.specs.Message.{Part, roundPart, oddPart, makerPart, finraPar
 use Rattle.update.specs.Parts.{roundOn, oddOnPage, makerOn, finraOn}
 use Rattle.update.proofs.Model.{roundReading, oddReading, makerReading, finraReading, partReading}
 use Rattle.update.proofs.CellLaws.{Stands}
-use Rattle.update.proofs.SpokenLaws.{Shaped, AllShaped}
+use Rattle.message.proofs.SpokenLaws.{Shaped, AllShaped}
 use Rattle.update.proofs.EntryLaws.{Kept}
 use Rattle.update.proofs.SlotLaws.{round-kept, round-reads, levels-for-good, odd-kept, odd-reads}
 use Rattle.update.proofs.MakerLaws.{maker-kept, maker-reads, finra-kept, finra-reads}

@@ -18,7 +18,7 @@ use Rattle.message.specs.Message.{symbolOf, quoteAt, makerName, roundLotOdd, od
 use Rattle.update.specs.Parts.{knownOf, roundOn, oddOnPage, makerOn, finraOn}
 use Rattle.update.proofs.EntryLaws.{Kept}
 use Rattle.update.proofs.SlotLaws.{round-kept, odd-kept}
-use Rattle.update.proofs.SpokenLaws.{Spoken, refused, idle, finra, round, odd, maker, spoken, parts-refused, parts-whole, parts-round, parts-odd, parts-maker}
+use Rattle.message.proofs.SpokenLaws.{Spoken, refused, idle, finra, round, odd, maker, spoken, parts-refused, parts-whole, parts-round, parts-odd, parts-maker}
 use Rattle.update.proofs.WorkLaws.{pageCode, pageAfter}
 use Rattle.opening.specs.Opening.{symbolsOf, pageAt, setPage, pagesIn, pagePlace, onPage, eachPage}
 use Rattle.work.specs.Work.{findReading, partOn, partsOn, codeOn, messageOn}
@@ -104,16 +104,16 @@ module _ (n : ℕ) (b : List ℕ) (sd : Sound n b) (letter : ℕ) (u : upper let
   unfolding partsOn partOn
   message-by c here x q (refused k lo hi) = rw (parts-refused c m (omega arith) (omega arith))
   message-by c here x q (idle w) = rw (← q, parts-whole m, w)
-  message-by c here x q (finra k w) = rw (← q, parts-whole m, w)
-  message-by c here x q (round l k) =
+  message-by c here x q (finra k d w) = rw (← q, parts-whole m, w)
+  message-by c here x q (round l k z) =
       rw (parts-round c m k)
       (ap (λ (z : ℕ). partsOn (cond (eqb c 0) (roundPart (symbolOf m) z (quoteAt m) ∷ oddPart (symbolOf m) z (oddOf m (roundLotOdd m)) ∷ []) (cond (leb 60 c) (roundPart (symbolOf m) z (quoteAt m) ∷ []) [])) b) l
       ∙ both-on n b sd (symbolOf m) (pageCode letter m) c here letter u (quoteAt m) (oddOf m (roundLotOdd m)))
-  message-by c here x q (odd l k) =
+  message-by c here x q (odd l k z) =
       rw (parts-odd c m k)
       (ap (λ (z : ℕ). partsOn (cond (eqb c 0) (oddPart (symbolOf m) z (oddOf m (oddLotOdd m)) ∷ []) []) b) l
       ∙ one-on n b sd (symbolOf m) (pageCode letter m) c here (oddPart (symbolOf m) letter (oddOf m (oddLotOdd m))) (oddOnPage letter (oddOf m (oddLotOdd m))) refl)
-  message-by c here x q (maker k) =
+  message-by c here x q (maker k z) =
       rw (parts-maker c m k) (one-on n b sd (symbolOf m) (pageCode letter m) c here (makerPartOf m) (makerOn (makerName m) (quoteAt m)) refl)
 
   -- a message changes the page of its symbol alone, or every page

@@ -1,4 +1,5 @@
--- What a message says, and which parts it has: of the line's letter, and of its symbol.
+-- What a message says, and which parts it has: of the line's letter, and of its symbol. `spoken` is the one law by cases over all types; the laws
+-- about what a message says go by it.
 -- Assumes nothing.
 use Prim.Native.Nat.{ℕ, _≤_, _<_}
 use mathlib.Core.Path.{_≡_, refl}
@@ -8,58 +9,62 @@ use native.Mathlib.Omega.{arith}
 use lib.Dec.{leb, eqb}
 use lib.ListN.{length}
 use borrow.Author.Tests.{ne-eqb, lt-leb}
-use Rattle.lists.specs.Lists.{at, upper}
+use Rattle.lists.specs.Lists.{at, member, upper}
 use Rattle.lists.proofs.Tests.{Cut, equal, apart, cut}
 use Rattle.text.specs.Form.{symbolGood, makerGood}
 use Rattle.message.specs.declared.Kind.{Kind}
 use Rattle.message.specs.declared.Kind.the-variants as kind
 use Rattle.message.specs.declared.Message.{Message}
 use Rattle.message.specs.declared.Message.the-variants as says
 use Rattle.message.specs.Message.{kindOf, quoteAt, makerName, roundLotOdd, oddLotOdd, oddLength, roundConditions, makerConditions, quoteFault, isD, testBytes, readInquiry, readTest, readFinra, readRoundLot, readOddLot, readMaker, readBy, isUnknown, messageOf, Known, codeBy, codeOf, Part, roundPart, oddPart, makerPart, finraPart, roundPartOf, oddPartOf, makerPartOf, partlyBy, partlyTaken, wholeBy, partsOf, headerLength, testLength, makerLength, symbolText, makerText, headerZero}
 use Rattle.field.specs.Ascii.{L, R}
 
 -- ---- what a message says
 
--- with each saying, the type and the letter that it came of
+-- with each saying, the type, the letter and the length that it came of
 pub data Spoken (letter : ℕ) (m : List ℕ) : Message → Type 0 where
-  refused : (c : ℕ) → 40 ≤ c → c < 60 → Spoken letter m (says.Refused c)
+  refused : (c : ℕ) → 40 ≤ c → c < 46 → Spoken letter m (says.Refused c)
   idle : wholeBy m (kindOf m) ≡ [] → Spoken letter m says.Idle
-  finra : (c : ℕ) → wholeBy m (kindOf m) ≡ finraPart c ∷ [] → Spoken letter m (says.Finra c)
-  round : at m 2 ≡ letter → kindOf m ≡ kind.RoundLot → Spoken letter m (says.RoundLot (quoteFault roundConditions (quoteAt m) 0) (quoteAt m) (roundLotOdd m))
-  odd : at m 2 ≡ letter → kindOf m ≡ kind.OddLot → Spoken letter m (says.OddLot (oddLotOdd m))
-  maker : kindOf m ≡ kind.Maker
+  finra : (c : ℕ) → member makerConditions c ≡ true → wholeBy m (kindOf m) ≡ finraPart c ∷ [] → Spoken letter m (says.Finra c)
+  round : at m 2 ≡ letter → kindOf m ≡ kind.RoundLot → length m ≡ oddLength (roundLotOdd m)
+      → Spoken letter m (says.RoundLot (quoteFault roundConditions (quoteAt m) 0) (quoteAt m) (roundLotOdd m))
+  odd : at m 2 ≡ letter → kindOf m ≡ kind.OddLot → length m ≡ oddLength (oddLotOdd m) → Spoken letter m (says.OddLot (oddLotOdd m))
+  maker : kindOf m ≡ kind.Maker → length m ≡ makerLength
       → Spoken letter m (says.Maker (quoteFault makerConditions (quoteAt m) (cond (makerGood (makerText m)) 0 48)) (makerName m) (quoteAt m))
 
 module _ (letter : ℕ) (m : List ℕ) where
   -- a check that refuses with k
-  check : (t : Bool) (x : Message) (k : ℕ) → 40 ≤ k → k < 60 → Spoken letter m x → Spoken letter m (cond t x (says.Refused k))
+  check : (t : Bool) (x : Message) (k : ℕ) → 40 ≤ k → k < 46 → Spoken letter m x → Spoken letter m (cond t x (says.Refused k))
   check true x k lo hi s = s
   check false x k lo hi s = refused k lo hi
 
-  check-not : (t : Bool) (x : Message) (k : ℕ) → 40 ≤ k → k < 60 → Spoken letter m x → Spoken letter m (cond t (says.Refused k) x)
+  check-not : (t : Bool) (x : Message) (k : ℕ) → 40 ≤ k → k < 46 → Spoken letter m x → Spoken letter m (cond t (says.Refused k) x)
   check-not true x k lo hi s = refused k lo hi
   check-not false x k lo hi s = s
 
-  form : (s t : Bool) (x : Message) → Spoken letter m x → Spoken letter m (cond s (cond t x (says.Refused 43)) (says.Refused 42))
-  form s t x y = check s (cond t x (says.Refused 43)) 42 (omega arith) (omega arith) (check t x 43 (omega arith) (omega arith) y)
+  -- 42, 43, then a message of n bytes
+  form : (n : ℕ) (t : Bool) (x : Message) → (length m ≡ n → Spoken letter m x) → Spoken letter m (cond (eqb (length m) n) (cond t x (says.Refused 43)) (says.Refused 42))
+  form n t x f = go (cut (length m) n)
+    where
+      go : Cut (length m) n → Spoken letter m (cond (eqb (length m) n) (cond t x (says.Refused 43)) (says.Refused 42))
+      go (equal s e) = rw s (check t x 43 (omega arith) (omega arith) (f e))
+      go (apart s e) = rw s (refused 42 (omega arith) (omega arith))
+
+  -- 45
+  symbol : (x : Message) → Spoken letter m x → Spoken letter m (cond (symbolGood (symbolText m)) x (says.Refused 45))
+  symbol x s = check (symbolGood (symbolText m)) x 45 (omega arith) (omega arith) s
 
   read-spoken : at m 2 ≡ letter → (k : Kind) → kindOf m ≡ k → Spoken letter m (readBy letter m k)
-  unfolding readInquiry readTest readFinra readRoundLot readOddLot readMaker
-  read-spoken l kind.Inquiry e = form (eqb (length m) headerLength) (headerZero m) says.Idle (idle (rw e))
-  read-spoken l kind.Close e =
-      form (eqb (length m) headerLength) (headerZero m) (cond (isD letter) (says.Finra L) (says.Refused 44)) (check (isD letter) (says.Finra L) 44 (omega arith) (omega arith) (finra L (rw e)))
-  read-spoken l kind.Open e =
-      form (eqb (length m) headerLength) (headerZero m) (cond (isD letter) (says.Finra R) (says.Refused 44)) (check (isD letter) (says.Finra R) 44 (omega arith) (omega arith) (finra R (rw e)))
-  read-spoken l kind.Test e = form (eqb (length m) testLength) (headerZero m && testBytes m) says.Idle (idle (rw e))
+  unfolding readInquiry readTest readFinra readRoundLot readOddLot readMaker member
+  read-spoken l kind.Inquiry e = form headerLength (headerZero m) _ (λ z. idle (rw e))
+  read-spoken l kind.Close e = form headerLength (headerZero m) _ (λ z. check (isD letter) _ 44 (omega arith) (omega arith) (finra L refl (rw e)))
+  read-spoken l kind.Open e = form headerLength (headerZero m) _ (λ z. check (isD letter) _ 44 (omega arith) (omega arith) (finra R refl (rw e)))
+  read-spoken l kind.Test e = form testLength (headerZero m && testBytes m) _ (λ z. idle (rw e))
   read-spoken l kind.RoundLot e =
-      form (eqb (length m) (oddLength (roundLotOdd m))) (headerZero m && eqb (at m 59) 0) _
-      (check-not (isD letter) _ 44 (omega arith) (omega arith) (check (symbolGood (symbolText m)) _ 45 (omega arith) (omega arith) (round l e)))
+      form (oddLength (roundLotOdd m)) (headerZero m && eqb (at m 59) 0) _ (λ z. check-not (isD letter) _ 44 (omega arith) (omega arith) (symbol _ (round l e z)))
   read-spoken l kind.OddLot e =
-      form (eqb (length m) (oddLength (oddLotOdd m))) (headerZero m && (eqb (at m 34) 0 && eqb (at m 35) 0)) _
-      (check-not (isD letter) _ 44 (omega arith) (omega arith) (check (symbolGood (symbolText m)) _ 45 (omega arith) (omega arith) (odd l e)))
-  read-spoken l kind.Maker e =
-      form (eqb (length m) makerLength) (headerZero m) _
-      (check (isD letter) _ 44 (omega arith) (omega arith) (check (symbolGood (symbolText m)) _ 45 (omega arith) (omega arith) (maker e)))
+      form (oddLength (oddLotOdd m)) (headerZero m && (eqb (at m 34) 0 && eqb (at m 35) 0)) _ (λ z. check-not (isD letter) _ 44 (omega arith) (omega arith) (symbol _ (odd l e z)))
+  read-spoken l kind.Maker e = form makerLength (headerZero m) _ (λ z. check (isD letter) _ 44 (omega arith) (omega arith) (symbol _ (maker e z)))
   read-spoken l kind.Unknown e = refused 40 (omega arith) (omega arith)
 
   pub spoken : Spoken letter m (messageOf letter m)
@@ -123,19 +128,19 @@ module _ (e : Known) (letter : ℕ) (m : List ℕ) (u : upper letter ≡ true) w
   shaped-by : (c : ℕ) (x : Message) → codeBy e letter m x ≡ c → Spoken letter m x → AllShaped (partsOf c m)
   shaped-by c x q (refused k lo hi) = rw (parts-refused c m (omega arith) (omega arith)) tt
   shaped-by c x q (idle w) = rw (← q, parts-whole m, w) tt
-  shaped-by c x q (finra k w) = rw (← q, parts-whole m, w) (tt, tt)
-  shaped-by c x q (round l k) = rw (parts-round c m k) (go (eqb c 0) (leb 60 c))
+  shaped-by c x q (finra k d w) = rw (← q, parts-whole m, w) (tt, tt)
+  shaped-by c x q (round l k z) = rw (parts-round c m k) (go (eqb c 0) (leb 60 c))
     where
       go : (s t : Bool) → AllShaped (cond s (roundPartOf m ∷ oddPartOf m (roundLotOdd m) ∷ []) (cond t (roundPartOf m ∷ []) []))
       go true t = (up l, (up l, tt))
       go false true = (up l, tt)
       go false false = tt
-  shaped-by c x q (odd l k) = rw (parts-odd c m k) (go (eqb c 0))
+  shaped-by c x q (odd l k z) = rw (parts-odd c m k) (go (eqb c 0))
     where
       go : (s : Bool) → AllShaped (cond s (oddPartOf m (oddLotOdd m) ∷ []) [])
       go true = (up l, tt)
       go false = tt
-  shaped-by c x q (maker k) = rw (parts-maker c m k) (go (eqb c 0))
+  shaped-by c x q (maker k z) = rw (parts-maker c m k) (go (eqb c 0))
     where
       go : (s : Bool) → AllShaped (cond s (makerPartOf m ∷ []) [])
       go true = (tt, tt)
