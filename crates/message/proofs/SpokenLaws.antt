@@ -16,7 +16,7 @@ use Rattle.message.specs.declared.Kind.{Kind}
 use Rattle.message.specs.declared.Kind.the-variants as kind
 use Rattle.message.specs.declared.Message.{Message}
 use Rattle.message.specs.declared.Message.the-variants as says
-use Rattle.message.specs.Message.{kindOf, quoteAt, makerName, roundLotOdd, oddLotOdd, oddLength, roundConditions, makerConditions, quoteFault, isD, testBytes, readInquiry, readTest, readFinra, readRoundLot, readOddLot, readMaker, readBy, isUnknown, messageOf, Known, codeBy, codeOf, Part, roundPart, oddPart, makerPart, finraPart, roundPartOf, oddPartOf, makerPartOf, partlyBy, partlyTaken, wholeBy, partsOf, headerLength, testLength, makerLength, symbolText, makerText, headerZero}
+use Rattle.message.specs.Message.{kindOf, quoteAt, makerName, roundLotOdd, oddLotOdd, oddLength, roundConditions, makerConditions, quoteFault, isD, testBytes, readInquiry, readTest, readFinra, readRoundLot, misplaced, readOddLot, readMaker, readBy, isUnknown, messageOf, Known, codeBy, codeOf, Part, roundPart, oddPart, makerPart, finraPart, roundPartOf, oddPartOf, makerPartOf, partlyBy, partlyTaken, wholeBy, partsOf, headerLength, testLength, makerLength, symbolText, makerText, headerZero}
 use Rattle.field.specs.Ascii.{L, R}
 
 -- ---- what a message says
@@ -28,7 +28,7 @@ pub data Spoken (letter : ℕ) (m : List ℕ) : Message → Type 0 where
   finra : (c : ℕ) → member makerConditions c ≡ true → wholeBy m (kindOf m) ≡ finraPart c ∷ [] → Spoken letter m (says.Finra c)
   round : at m 2 ≡ letter → kindOf m ≡ kind.RoundLot → length m ≡ oddLength (roundLotOdd m)
       → Spoken letter m (says.RoundLot (quoteFault roundConditions (quoteAt m) 0) (quoteAt m) (roundLotOdd m))
-  odd : at m 2 ≡ letter → kindOf m ≡ kind.OddLot → length m ≡ oddLength (oddLotOdd m) → Spoken letter m (says.OddLot (oddLotOdd m))
+  odd : {f : Bool} → at m 2 ≡ letter → kindOf m ≡ kind.OddLot f → length m ≡ oddLength (oddLotOdd m) → Spoken letter m (says.OddLot (oddLotOdd m))
   maker : kindOf m ≡ kind.Maker → length m ≡ makerLength
       → Spoken letter m (says.Maker (quoteFault makerConditions (quoteAt m) (cond (makerGood (makerText m)) 0 48)) (makerName m) (quoteAt m))
 
@@ -62,8 +62,8 @@ module _ (letter : ℕ) (m : List ℕ) where
   read-spoken l kind.Test e = form testLength (headerZero m && testBytes m) _ (λ z. idle (rw e))
   read-spoken l kind.RoundLot e =
       form (oddLength (roundLotOdd m)) (headerZero m && eqb (at m 59) 0) _ (λ z. check-not (isD letter) _ 44 (omega arith) (omega arith) (symbol _ (round l e z)))
-  read-spoken l kind.OddLot e =
-      form (oddLength (oddLotOdd m)) (headerZero m && (eqb (at m 34) 0 && eqb (at m 35) 0)) _ (λ z. check-not (isD letter) _ 44 (omega arith) (omega arith) (symbol _ (odd l e z)))
+  read-spoken l (kind.OddLot f) e =
+      form (oddLength (oddLotOdd m)) (headerZero m && (eqb (at m 34) 0 && eqb (at m 35) 0)) _ (λ z. check-not (misplaced f letter) _ 44 (omega arith) (omega arith) (symbol _ (odd l e z)))
   read-spoken l kind.Maker e = form makerLength (headerZero m) _ (λ z. check (isD letter) _ 44 (omega arith) (omega arith) (symbol _ (maker e z)))
   read-spoken l kind.Unknown e = refused 40 (omega arith) (omega arith)
 
@@ -95,7 +95,7 @@ partly-no c kind.Close e = refl
 partly-no c kind.Open e = refl
 partly-no c kind.Test e = refl
 partly-no c kind.RoundLot e = e
-partly-no c kind.OddLot e = refl
+partly-no c (kind.OddLot f) e = refl
 partly-no c kind.Maker e = refl
 partly-no c kind.Unknown e = refl
 
@@ -108,7 +108,7 @@ module _ (c : ℕ) (m : List ℕ) where
   unfolding partsOf partlyTaken
   parts-round k = rw k
 
-  pub parts-odd : kindOf m ≡ kind.OddLot → partsOf c m ≡ cond (eqb c 0) (oddPartOf m (oddLotOdd m) ∷ []) []
+  pub parts-odd : {f : Bool} → kindOf m ≡ kind.OddLot f → partsOf c m ≡ cond (eqb c 0) (oddPartOf m (oddLotOdd m) ∷ []) []
   unfolding partsOf partlyTaken
   parts-odd k = rw k
 

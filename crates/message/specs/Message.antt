@@ -1,7 +1,7 @@
 -- A message's bytes: its layout, what it says, and its code (document 01, "Messages" and numbers 40 to 49, 60 to 64).
 -- Assumes nothing.
 use Prim.Native.Nat.{ℕ, _+_, _*_}
-use mathlib.Core.Bool.{Bool, true, false, _&&_, cond}
+use mathlib.Core.Bool.{Bool, true, false, not, _&&_, cond}
 use mathlib.Core.List.{List, [], _∷_}
 use lib.Dec.{ltb, leb, eqb}
 use lib.ListN.{length, drop}
@@ -42,13 +42,15 @@ controlKind t =
     (cond (eqb t O) kind.Open
     (cond (eqb t five) kind.Test kind.Unknown)))
 
+-- document 02, T-05: "FINRA starts to send odd lots in type Q T, with the layout of Q M"
 unfoldable pub quoteKind : ℕ → Kind
 quoteKind t =
     cond (eqb t K) kind.RoundLot
-    (cond (eqb t M) kind.OddLot
-    (cond (eqb t U) kind.Maker kind.Unknown))
+    (cond (eqb t M) (kind.OddLot false)
+    (cond (eqb t T) (kind.OddLot true)
+    (cond (eqb t U) kind.Maker kind.Unknown)))
 
--- C I, C T, C C, C O, C 5, Q K, Q M, Q U
+-- C I, C T, C C, C O, C 5, Q K, Q M, Q T, Q U
 unfoldable pub kindOf : List ℕ → Kind
 kindOf m = cond (eqb (at m 0) C) (controlKind (at m 1)) (cond (eqb (at m 0) Q) (quoteKind (at m 1)) kind.Unknown)
 
@@ -91,7 +93,7 @@ oddLotItems = 36
 abbrev pub roundLotOdd : List ℕ → OddPart
 roundLotOdd m = oddAt m roundLength roundLotItems
 
--- Q M: "31 clear, 32 and 33 the counts, 34-35 zero, items from 36"
+-- Q M and Q T: "31 clear, 32 and 33 the counts, 34-35 zero, items from 36"
 abbrev pub oddLotOdd : List ℕ → OddPart
 oddLotOdd m = oddAt m 31 oddLotItems
 
@@ -168,10 +170,14 @@ readRoundLot letter m =
     (cond (isD letter) (says.Refused 44)
     (checkedSymbol m (says.RoundLot (quoteFault roundConditions (quoteAt m) 0) (quoteAt m) (roundLotOdd m))))
 
-unfoldable pub readOddLot : ℕ → List ℕ → Message
-readOddLot letter m =
+-- T-05: "44 now also covers Q T off D's line, and on it Q T is judged as Q M is elsewhere", "Q M on D's line keeps 44"
+abbrev pub misplaced : Bool → ℕ → Bool
+misplaced finra letter = cond finra (not (isD letter)) (isD letter)
+
+unfoldable pub readOddLot : Bool → ℕ → List ℕ → Message
+readOddLot finra letter m =
     checkedForm (eqb (length m) (oddLength (oddLotOdd m))) (headerZero m && (eqb (at m 34) 0 && eqb (at m 35) 0))
-    (cond (isD letter) (says.Refused 44) (checkedSymbol m (says.OddLot (oddLotOdd m))))
+    (cond (misplaced finra letter) (says.Refused 44) (checkedSymbol m (says.OddLot (oddLotOdd m))))
 
 -- 46, 47, 48
 unfoldable pub readMaker : ℕ → List ℕ → Message
@@ -187,7 +193,7 @@ readBy letter m kind.Close = readFinra L letter m
 readBy letter m kind.Open = readFinra R letter m
 readBy letter m kind.Test = readTest m
 readBy letter m kind.RoundLot = readRoundLot letter m
-readBy letter m kind.OddLot = readOddLot letter m
+readBy letter m (kind.OddLot finra) = readOddLot finra letter m
 readBy letter m kind.Maker = readMaker letter m
 readBy letter m kind.Unknown = says.Refused 40
 
@@ -197,7 +203,7 @@ isUnknown kind.Close = false
 isUnknown kind.Open = false
 isUnknown kind.Test = false
 isUnknown kind.RoundLot = false
-isUnknown kind.OddLot = false
+isUnknown (kind.OddLot finra) = false
 isUnknown kind.Maker = false
 isUnknown kind.Unknown = true
 
@@ -260,7 +266,7 @@ partlyBy c kind.Close = false
 partlyBy c kind.Open = false
 partlyBy c kind.Test = false
 partlyBy c kind.RoundLot = leb 60 c
-partlyBy c kind.OddLot = false
+partlyBy c (kind.OddLot finra) = false
 partlyBy c kind.Maker = false
 partlyBy c kind.Unknown = false
 
@@ -274,7 +280,7 @@ wholeBy m kind.Close = finraPart L ∷ []
 wholeBy m kind.Open = finraPart R ∷ []
 wholeBy m kind.Test = []
 wholeBy m kind.RoundLot = roundPartOf m ∷ oddPartOf m (roundLotOdd m) ∷ []
-wholeBy m kind.OddLot = oddPartOf m (oddLotOdd m) ∷ []
+wholeBy m (kind.OddLot finra) = oddPartOf m (oddLotOdd m) ∷ []
 wholeBy m kind.Maker = makerPartOf m ∷ []
 wholeBy m kind.Unknown = []
 

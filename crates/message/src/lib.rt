@@ -5,7 +5,7 @@ ghost use Prim.Native.Nat.{_+_, _*_, _≤_, _<_};
 ghost use lib.ListN.{length};
 ghost use Rattle.lists.specs.Lists.{at, member};
 ghost use Rattle.text.specs.Form.{makerGood};
-ghost use Rattle.message.specs.Message.{controlKind, quoteKind, kindOf, levelAt, quoteAt, oddAt, roundConditions, makerConditions, sideBad, priceFault, quoteFault, testBytes, readInquiry, readTest, readFinra, readRoundLot, readOddLot, readMaker, messageOf};
+ghost use Rattle.message.specs.Message.{controlKind, quoteKind, kindOf, levelAt, quoteAt, oddAt, roundConditions, makerConditions, sideBad, priceFault, quoteFault, testBytes, readInquiry, readTest, readFinra, readRoundLot, misplaced, readOddLot, readMaker, messageOf};
 ghost use Rattle.levels.specs.Levels.{itemLength};
 use levels::Item;
 use quote::Level;
@@ -46,7 +46,7 @@ impl Layout {
     pub const ROUND_LOT_ZERO: usize = 59;
 
     pub const ROUND_LOT_ITEMS: usize = 60;
-    /// Q M: clear mark, behind it the two counts, two zeros, then the items.
+    /// Q M and Q T: clear mark, behind it the two counts, two zeros, then the items.
     pub const ODD_LOT_CLEAR: usize = 31;
 
     pub const ODD_LOT_ZEROS: usize = 34;
@@ -65,7 +65,8 @@ pub enum Kind {
     Open,
     Test,
     RoundLot,
-    OddLot,
+    /// Q M, or with the same layout FINRA's Q T.
+    OddLot { finra: bool },
     Maker,
     Unknown,
 }
@@ -117,7 +118,7 @@ pub fn read(msg: &[u8], letter: u8) -> Message
         Kind::Open => read_finra(msg, letter, b'R'),
         Kind::Test => read_test(msg),
         Kind::RoundLot => read_round_lot(msg, letter),
-        Kind::OddLot => read_odd_lot(msg, letter),
+        Kind::OddLot { finra } => read_odd_lot(msg, letter, finra),
         Kind::Maker => read_maker(msg, letter),
         Kind::Unknown => Message::Refused(40),
     }
@@ -153,7 +154,8 @@ fn quote_kind(kind: u8) -> Kind
 {
     match kind {
         b'K' => Kind::RoundLot,
-        b'M' => Kind::OddLot,
+        b'M' => Kind::OddLot { finra: false },
+        b'T' => Kind::OddLot { finra: true },
         b'U' => Kind::Maker,
         _ => Kind::Unknown,
     }
@@ -244,8 +246,9 @@ fn read_round_lot(msg: &[u8], letter: u8) -> Message
     Message::Refused(45)
 }
 
-fn read_odd_lot(msg: &[u8], letter: u8) -> Message
-    ensures { λ r. ⌜ r ≡ readOddLot letter (now (msg .entry)) ⌝ }
+// Q M, or FINRA's Q T.
+fn read_odd_lot(msg: &[u8], letter: u8, finra: bool) -> Message
+    ensures { λ r. ⌜ r ≡ readOddLot finra letter (now (msg .entry)) ⌝ }
 {
     if msg.len() != odd_length(msg, Layout::ODD_LOT_CLEAR, Layout::ODD_LOT_ITEMS) {
         return Message::Refused(42);
@@ -259,7 +262,7 @@ fn read_odd_lot(msg: &[u8], letter: u8) -> Message
     if field::byte(msg, Layout::ODD_LOT_ZEROS + 1) != 0 {
         return Message::Refused(43);
     }
-    if letter == b'D' {
+    if is_misplaced(letter, finra) {
         return Message::Refused(44);
     }
     if text::is_symbol(&msg[Layout::SYMBOL..Layout::CONDITION]) {
@@ -267,6 +270,16 @@ fn read_odd_lot(msg: &[u8], letter: u8) -> Message
         return Message::OddLot(odd);
     }
     Message::Refused(45)
+}
+
+// An odd lot on a line that is not its own: FINRA's belong on D's, all others off it.
+fn is_misplaced(letter: u8, finra: bool) -> bool
+    ensures { λ r. ⌜ r ≡ misplaced finra letter ⌝ }
+{
+    if finra {
+        return letter != b'D';
+    }
+    letter == b'D'
 }
 
 fn read_maker(msg: &[u8], letter: u8) -> Message

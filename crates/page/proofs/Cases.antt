@@ -21,7 +21,7 @@ use Rattle.page.specs.Layout.{pageLength, slotAt, cellAt}
 abbrev bid : ℕ → ℕ → Quote
 bid p z = record { condition = 82; bid = record { price = p; size = z; time = 7 }; offer = noLevel }
 
--- A bids 20, D's maker MM 21, N 22 with an odd bid of 23, Z 24; S's slot has 99 and is not read
+-- A bids 20, D's maker MM 21 with an odd bid of D at 22, N 22 with an odd bid of 23, Z 24; the quotes of 98 in D's slot and of 99 in S's are not read
 abbrev page : List ℕ
 page =
     splice
@@ -29,7 +29,11 @@ page =
     (splice
     (splice
     (splice
+    (splice
+    (splice
     (splice (replicate pageLength 0) (slotAt 65) (quoteBytes (bid 20 1)))
+    (slotAt 68) (quoteBytes (bid 98 9)))
+    (slotAt 68 + 41) (levelBytes (record { price = 22; size = 6; time = 7 })))
     (slotAt 78) (quoteBytes (bid 22 3)))
     (slotAt 78 + 41) (levelBytes (record { price = 23; size = 5; time = 7 })))
     (slotAt 83) (quoteBytes (bid 99 9)))
@@ -54,13 +58,13 @@ abbrev stopped : ℕ → List ℕ
 stopped l = publication (pageEntries (cut l page))
 
 pub record Cases : Type 0 where
-  -- behind A and behind C: D's makers are not there yet
+  -- behind A and behind C: D's makers and its odd lot are not there yet
   pub behind-a : stopped 65 ≡ shown (national 65 20 1) noEntry noEntry
   pub behind-c : stopped 67 ≡ shown (national 65 20 1) noEntry noEntry
-  -- behind D: its maker leads
-  pub behind-d : stopped 68 ≡ shown (national 68 21 2) (maker 21 2) noEntry
+  -- behind D: its maker leads, and its odd lot is beyond it
+  pub behind-d : stopped 68 ≡ shown (national 68 21 2) (maker 21 2) (odd 68 22 6)
   -- behind M, before N
-  pub behind-m : stopped 77 ≡ shown (national 68 21 2) (maker 21 2) noEntry
+  pub behind-m : stopped 77 ≡ shown (national 68 21 2) (maker 21 2) (odd 68 22 6)
   -- behind N: its odd lot is judged against the national bid of the cut page
   pub behind-n : stopped 78 ≡ shown (national 78 22 3) (maker 21 2) (odd 78 23 5)
   -- S has nothing

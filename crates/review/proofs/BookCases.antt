@@ -16,6 +16,7 @@ use Rattle.review.proofs.Shared as Shared
 use Rattle.review.proofs.Checks as Checks
 use Rattle.review.proofs.Bounds as Bounds
 use Rattle.review.proofs.Times as Times
+use Rattle.review.proofs.FinraOddLots as FinraOddLots
 
 abbrev pub OnBook : List Row → Type 0
 OnBook [] = Unit {0}
@@ -53,3 +54,7 @@ bounds = on-book Bounds.table refl Bounds.cases
 pub times : OnBook Times.table
 unfolding Times.table blocksAreBytes every beBytes
 times = on-book Times.table refl Times.cases
+
+pub finraOddLots : OnBook FinraOddLots.table
+unfolding FinraOddLots.table blocksAreBytes every beBytes
+finraOddLots = on-book FinraOddLots.table refl FinraOddLots.cases

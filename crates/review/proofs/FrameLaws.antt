@@ -75,7 +75,7 @@ whole-none m s kind.Close e = clash e
 whole-none m s kind.Open e = clash e
 whole-none m s kind.Test e = tt
 whole-none m s kind.RoundLot e = (e, (e, tt))
-whole-none m s kind.OddLot e = (e, tt)
+whole-none m s (kind.OddLot f) e = (e, tt)
 whole-none m s kind.Maker e = (e, tt)
 whole-none m s kind.Unknown e = tt
 

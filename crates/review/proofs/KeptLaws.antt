@@ -64,7 +64,7 @@ parts-whole m h = go (kindOf m)
     go kind.Open l = refl
     go kind.Test l = refl
     go kind.RoundLot l = let n : roundLotItems ≤ length m = l refl in rw (ne-eqb (length m) roundLength (λ z. omega arith))
-    go kind.OddLot l = refl
+    go (kind.OddLot f) l = refl
     go kind.Maker l = refl
     go kind.Unknown l = refl
 
@@ -75,7 +75,7 @@ partly-round c kind.Close e = clash (sym e)
 partly-round c kind.Open e = clash (sym e)
 partly-round c kind.Test e = clash (sym e)
 partly-round c kind.RoundLot e = (refl, leb-true 60 c e)
-partly-round c kind.OddLot e = clash (sym e)
+partly-round c (kind.OddLot f) e = clash (sym e)
 partly-round c kind.Maker e = clash (sym e)
 partly-round c kind.Unknown e = clash (sym e)
 

@@ -27,6 +27,7 @@ pub mod Shared
 pub mod Checks
 pub mod Bounds
 pub mod Times
+pub mod FinraOddLots
 pub mod Openings
 pub mod Statements
 pub mod BookCases

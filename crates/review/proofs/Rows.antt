@@ -171,6 +171,13 @@ levelsBy letter time mark bids offers items = oddLot letter time zt (odds mark b
 abbrev pub levels : ℕ → ℕ → ℕ → List ℕ → List ℕ
 levels mark bids offers items = levelsBy 78 8 mark bids offers items
 
+-- a Q T of a symbol by a letter at a time, and of ZT: clear mark, counts, items
+abbrev pub finraLot : ℕ → ℕ → List ℕ → List ℕ → List ℕ
+finraLot letter time symbol odd = header 81 84 letter time ++ (symbol ++ odd)
+
+abbrev pub finraLevels : ℕ → ℕ → ℕ → ℕ → ℕ → List ℕ → List ℕ
+finraLevels letter time mark bids offers items = finraLot letter time zt (odds mark bids offers (0 ∷ 0 ∷ []) items)
+
 -- a Q U of ZT on D's line: time, condition, bid and offer, the name's first byte and three spaces
 abbrev pub makerOf : ℕ → ℕ → ℕ → ℕ → ℕ → ℕ → ℕ → List ℕ
 makerOf time c b bs o os name = maker 68 time (quoted zt c b bs o os) (name ∷ 32 ∷ 32 ∷ 32 ∷ [])

@@ -11,7 +11,7 @@ use Rattle.calls.specs.Call.{Call, make, add, openLine, startDay, endDay, take,
 use Rattle.review.specs.Reviewer.{freshReview, reviewAfter}
 use Rattle.review.specs.Frame.{touched, takenOf, takenR}
 use Rattle.review.specs.Numbers.{numbersOf, codes}
-use Rattle.review.proofs.Rows.{odds, control, integrity, test, block, zt, ab, roundOf, noOdd, plain, levels, standing, unknown, answered}
+use Rattle.review.proofs.Rows.{odds, control, integrity, test, block, zt, ab, roundOf, noOdd, plain, levels, finraLevels, standing, unknown, answered}
 
 -- ---- which symbols a block touches
 
@@ -49,6 +49,19 @@ odd-lots = refl
 pub rejected-odd-lots : both 5 1 (levels 90 0 0 [] ∷ []) ≡ false ∷ false ∷ []
 unfolding touchedBy
 rejected-odd-lots = refl
+
+-- Q T of ZT: accepted, rejected with 60; off D's line, rejected with 44
+pub finra-odd-lots : both 7 1 (finraLevels 68 8 32 0 0 [] ∷ []) ≡ true ∷ false ∷ []
+unfolding touchedBy
+finra-odd-lots = refl
+
+pub rejected-finra-odd-lots : both 7 1 (finraLevels 68 8 90 0 0 [] ∷ []) ≡ false ∷ false ∷ []
+unfolding touchedBy
+rejected-finra-odd-lots = refl
+
+pub misplaced-finra-odd-lots : both 5 1 (finraLevels 78 8 32 0 0 [] ∷ []) ≡ false ∷ false ∷ []
+unfolding touchedBy
+misplaced-finra-odd-lots = refl
 
 pub a-maker : both 7 1 (standing 7 3 65 ∷ []) ≡ true ∷ false ∷ []
 unfolding touchedBy

@@ -165,7 +165,7 @@ module _ (letter : ℕ) (m : List ℕ) (h : List Part) (rs : List Reading) (g : 
       go y q (idle w) = absurd (omega (arith, count (kindOf m) refl, ap (λ (ps : List Part). length ps) w))
       go y q (finra k d w) = absurd (omega (arith, count (kindOf m) refl, ap (λ (ps : List Part). length ps) w))
       go y q (round l k n) = omega (arith, n)
-      go y q (odd l k n) = absurd (omega (arith, count kind.OddLot k))
+      go y q (odd l k n) = absurd (omega (arith, count (kind.OddLot _) k))
       go y q (maker k n) = absurd (omega (arith, count kind.Maker k))
 
 module _ (letter : ℕ) (m : List ℕ) (hist : List (List ℕ)) (rs : List Reading) (co : Core (parts hist) rs) where

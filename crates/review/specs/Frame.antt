@@ -25,7 +25,7 @@ touchesBy m s kind.Close = true
 touchesBy m s kind.Open = true
 touchesBy m s kind.Test = false
 touchesBy m s kind.RoundLot = eqb (symbolOf m) s
-touchesBy m s kind.OddLot = eqb (symbolOf m) s
+touchesBy m s (kind.OddLot finra) = eqb (symbolOf m) s
 touchesBy m s kind.Maker = eqb (symbolOf m) s
 touchesBy m s kind.Unknown = false
 

@@ -36,7 +36,7 @@ partsBy m kind.Close = finraPart L ∷ []
 partsBy m kind.Open = finraPart R ∷ []
 partsBy m kind.Test = []
 partsBy m kind.RoundLot = cond (eqb (length m) roundLength) (roundPartOf m ∷ []) (oddPartOf m (roundLotOdd m) ∷ roundPartOf m ∷ [])
-partsBy m kind.OddLot = oddPartOf m (oddLotOdd m) ∷ []
+partsBy m (kind.OddLot finra) = oddPartOf m (oddLotOdd m) ∷ []
 partsBy m kind.Maker = makerPartOf m ∷ []
 partsBy m kind.Unknown = []
 

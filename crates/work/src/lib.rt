@@ -82,7 +82,7 @@ fn work_round_lot(
     }
 }
 
-// A Q M.
+// A Q M, or FINRA's Q T.
 fn work_odd_lot(book: &mut [u8], letter: u8, msg: &[u8], odd: OddPart) -> Told
     requires { ⌜ (sound (now book) ≡ true) × (upper letter ≡ true) ⌝ }
     requires { ⌜ messageOf letter (now msg) ≡ Message.OddLot odd ⌝ }

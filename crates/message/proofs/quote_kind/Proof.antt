@@ -17,9 +17,13 @@ returns-3 c = rw (c .match .keys3)
 
 returns-4 : tie.Need-returns-4
 unfolding quoteKind
-returns-4 c =
+returns-4 c = rw (c .match .keys4)
+
+returns-5 : tie.Need-returns-5
+unfolding quoteKind
+returns-5 c =
     let r = c .match .rest in
-    rw (ne-eqb _ 75 (r .0 .0 .1), ne-eqb _ 77 (r .0 .1), ne-eqb _ 85 (r .1))
+    rw (ne-eqb _ 75 (r .0 .0 .0 .1), ne-eqb _ 77 (r .0 .0 .1), ne-eqb _ 84 (r .0 .1), ne-eqb _ 85 (r .1))
 
 pub quote-kind-spec : {M : Type 1} → statement M
-quote-kind-spec = tie.close (tie.spec returns returns-2 returns-3 returns-4)
+quote-kind-spec = tie.close (tie.spec returns returns-2 returns-3 returns-4 returns-5)

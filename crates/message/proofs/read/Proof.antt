@@ -23,7 +23,7 @@ known kind.Close h = refl
 known kind.Open h = refl
 known kind.Test h = refl
 known kind.RoundLot h = refl
-known kind.OddLot h = refl
+known (kind.OddLot f) h = refl
 known kind.Maker h = refl
 known kind.Unknown h = clash (sym (one-of (0 ∷ 1 ∷ 2 ∷ 3 ∷ 4 ∷ 5 ∷ 6 ∷ []) 7 h))
 
@@ -70,18 +70,19 @@ returns-7 c =
 returns-8 : tie.Need-returns-8
 unfolding messageOf
 returns-8 c =
-    let l = c .before .before .before in
-    rw (sym (l .before .before .before .kind-of .ensures) ∙ c .before .enum-told7 .given .1, ← l .before .byte .ensures, eq-eqb _ _ (l .if1 .left)) (c .read-odd-lot .ensures)
+    let k = c .before .before in
+    let l = k .before .before in
+    rw (sym (l .before .before .before .kind-of .ensures) ∙ k .kind .given .1, ← l .before .byte .ensures, eq-eqb _ _ (l .if1 .left)) (c .read-odd-lot .ensures)
 
 returns-9 : tie.Need-returns-9
 unfolding messageOf
 returns-9 c =
     let l = c .before .before .before in
-    rw (sym (l .before .before .before .kind-of .ensures) ∙ c .before .enum-told8 .given .1, ← l .before .byte .ensures, eq-eqb _ _ (l .if1 .left)) (c .read-maker .ensures)
+    rw (sym (l .before .before .before .kind-of .ensures) ∙ c .before .enum-told7 .given .1, ← l .before .byte .ensures, eq-eqb _ _ (l .if1 .left)) (c .read-maker .ensures)
 
 returns-10 : tie.Need-returns-10
 unfolding messageOf
-returns-10 c = rw (sym (c .before .before .before .before .before .kind-of .ensures) ∙ c .enum-told9 .given .1)
+returns-10 c = rw (sym (c .before .before .before .before .before .kind-of .ensures) ∙ c .enum-told8 .given .1)
 
 pub read-spec : {M : Type 1} → statement M
 read-spec =

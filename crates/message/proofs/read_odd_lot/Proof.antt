@@ -44,7 +44,7 @@ returns-4 c =
 returns-5 : tie.Need-returns-5
 unfolding readOddLot oddAt
 returns-5 c =
-    let x = c .before in
+    let x = c .before .before in
     let y = x .before .before in
     let z = y .before .before in
     let l = z .before .before in
@@ -57,15 +57,15 @@ returns-5 c =
       eq-eqb _ _ (y .if3 .left),
       ← x .before .byte3 .ensures,
       eq-eqb _ _ (x .if4 .left),
-      eq-eqb _ _ (c .if5 .taken),
+      sym (c .before .is-misplaced .ensures) ∙ c .if5 .taken,
     )
 
 -- 42, 43 and 44 have passed
-formed : (c : tie.Else5) → let a = c .before .before .before .before .before .before .before .before .before .before .args in
-    readOddLot (a .letter) (a .msg .now) ≡ checkedSymbol (a .msg .now) (says.OddLot (oddLotOdd (a .msg .now)))
+formed : (c : tie.Else5) → let a = c .before .before .before .before .before .before .before .before .before .before .before .args in
+    readOddLot (a .finra) (a .letter) (a .msg .now) ≡ checkedSymbol (a .msg .now) (says.OddLot (oddLotOdd (a .msg .now)))
 unfolding readOddLot oddAt
 formed c =
-    let x = c .before in
+    let x = c .before .before in
     let y = x .before .before in
     let z = y .before .before in
     let l = z .before .before in
@@ -78,7 +78,7 @@ formed c =
       eq-eqb _ _ (y .if3 .left),
       ← x .before .byte3 .ensures,
       eq-eqb _ _ (x .if4 .left),
-      ne-eqb _ _ (c .if5 .left),
+      sym (c .before .is-misplaced .ensures) ∙ c .if5 .left,
     )
 
 returns-6 : tie.Need-returns-6
@@ -104,6 +104,7 @@ read-odd-lot-spec =
     (λ c. search needs)
     (λ c κs. search needs)
     returns-4
+    (λ c κs. search needs)
     returns-5
     (λ c. search needs)
     (λ c. search needs)

@@ -40,7 +40,7 @@ roundLotOn l fault q o p =
     (flagged (oddCodeOn l o p) p (cond (eqb (oddCodeOn l o p) 0) (oddOnPage l o (roundOn l q p)) (roundOn l q p)))
     (rejected fault p)
 
--- Q M: with 60 to 64 rejected
+-- Q M, Q T: with 60 to 64 rejected
 unfoldable pub oddLotOn : ℕ → Odd → List ℕ → Updated
 oddLotOn l o p = cond (eqb (oddCodeOn l o p) 0) (flagged 0 p (oddOnPage l o p)) (rejected (oddCodeOn l o p) p)
 

@@ -1,0 +1,83 @@
+-- T-05's sentences (document 02): FINRA's odd lots, type Q T on D's line. Like `Shared`, rows of whole answers.
+-- Assumes nothing.
+use Prim.Native.Nat.{ℕ}
+use mathlib.Core.Path.{refl}
+use mathlib.Core.List.{List, [], _∷_, _++_}
+use lib.ListN.{replicate, set}
+use Rattle.calls.specs.Call.{add, openLine, startDay, endDay, take, read}
+use Rattle.review.proofs.Rows.{odds, item, control, block, only, accepted, rejected, entry, national, odd, nothing, shown, none, zt, ab, noOdd, plain, levelsBy, finraLot, finraLevels, makerOf, onN, onD, look, Row, inDay, fromMake, answered, Answered, end, _▹_}
+
+-- a Q T by D at 8
+abbrev finra : ℕ → ℕ → ℕ → List ℕ → List ℕ
+finra mark bids offers items = finraLevels 68 8 mark bids offers items
+
+abbrev fourBids : List ℕ
+fourBids = item 9000000 1 ++ (item 9001000 2 ++ (item 9002000 3 ++ item 9003000 4))
+
+-- odd entries alone
+abbrev oddOnly : List ℕ → List ℕ → List ℕ
+oddOnly bid offer = shown nothing nothing nothing nothing bid offer
+
+unfoldable pub table : List Row
+table =
+    -- "FINRA starts to send odd lots in type Q T, with the layout of Q M, on D's line. They stand as levels of letter D." No maker stands
+    inDay
+    (onD 1 (finra 32 1 1 (item 9000000 5 ++ item 9050000 6) ∷ []) ∷ look ∷ [])
+    (accepted 2 1 48 ∷ oddOnly (odd 68 9000000 5) (odd 68 9050000 6) ∷ [])
+    -- "44 now also covers Q T off D's line": behind 41, 42 and 43, before 45 and 60. "Q M on D's line keeps 44", and so does Q K
+    ∷ inDay
+    (onN 1 (finraLevels 78 8 32 1 0 (item 9000000 5) ∷ []) ∷ onN 2 (finra 32 1 0 (item 9000000 5) ∷ []) ∷ onN 3 (finraLevels 78 8 32 2 0 (item 9000000 5) ∷ [])
+    ∷ onN 4 (set (finraLevels 78 8 32 1 0 (item 9000000 5)) 35 1 ∷ []) ∷ onN 5 (set (finraLevels 78 8 65 0 0 []) 20 89 ∷ [])
+    ∷ onD 1 (levelsBy 68 8 32 1 0 (item 9000000 5) ∷ []) ∷ onD 2 (plain 68 7 3 noOdd ∷ []) ∷ look ∷ [])
+    (rejected 2 1 44 ∷ rejected 3 2 41 ∷ rejected 4 3 42
+    ∷ rejected 5 4 43 ∷ rejected 6 5 44
+    ∷ rejected 2 1 44 ∷ rejected 3 2 44 ∷ none ∷ [])
+    -- "on it Q T is judged as Q M is elsewhere": 42, 43 of bytes 3, 34 and 35, 45 of a symbol that is not listed or malformed, before 60
+    ∷ inDay
+    (onD 1 ((finra 32 0 0 [] ++ (0 ∷ [])) ∷ []) ∷ onD 2 (finra 32 0 1 [] ∷ []) ∷ onD 3 (set (finra 32 0 0 []) 3 1 ∷ []) ∷ onD 4 (set (finra 32 0 0 []) 34 1 ∷ [])
+    ∷ onD 5 (set (finra 32 0 0 []) 35 1 ∷ []) ∷ onD 6 (set (finra 65 0 0 []) 20 89 ∷ []) ∷ onD 7 (set (finra 65 0 0 []) 20 33 ∷ []) ∷ onD 8 (finra 32 0 0 [] ∷ []) ∷ [])
+    (rejected 2 1 42 ∷ rejected 3 2 42 ∷ rejected 4 3 43 ∷ rejected 5 4 43
+    ∷ rejected 6 5 43 ∷ rejected 7 6 45 ∷ rejected 8 7 45 ∷ accepted 9 8 0 ∷ [])
+    -- 60 to 64 reject it, never in part: the four bids and the offer stand, whatever it clears
+    ∷ inDay
+    (onD 1 (finra 32 4 1 (fourBids ++ item 9050000 6) ∷ []) ∷ onD 2 (finra 65 0 0 [] ∷ []) ∷ onD 3 (finra 66 5 0 (replicate 60 0) ∷ []) ∷ onD 4 (finra 88 1 0 (item 0 1) ∷ [])
+    ∷ onD 5 (finra 88 0 1 (item 7 100) ∷ []) ∷ onD 6 (finra 83 1 0 (item 9004000 1) ∷ []) ∷ look ∷ onD 7 (finra 32 2 0 (item 9000000 0 ++ item 9004000 1) ∷ []) ∷ look ∷ onD 8 (finra 88 0 0 [] ∷ []) ∷ look ∷ [])
+    (accepted 2 1 48 ∷ rejected 3 2 60 ∷ rejected 4 3 61 ∷ rejected 5 4 62
+    ∷ rejected 6 5 63 ∷ rejected 7 6 64 ∷ oddOnly (odd 68 9003000 4) (odd 68 9050000 6) ∷ accepted 8 7 16 ∷ oddOnly (odd 68 9004000 1) (odd 68 9050000 6) ∷ accepted 9 8 48 ∷ none ∷ [])
+    -- ranked with letter D among the others: a tie goes to D before N; then by time, shares and price
+    ∷ inDay
+    (onN 1 (levelsBy 78 8 32 1 0 (item 9000000 5) ∷ []) ∷ onD 1 (finra 32 1 0 (item 9000000 5) ∷ []) ∷ look ∷ onN 2 (levelsBy 78 7 32 1 0 (item 9000000 5) ∷ []) ∷ look
+    ∷ onD 2 (finra 32 1 0 (item 9000000 6) ∷ []) ∷ look ∷ onN 3 (levelsBy 78 9 32 1 0 (item 9000001 1) ∷ []) ∷ look ∷ [])
+    (accepted 2 1 16 ∷ accepted 2 1 16 ∷ oddOnly (odd 68 9000000 5) nothing ∷ accepted 3 2 16 ∷ oddOnly (odd 78 9000000 5) nothing
+    ∷ accepted 3 2 16 ∷ oddOnly (odd 68 9000000 6) nothing ∷ accepted 4 3 16 ∷ oddOnly (odd 78 9000001 1) nothing ∷ [])
+    -- judged against the national price, which may be D's own FINRA best; Close, Open and an empty Q U leave the level
+    ∷ inDay
+    (onD 1 (finra 32 1 0 (item 10000000 5) ∷ []) ∷ onD 2 (makerOf 7 82 10000000 3 0 0 65 ∷ []) ∷ look ∷ onD 3 (control 67 68 ∷ []) ∷ look
+    ∷ onD 4 (control 79 68 ∷ []) ∷ onD 5 (makerOf 7 82 0 0 0 0 65 ∷ []) ∷ look ∷ [])
+    (accepted 2 1 16 ∷ accepted 3 2 21 ∷ shown (national 68 82 10000000 3) nothing (entry 65 32 32 32 10000000 3) nothing nothing nothing ∷ accepted 4 3 21 ∷ oddOnly (odd 68 10000000 5) nothing
+    ∷ accepted 5 4 21 ∷ accepted 6 5 21 ∷ oddOnly (odd 68 10000000 5) nothing ∷ [])
+    -- End of Day keeps them, Start of Day empties them
+    ∷ inDay
+    (onD 1 (finra 32 4 0 fourBids ∷ []) ∷ endDay ∷ look ∷ startDay ∷ look ∷ onD 1 (finra 32 1 0 (item 9004000 5) ∷ []) ∷ look ∷ [])
+    (accepted 2 1 16 ∷ only 0 ∷ oddOnly (odd 68 9003000 4) nothing ∷ only 0 ∷ none ∷ accepted 2 1 16 ∷ oddOnly (odd 68 9004000 5) nothing ∷ [])
+    -- it names its symbol, and goes by that symbol's round lot; every line of letter D is D's line
+    ∷ fromMake 2
+    (add zt 100 ∷ add ab 10 ∷ openLine 7 68 ∷ openLine 8 68 ∷ startDay ∷ onD 1 (finraLot 68 8 ab (odds 32 1 0 (0 ∷ 0 ∷ []) (item 7 10)) ∷ [])
+    ∷ onD 2 (finraLot 68 8 ab (odds 32 1 0 (0 ∷ 0 ∷ []) (item 7 9)) ∷ []) ∷ look ∷ read ab 96 ∷ take 8 (block 1 (finra 32 4 0 fourBids ∷ [])) 180 ∷ onD 3 (finra 32 1 0 (item 9004000 1) ∷ []) ∷ [])
+    (only 0 ∷ only 0 ∷ only 0 ∷ only 0 ∷ only 0 ∷ rejected 2 1 63
+    ∷ accepted 3 2 16 ∷ none ∷ oddOnly (odd 68 7 9) nothing ∷ accepted 2 1 16 ∷ rejected 4 3 64 ∷ [])
+    ∷ []
+
+-- one for each row, in order
+pub cases : Answered table
+unfolding table answered
+cases =
+    refl  -- levels of letter D
+    ▹ refl  -- 44
+    ▹ refl  -- 42, 43, 45
+    ▹ refl  -- 60 to 64
+    ▹ refl  -- ranked
+    ▹ refl  -- the national price
+    ▹ refl  -- days
+    ▹ refl  -- symbols and lines
+    ▹ end
