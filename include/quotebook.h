@@ -69,7 +69,7 @@ enum {
     QB_CODE_LETTER = 41,             /* the letter is not the line's */
     QB_CODE_LENGTH = 42,             /* the length is not its type's */
     QB_CODE_FIXED_BYTE = 43,         /* a zero or test byte is wrong */
-    QB_CODE_WRONG_LINE = 44,         /* C C, C O, Q U off D's line; Q K, Q M on it */
+    QB_CODE_WRONG_LINE = 44,         /* C C, C O, Q U, Q T off D's line; Q K, Q M on it */
     QB_CODE_SYMBOL = 45,             /* the symbol is malformed or not listed */
     QB_CODE_CONDITION = 46,          /* the condition is not one that the type takes */
     QB_CODE_SIZE_WITHOUT_PRICE = 47, /* price 0 with a size, on either side */

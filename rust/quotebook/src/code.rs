@@ -10,7 +10,7 @@ table! {
     41 Letter "The letter is not the line's.";
     42 Length "The length is not its type's.";
     43 FixedByte "A byte that must be zero is not, or a test byte is wrong.";
-    44 WrongLine "FINRA Close, FINRA Open and maker quotes go on D's line only, other quotes on any other.";
+    44 WrongLine "Close, Open, makers and odd lots of FINRA go on D's line only, other quotes on any other.";
     45 Symbol "The symbol is malformed or not listed.";
     46 Condition "The condition is not one that the type takes.";
     47 SizeWithoutPrice "A side has a size and no price.";
@@ -25,7 +25,7 @@ table! {
 
 impl Code {
     /// Whether an odd part was refused. Of a round lot quote (Q K) the round part is then in force;
-    /// an odd lot quote (Q M) is rejected.
+    /// an odd lot quote (Q M, FINRA's Q T) is rejected.
     pub fn refuses_odd_part(self) -> bool {
         self >= Code::ClearMark
     }

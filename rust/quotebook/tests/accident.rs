@@ -1,5 +1,5 @@
-//! The accident that the mission names, down to the bytes of the page: a Q K or Q M whose odd part is
-//! refused, at its last item or for its fifth level. Its clear must not stay. The cases of `hand.rs`
+//! The accident that the mission names, down to the bytes of the page: a Q K, Q M or Q T whose odd part
+//! is refused, at its last item or for its fifth level. Its clear must not stay. The cases of `hand.rs`
 //! run every code and clear mark; here is seen that no level's byte changes.
 
 mod support;
@@ -11,26 +11,38 @@ use support::layout::{in_page, page, ENTRIES, LEVELS, SLOTS, SLOT_LEN};
 const TEN: u64 = 10_000_000;
 const CENT: u64 = 10_000;
 
-/// N has four odd bids, from 10.01 to 10.04, and one odd offer.
+const N: u32 = 5;
+const D: u32 = 7;
+
+/// How an odd part alone is sent on a line: Q M, and by FINRA Q T.
+type OddLot = fn(u8, u64, [u8; 11], &Odd) -> Vec<u8>;
+const ODD_LOTS: [(u32, u8, OddLot); 2] =
+    [(N, b'N', build::odd_lot), (D, b'D', build::finra_odd_lot)];
+
+/// N and D each have four odd bids, from 10.01 to 10.04, and one odd offer.
 fn book() -> Book {
     let mut book = Book::new(2).expect("two symbols");
     book.add_symbol("YY", 100).expect("a symbol");
     book.add_symbol("ZT", 100).expect("a symbol");
-    book.open_line(5, b'N').expect("a line");
+    for (line, letter, _) in ODD_LOTS {
+        book.open_line(line, letter).expect("a line");
+    }
     book.start_day().expect("a day");
     let standing = Odd {
         clear: b' ',
         bids: (1..=4).map(|cents| (TEN + cents * CENT, 1)).collect(),
         offers: vec![(TEN + 8 * CENT, 1)],
     };
-    let message = build::odd_lot(b'N', 7, build::symbol("ZT"), &standing);
-    assert_eq!(send(&mut book, 1, message), Code::Accepted);
+    for (line, letter, odd_lot) in ODD_LOTS {
+        let message = odd_lot(letter, 7, build::symbol("ZT"), &standing);
+        assert_eq!(send(&mut book, line, 1, message), Code::Accepted);
+    }
     book
 }
 
-fn send(book: &mut Book, sequence: u32, message: Vec<u8>) -> Code {
+fn send(book: &mut Book, line: u32, sequence: u32, message: Vec<u8>) -> Code {
     let block = build::block(sequence, &[message]);
-    let taken = book.take_block(5, &block).expect("a taken block");
+    let taken = book.take_block(line, &block).expect("a taken block");
     let answer = taken.answers().next().expect("one answer");
     answer.code
 }
@@ -57,11 +69,13 @@ fn refused_parts() -> Vec<(Code, Odd)> {
 #[test]
 fn a_refused_odd_lot_quote_changes_no_byte_of_the_page() {
     for (code, part) in refused_parts() {
-        let mut book = book();
-        let before = book.as_bytes()[page(1)].to_vec();
-        let message = build::odd_lot(b'N', 8, build::symbol("ZT"), &part);
-        assert_eq!(send(&mut book, 2, message), code);
-        assert_eq!(book.as_bytes()[page(1)], before);
+        for (line, letter, odd_lot) in ODD_LOTS {
+            let mut book = book();
+            let before = book.as_bytes()[page(1)].to_vec();
+            let message = odd_lot(letter, 8, build::symbol("ZT"), &part);
+            assert_eq!(send(&mut book, line, 2, message), code);
+            assert_eq!(book.as_bytes()[page(1)], before);
+        }
     }
 }
 
@@ -71,7 +85,8 @@ fn a_partly_accepted_quote_changes_its_quote_and_the_national_entries_alone() {
         let mut book = book();
         let before = book.clone();
         let round = Round::regular(b'N', 8, "ZT", (TEN, 3), (TEN + 20 * CENT, 2));
-        assert_eq!(send(&mut book, 2, build::round_lot(&round, &part)), code);
+        let message = build::round_lot(&round, &part);
+        assert_eq!(send(&mut book, N, 2, message), code);
         let slot = SLOTS.start + SLOT_LEN * usize::from(b'N' - b'A');
         let national = ENTRIES.start..ENTRIES.start + 32;
         let mut expected = before.as_bytes()[page(1)].to_vec();

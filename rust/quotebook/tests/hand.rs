@@ -11,6 +11,8 @@ mod accident;
 mod cases;
 #[path = "../../second/tests/hand/entries.rs"]
 mod entries;
+#[path = "../../second/tests/hand/finra_odd_lots.rs"]
+mod finra_odd_lots;
 #[path = "../../second/tests/hand/line.rs"]
 mod line;
 #[path = "../../second/tests/hand/messages.rs"]

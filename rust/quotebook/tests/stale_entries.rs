@@ -141,6 +141,10 @@ fn odd_lot(letter: u8, odd: &Odd) -> Vec<u8> {
     build::odd_lot(letter, 8, build::symbol("ZT"), odd)
 }
 
+fn finra_odd_lot(letter: u8, odd: &Odd) -> Vec<u8> {
+    build::finra_odd_lot(letter, 8, build::symbol("ZT"), odd)
+}
+
 /// The maker MM with 10.00 x 3 and 10.02 x 2.
 fn maker() -> Vec<u8> {
     let round = Round::regular(b'D', 7, "ZT", (TEN, 3), (TEN + 2 * CENT, 2));
@@ -227,6 +231,25 @@ fn idle_odd_lots() {
     let idle = odd_lot(b'N', &Odd::IDLE);
     assert_eq!(send(&mut book, N, &[idle]), [(0, 3)]);
     assert_eq!(book.bytes()[in_page(ZT, rest)], before);
+}
+
+/// FINRA's odd lots, one with a space and no items too.
+#[test]
+fn finra_odd_lots() {
+    let odd = bids(b' ', &[(TEN + CENT, 5)]);
+    let mut entries = NOTHING;
+    entries[4] = "D 10.01 x 5";
+    check(book(), D, finra_odd_lot(b'D', &odd), (0, 3 + 16), entries);
+    check(book(), D, finra_odd_lot(b'D', &Odd::IDLE), (0, 3), NOTHING);
+    let standing = after(book(), D, maker());
+    entries[..4].copy_from_slice(&MADE[..4]);
+    check(
+        standing,
+        D,
+        finra_odd_lot(b'D', &odd),
+        (0, 15 + 16),
+        entries,
+    );
 }
 
 /// A clear of levels that do not stand, and a removal of an unknown price.
@@ -359,9 +382,11 @@ fn a_rejected_message_leaves_wrong_entries() {
     let no_price = Round::regular(b'N', 7, "ZT", (0, 3), (TEN, 2));
     let of_maker = Round::regular(b'D', 7, "ZT", (TEN, 3), (TEN, 2));
     for (line, message, code) in [
-        (N, build::header(b'Q', b'T', b'N', 7), 40),
+        (N, build::header(b'Q', b'V', b'N', 7), 40),
         (N, quote(b'P', &Odd::IDLE), 41),
         (N, build::header(b'C', b'C', b'N', 7), 44),
+        (N, finra_odd_lot(b'N', &bids(b' ', &[(TEN, 5)])), 44),
+        (D, odd_lot(b'D', &bids(b' ', &[(TEN, 5)])), 44),
         (N, build::round_lot(&no_symbol, &Odd::IDLE), 45),
         (N, build::round_lot(&no_condition, &Odd::IDLE), 46),
         (N, build::round_lot(&no_price, &Odd::IDLE), 47),
@@ -369,6 +394,7 @@ fn a_rejected_message_leaves_wrong_entries() {
         (N, odd_lot(b'N', &bids(b' ', &[(TEN, 5); 5])), 61),
         (N, odd_lot(b'N', &bids(b' ', &[(0, 5)])), 62),
         (N, odd_lot(b'N', &bids(b' ', &[(TEN, 100)])), 63),
+        (D, finra_odd_lot(b'D', &bids(b'X', &[(TEN, 100)])), 63),
         (D, build::maker_quote(&of_maker, *b"M  M"), 48),
         (N, build::header(b'C', b'I', b'N', 7), 0),
         (N, build::header(b'C', b'T', b'N', 7), 0),

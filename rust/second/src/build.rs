@@ -118,7 +118,23 @@ pub fn round_lot(round: &Round, odd: &Odd) -> Vec<u8> {
 
 /// Q M.
 pub fn odd_lot(letter: u8, time: u64, symbol: [u8; SYMBOL_LEN], odd: &Odd) -> Vec<u8> {
-    let mut message = header(b'Q', b'M', letter, time);
+    odd_alone(b'M', letter, time, symbol, odd)
+}
+
+/// Q T, FINRA's odd lot: it belongs on a line of D.
+pub fn finra_odd_lot(letter: u8, time: u64, symbol: [u8; SYMBOL_LEN], odd: &Odd) -> Vec<u8> {
+    odd_alone(b'T', letter, time, symbol, odd)
+}
+
+/// An odd part behind a header and a symbol.
+fn odd_alone(
+    message_type: u8,
+    letter: u8,
+    time: u64,
+    symbol: [u8; SYMBOL_LEN],
+    odd: &Odd,
+) -> Vec<u8> {
+    let mut message = header(b'Q', message_type, letter, time);
     message.extend(symbol);
     odd.write(&mut message, 2);
     message

@@ -8,6 +8,7 @@ use std::fmt::{self, Display, Formatter};
 use crate::build;
 use crate::call::{Call, List};
 use crate::compare::{lent_part, Observed};
+use crate::terms::ENTRY_LEN;
 use resent::Resent;
 
 /// The numbers that each call can answer in a list.
@@ -22,7 +23,7 @@ const NUMBERS: [(&str, &[u8]); 7] = [
 ];
 
 /// The codes that each type of message can get.
-const CODES: [(&str, &[u8]); 9] = [
+const CODES: [(&str, &[u8]); 10] = [
     ("C I", &[0, 41, 42, 43]),
     ("C T", &[0, 41, 42, 43]),
     ("C 5", &[0, 41, 42, 43]),
@@ -30,26 +31,40 @@ const CODES: [(&str, &[u8]); 9] = [
     ("C O", &[0, 41, 42, 43, 44]),
     ("Q K", &[0, 41, 42, 43, 44, 45, 46, 47, 60, 61, 62, 63, 64]),
     ("Q M", &[0, 41, 42, 43, 44, 45, 60, 61, 62, 63, 64]),
+    ("Q T", &[0, 41, 42, 43, 44, 45, 60, 61, 62, 63, 64]),
     ("Q U", &[0, 41, 42, 43, 44, 45, 46, 47, 48, 49]),
     ("other", &[40]),
 ];
 
 /// The flags that each type of message can set.
-const FLAGS: [(&str, &[u8]); 5] = [
+const FLAGS: [(&str, &[u8]); 6] = [
     ("C C", &[1, 2, 4, 8, 16, 32]),
     ("C O", &[1, 2, 4, 8, 16, 32]),
     ("Q K", &[1, 2, 16, 32]),
     ("Q M", &[16, 32]),
+    ("Q T", &[16, 32]),
     ("Q U", &[1, 2, 4, 8, 16, 32]),
 ];
 
-/// How often each number, code, flag and case of a resent quote was reached.
+/// The letters that must have led an odd entry, with and without a FINRA entry on that side.
+const LEADERS: [(&str, &[u8]); 4] = [
+    (ODD_BID[0], b"D"),
+    (ODD_BID[1], b"D"),
+    (ODD_OFFER[0], b"D"),
+    (ODD_OFFER[1], b"D"),
+];
+
+const ODD_BID: [&str; 2] = ["odd bid", "odd bid without a FINRA bid"];
+const ODD_OFFER: [&str; 2] = ["odd offer", "odd offer without a FINRA offer"];
+
+/// How often each number, code, flag, leader of an odd entry and case of a resent quote was reached.
 #[derive(Default)]
 pub struct Coverage {
     calls: u64,
-    numbers: BTreeMap<(&'static str, u8), u64>,
-    codes: BTreeMap<(&'static str, u8), u64>,
-    flags: BTreeMap<(&'static str, u8), u64>,
+    numbers: Counts,
+    codes: Counts,
+    flags: Counts,
+    leaders: Counts,
     resent: Resent,
 }
 
@@ -82,6 +97,21 @@ impl Coverage {
                 }
             }
         }
+        for (number, publication) in &observed.publications {
+            if *number == 0 {
+                self.note_leaders(lent_part(publication));
+            }
+        }
+    }
+
+    fn note_leaders(&mut self, publication: &[u8]) {
+        for (side, names) in [ODD_BID, ODD_OFFER].into_iter().enumerate() {
+            let [finra, odd] = [2, 4].map(|entry| publication[(entry + side) * ENTRY_LEN]);
+            if odd != b' ' {
+                let name = names[usize::from(finra == b' ')];
+                *self.leaders.entry((name, odd)).or_default() += 1;
+            }
+        }
     }
 
     fn note_message(&mut self, name: &'static str, code: u8, flags: u8) {
@@ -104,6 +134,7 @@ impl Coverage {
         missing.extend(missing_in("code", &CODES, &self.codes));
         missing.extend(missing_in("flag", &FLAGS, &self.flags));
         missing.extend(self.resent.missing());
+        missing.extend(missing_in("leader", &LEADERS, &self.leaders));
         missing
     }
 
@@ -162,6 +193,7 @@ fn type_name(message: &[u8]) -> &'static str {
         Some(b"CO") => "C O",
         Some(b"QK") => "Q K",
         Some(b"QM") => "Q M",
+        Some(b"QT") => "Q T",
         Some(b"QU") => "Q U",
         _ => "other",
     }
@@ -175,6 +207,7 @@ impl Display for Coverage {
             ("numbers", &self.numbers),
             ("codes", &self.codes),
             ("flags", &self.flags),
+            ("leaders", &self.leaders),
         ];
         for (what, counts) in tables {
             let mut last = "";

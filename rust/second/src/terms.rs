@@ -65,7 +65,7 @@ pub mod code {
     pub const LENGTH: u8 = 42;
     /// A zero byte or a test byte is wrong.
     pub const FIXED_BYTE: u8 = 43;
-    /// C C, C O or Q U off D's line; Q K or Q M on it.
+    /// C C, C O, Q U or Q T off D's line; Q K or Q M on it.
     pub const WRONG_LINE: u8 = 44;
     /// The symbol is malformed or not listed.
     pub const SYMBOL: u8 = 45;

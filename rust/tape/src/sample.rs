@@ -85,6 +85,10 @@ fn trading(feed: &mut Feed) {
         let fifth = odd(b'S', &[(227_405_000, 15)], &[]);
         block.quote_with_odd("IBM", (227_400_000, 6), (227_440_000, 2), &fifth);
     });
+    feed.block(FINRA, |block| {
+        block.odd("IBM", b' ', &[(227_415_000, 20)], &[(227_425_000, 35)]);
+        block.odd("F", b' ', &[(11_041_500, 40)], &[(11_049_000, 25)]);
+    });
     feed.block(ARCA, |block| {
         block.quote("BRK.A", b'E', (741_900_000_000, 3), (741_950_000_000, 1));
         block.quote("F", b'R', (11_045_000, 0), (11_050_000, 140));
@@ -131,6 +135,7 @@ fn afternoon(feed: &mut Feed) {
         block.maker("NVR", "BLDR", (7_923_000_000, 1), (7_927_500_000, 1));
         block.maker("F", "ETMM", NOTHING, NOTHING);
     });
+    feed.block(FINRA, |block| block.odd("IBM", b'X', &[], &[]));
     feed.block(FINRA, |block| block.control(b'C'));
     feed.block(NYSE, |block| block.control(b'I'));
     feed.block(FINRA, |block| block.control(b'O'));
@@ -248,10 +253,15 @@ impl Messages {
         self.written.push(build::round_lot(&round, odd));
     }
 
+    /// Q M, and by FINRA Q T.
     fn odd(&mut self, symbol: &str, clear: u8, bids: &[Shown], offers: &[Shown]) {
         let time = self.tick();
         let odd = odd(clear, bids, offers);
-        let message = build::odd_lot(self.letter, time, build::symbol(symbol), &odd);
+        let write = match self.letter == FINRA.1 {
+            true => build::finra_odd_lot,
+            false => build::odd_lot,
+        };
+        let message = write(self.letter, time, build::symbol(symbol), &odd);
         self.written.push(message);
     }
 

@@ -104,7 +104,7 @@ fn add_message(rows: &mut Vec<Row>, number: u32, message: &[u8], told: &Message)
             format!("maker {} {condition}", text(message, 56, 4)),
             sides(message),
         ),
-        b"QM" => (OddPart::ALONE.words(message), OddPart::ALONE.sides(message)),
+        b"QM" | b"QT" => (OddPart::ALONE.words(message), OddPart::ALONE.sides(message)),
         _ => (control(kind), Default::default()),
     };
     let [number, changed] = [number.to_string(), words::changed(told.flags)];

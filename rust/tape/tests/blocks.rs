@@ -233,7 +233,7 @@ fn makers() {
     }
 }
 
-/// Odd lots of two letters: levels, a fifth, each fault, and each clear mark.
+/// Odd lots of two letters and of FINRA: levels, a fifth, each fault, and each clear mark.
 #[test]
 fn odd_lots() {
     let four: Vec<_> = (1..=4).map(|cents| (TEN + cents * CENT, 10)).collect();
@@ -257,8 +257,22 @@ fn odd_lots() {
             let with_round = build::round_lot(&quoted, part);
             tape.send(N, 1 + next, &[odd_lot(b'N', part), with_round]);
             tape.send(P, next, &[odd_lot(b'P', part), odd_lot(b'P', part)]);
+            tape.send(D, next, &[finra_odd_lot(b'D', part), odd_lot(b'D', part)]);
         }
         agreed(&format!("clear mark {clear}"), &tape.bytes());
+    }
+}
+
+/// An odd lot of FINRA leads under the letter D; off D's line it is 44.
+#[test]
+fn finra_odd_lots() {
+    let part = odd(b' ', &[(TEN, 9)], &[]);
+    let mut tape = desk();
+    tape.send(D, 1, &[finra_odd_lot(b'D', &part)]);
+    tape.send(N, 1, &[finra_odd_lot(b'N', &part), odd_lot(b'N', &part)]);
+    let printed = agreed("FINRA's odd lots", &tape.bytes());
+    for line in ["msg 0 0 16", "msg 0 44 0", "msg 1 0 0", "OB D - 10000000 9"] {
+        assert!(printed.contains(line), "{line} in\n{printed}");
     }
 }
 

@@ -245,7 +245,7 @@ impl Pages<'_> {
         let kind = &message[..2];
         let concerned = match kind {
             b"CC" | b"CO" if code == 0 => 0..self.pages.len(),
-            b"QK" | b"QM" | b"QU" if code == 0 || code >= 49 => {
+            b"QK" | b"QM" | b"QT" | b"QU" if code == 0 || code >= 49 => {
                 let named = listed_page(self.before, &message[20..31]).ok_or("not listed")?;
                 named..named + 1
             }

@@ -138,7 +138,7 @@ impl Guarded {
                 continue;
             }
             match kind {
-                b"QK" | b"QM" | b"QU" => {
+                b"QK" | b"QM" | b"QT" | b"QU" => {
                     let named = layout::listed_page(self.bytes(), &message[20..31]);
                     allowed.extend(named.map(|named| in_page(named, CONTENTS)));
                 }

@@ -4,12 +4,14 @@
 use super::layout::{in_page, listed_page, page, ENTRIES, N};
 use super::reading::{is_empty_quote, Reading};
 
-pub const PARTS: [&str; 9] = [
+pub const PARTS: [&str; 11] = [
     "Q K without odd lots",
     "Q K with odd lots",
     "Q K, partly accepted",
     "Q M",
     "Q M, a space and no items",
+    "Q T",
+    "Q T, a space and no items",
     "Q U",
     "Q U, empty, of an unknown maker",
     "C C",
@@ -71,10 +73,12 @@ fn kind(reading: &Reading, message: &[u8], code: u8) -> Option<&'static str> {
         (b"QK", 60..=64) => 2,
         (b"QM", 0) if idle(31) => 4,
         (b"QM", 0) => 3,
-        (b"QU", 0) if is_empty_quote(message) && unknown() => 6,
-        (b"QU", 0) => 5,
-        (b"CC", 0) => 7,
-        (b"CO", 0) => 8,
+        (b"QT", 0) if idle(31) => 6,
+        (b"QT", 0) => 5,
+        (b"QU", 0) if is_empty_quote(message) && unknown() => 8,
+        (b"QU", 0) => 7,
+        (b"CC", 0) => 9,
+        (b"CO", 0) => 10,
         _ => return None,
     };
     Some(PARTS[at])

@@ -116,7 +116,7 @@ impl Reading {
         let at = usize::from(message[2] - b'A');
         match &message[..2] {
             b"QU" => self.take_maker(message),
-            b"QM" => self.take_odd(at, message, 31, 36),
+            b"QM" | b"QT" => self.take_odd(at, message, 31, 36),
             b"QK" => {
                 self.letters[at].0 = over(&self.letters[at].0, round(message));
                 self.take_odd(at, message, 56, 60)

@@ -64,7 +64,8 @@ impl<U: Update, const M: u8> Book<U, M> {
         }
         let worked = match [message[0], message[1]] {
             [b'Q', b'K'] => self.round_lot(letter, message),
-            [b'Q', b'M'] => self.odd_lot(letter, message),
+            [b'Q', b'T'] if M == mistake::FINRA_ODD_UNKNOWN => Err(code::UNKNOWN_TYPE),
+            [b'Q', b'M' | b'T'] => self.odd_lot(letter, message),
             [b'Q', b'U'] => self.maker(letter, message),
             [b'C', b'C'] => self.finra_day(letter, message, b'L'),
             [b'C', b'O'] => self.finra_day(letter, message, b'R'),
@@ -120,7 +121,7 @@ impl<U: Update, const M: u8> Book<U, M> {
         Ok(Worked { code, flags })
     }
 
-    /// Q M: an odd part alone; if it is refused the message is rejected.
+    /// Q M, and on D's line Q T: an odd part alone; if it is refused the message is rejected.
     fn odd_lot(&mut self, letter: u8, message: &[u8]) -> Result<Worked, u8> {
         check(message[2] == letter, code::LETTER)?;
         let (fixed, items) = message
@@ -129,7 +130,11 @@ impl<U: Update, const M: u8> Book<U, M> {
         check(items.len() == items_len(fixed[32], fixed[33]), code::LENGTH)?;
         let zeros = [fixed[3], fixed[34], fixed[35]];
         check(zeros == [0; 3], code::FIXED_BYTE)?;
-        check(letter != FINRA, code::WRONG_LINE)?;
+        let belongs = match fixed[1] {
+            b'T' => letter == FINRA || M == mistake::FINRA_ODD_ANYWHERE,
+            _ => letter != FINRA || M == mistake::ODD_LOT_ON_D,
+        };
+        check(belongs, code::WRONG_LINE)?;
         let page = self.listed(bytes_at(fixed, 20))?;
         let part = OddPart {
             clear: fixed[31],
@@ -181,6 +186,9 @@ impl<U: Update, const M: u8> Book<U, M> {
             page.set_maker::<M>(cell, name, &quote);
             Touched::Maker(cell, name)
         };
+        if M == mistake::EMPTY_MAKER_CLEARS && quote.is_empty::<M>() {
+            page.set_levels::<M>(FINRA, [Levels::EMPTY; 2]);
+        }
         U::update::<M>(page, touched);
         Ok(Worked::accepted(page.changes::<M>(&before)))
     }
@@ -199,6 +207,9 @@ impl<U: Update, const M: u8> Book<U, M> {
         for (i, page) in self.pages.iter_mut().enumerate() {
             let before = page.entries;
             page.set_conditions::<M>(condition, u64_at(message, 4));
+            if M == mistake::CLOSE_CLEARS_LEVELS {
+                page.set_levels::<M>(FINRA, [Levels::EMPTY; 2]);
+            }
             if M != mistake::CLOSE_IN_ONE_PAGE || i == 0 {
                 U::update::<M>(page, Touched::Makers);
             }

@@ -74,4 +74,12 @@ mistakes! {
     56 FREED_KEEPS_TIMES "A freed maker cell keeps its times.";
     57 START_KEEPS_TIMES "Start of Day keeps the times of letters' quotes.";
     58 SAME_SIZE_ONLY "A side with a smaller size takes its message's time.";
+    59 FINRA_ODD_UNKNOWN "Q T is an unknown type, 40.";
+    60 FINRA_ODD_ANYWHERE "Q T is taken off D's line too.";
+    61 ODD_LOT_ON_D "Q M is taken on D's line too.";
+    62 FINRA_ODD_PARTLY "A Q T with 60 to 64 is counted as partly accepted.";
+    63 FINRA_ODD_UNRANKED "D's levels are in no odd best.";
+    64 FINRA_ODD_NEEDS_MAKER "D's levels rank only while the FINRA best has that side.";
+    65 CLOSE_CLEARS_LEVELS "FINRA Open and Close remove D's levels.";
+    66 EMPTY_MAKER_CLEARS "An empty quote of a maker removes D's levels.";
 }

@@ -1,4 +1,4 @@
-//! Odd-lot levels and the odd part of Q K and Q M: codes 60 to 64.
+//! Odd-lot levels and the odd part of Q K, Q M and Q T: codes 60 to 64.
 
 use super::bytes::{u32_at, u64_at};
 use super::candidate::{Candidate, Side};

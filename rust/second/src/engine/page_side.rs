@@ -67,8 +67,10 @@ impl PageSide {
     #[inline]
     pub fn set_levels<const M: u8>(&mut self, letter: u8, levels: Levels) {
         let best = levels.best::<M>();
+        let unranked = M == mistake::FINRA_ODD_UNRANKED && letter == FINRA;
         self.levels[place(letter)] = levels;
-        self.odd.set(place(letter), best, best.stands());
+        self.odd
+            .set(place(letter), best, best.stands() && !unranked);
     }
 
     /// A letter's quote if it counts, else none.
@@ -99,6 +101,14 @@ impl PageSide {
     #[inline]
     pub fn best_level<const M: u8>(&self) -> Candidate {
         self.odd.best::<M>()
+    }
+
+    /// The mistake of letting D's levels rank by the FINRA best alone.
+    #[inline]
+    pub fn rank_finra_levels<const M: u8>(&mut self) {
+        let best = self.levels(FINRA).best::<M>();
+        let counts = best.stands() && self.leaders.finra.stands();
+        self.odd.set(place(FINRA), best, counts);
     }
 
     /// D stands nationally with its FINRA best and that maker's condition. This condition is R: L

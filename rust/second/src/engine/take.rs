@@ -110,7 +110,11 @@ fn refused(number: u8, expected: u32, count: u64) -> Report {
 /// Code 0 is accepted, Q K with 60 to 64 partly accepted, the rest rejected.
 #[inline]
 fn count_message<const M: u8>(report: &mut Report, message_type: u8, worked: Worked) {
-    let partly = message_type == b'K' || M == mistake::ODD_LOT_PARTLY;
+    let partly = match message_type {
+        b'M' => M == mistake::ODD_LOT_PARTLY,
+        b'T' => M == mistake::FINRA_ODD_PARTLY,
+        _ => message_type == b'K',
+    };
     if worked.code == code::ACCEPTED || M == mistake::COUNTS_INVENTED {
         report.accepted += 1;
     } else if worked.code >= code::CLEAR_MARK && partly {

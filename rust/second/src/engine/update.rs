@@ -47,6 +47,9 @@ fn rank_side<const M: u8>(side: &mut PageSide) {
     side.leaders.finra = side.best_maker::<M>();
     side.place_finra::<M>();
     side.leaders.national = side.best_quote::<M>();
+    if M == mistake::FINRA_ODD_NEEDS_MAKER {
+        side.rank_finra_levels::<M>();
+    }
     side.leaders.odd = side.best_level::<M>();
 }
 

@@ -6,13 +6,13 @@ use crate::terms::{BLOCK_MAX, MESSAGE_MIN};
 
 /// First and last byte of each field that all messages have.
 const HEADER: [(usize, usize); 6] = [(0, 0), (1, 1), (2, 2), (3, 3), (4, 11), (12, 19)];
-/// The symbol of Q K, Q M and Q U.
+/// The symbol of Q K, Q M, Q T and Q U.
 const SYMBOL: (usize, usize) = (20, 30);
 /// Condition, prices and sizes of Q K and Q U.
 const ROUND: [(usize, usize); 5] = [(31, 31), (32, 39), (40, 43), (44, 51), (52, 55)];
 /// Clear, counts and zero of Q K.
 const ROUND_LOT: [(usize, usize); 4] = [(56, 56), (57, 57), (58, 58), (59, 59)];
-/// Clear, counts and zeros of Q M.
+/// Clear, counts and zeros of Q M and Q T.
 const ODD_LOT: [(usize, usize); 5] = [(31, 31), (32, 32), (33, 33), (34, 34), (35, 35)];
 const MAKER: (usize, usize) = (56, 59);
 
@@ -28,7 +28,7 @@ fn fields(message: &[u8]) -> Vec<(usize, usize)> {
             fields.extend(ROUND_LOT);
             items = 60;
         }
-        b"QM" => {
+        b"QM" | b"QT" => {
             fields.push(SYMBOL);
             fields.extend(ODD_LOT);
             items = 36;

@@ -3,20 +3,24 @@
 use super::pools::{Symbol, Theme};
 use super::random::Random;
 use super::{Generator, Source};
-use crate::build::{header, maker_quote, odd_lot, round_lot, test, Odd, Round, Shown};
+use crate::build::{
+    finra_odd_lot, header, maker_quote, odd_lot, round_lot, test, Odd, Round, Shown,
+};
 use crate::terms::FINRA;
 
 impl Generator {
     /// A quote that belongs on a line of this letter, seldom one that does not.
     pub(super) fn quote_message(&mut self, letter: u8) -> Vec<u8> {
         let misplaced = self.random.percent(3);
-        if (letter == FINRA) != misplaced {
-            return self.maker_message(letter);
-        }
+        let of_finra = (letter == FINRA) != misplaced;
         let (symbol, round_lot_shares) = self.draw_symbol();
         if self.random.percent(self.theme.odd_lots()) {
             let odd = self.draw_odd(round_lot_shares);
-            return odd_lot(letter, self.draw_time(), symbol, &odd);
+            let write = if of_finra { finra_odd_lot } else { odd_lot };
+            return write(letter, self.draw_time(), symbol, &odd);
+        }
+        if of_finra {
+            return self.maker_message(letter, symbol);
         }
         let round = self.draw_round((letter, None), symbol);
         let with_odd = match self.theme {
@@ -30,8 +34,7 @@ impl Generator {
         round_lot(&round, &Odd::IDLE)
     }
 
-    fn maker_message(&mut self, letter: u8) -> Vec<u8> {
-        let (symbol, _) = self.draw_symbol();
+    fn maker_message(&mut self, letter: u8, symbol: Symbol) -> Vec<u8> {
         let maker = self.random.pick(&self.pools.makers);
         let mut round = self.draw_round((letter, Some(maker)), symbol);
         round.condition = self.random.pick(b"RRRRRL");

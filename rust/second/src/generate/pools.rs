@@ -74,15 +74,16 @@ impl Theme {
     pub fn finra_blocks(self) -> usize {
         match self {
             Theme::Makers => 70,
-            Theme::Levels => 5,
+            Theme::Levels => 20,
             _ => 30,
         }
     }
 
-    /// Q M in a hundred of Q K and Q M.
+    /// Q M in a hundred of Q K and Q M, and Q T in a hundred of Q U and Q T.
     pub fn odd_lots(self) -> usize {
         match self {
             Theme::Levels => 50,
+            Theme::Makers => 10,
             _ => 25,
         }
     }

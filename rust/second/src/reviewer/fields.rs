@@ -2,7 +2,7 @@
 
 use crate::terms::SYMBOL_LEN;
 
-/// The eight types of messages.
+/// The nine types of messages.
 #[derive(Clone, Copy, PartialEq, Eq, Debug)]
 pub enum Kind {
     Inquiry,
@@ -12,6 +12,7 @@ pub enum Kind {
     Test,
     RoundLot,
     OddLot,
+    FinraOddLot,
     Maker,
 }
 
@@ -26,6 +27,7 @@ impl Kind {
             b"C5" => Some(Kind::Test),
             b"QK" => Some(Kind::RoundLot),
             b"QM" => Some(Kind::OddLot),
+            b"QT" => Some(Kind::FinraOddLot),
             b"QU" => Some(Kind::Maker),
             _ => None,
         }
@@ -47,7 +49,7 @@ pub fn time_of(message: &[u8]) -> u64 {
 /// The symbol that a message names, if its type has one and it is long enough.
 pub fn symbol_of(message: &[u8]) -> Option<&[u8]> {
     match Kind::of(message)? {
-        Kind::RoundLot | Kind::OddLot | Kind::Maker => message.get(20..31),
+        Kind::RoundLot | Kind::OddLot | Kind::FinraOddLot | Kind::Maker => message.get(20..31),
         _ => None,
     }
 }
@@ -128,7 +130,7 @@ pub struct Item {
     pub shares: u32,
 }
 
-/// The odd part of a Q K or Q M.
+/// The odd part of a Q K, Q M or Q T.
 pub struct OddPart {
     pub clear: u8,
     pub bids: u8,
@@ -143,7 +145,7 @@ impl OddPart {
     pub fn of(message: &[u8]) -> Option<OddPart> {
         let (clear, bids, offers, items) = match Kind::of(message)? {
             Kind::RoundLot if message.len() >= 60 => (56, 57, 58, 60),
-            Kind::OddLot if message.len() >= 36 => (31, 32, 33, 36),
+            Kind::OddLot | Kind::FinraOddLot if message.len() >= 36 => (31, 32, 33, 36),
             _ => return None,
         };
         let bid_count = usize::from(message[bids]);

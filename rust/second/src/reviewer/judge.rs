@@ -25,7 +25,7 @@ pub fn code(letter: u8, message: &[u8], symbols: &[Listed], history: &[Vec<u8>])
         return code::FIXED_BYTE;
     }
     let belongs = match kind {
-        Kind::FinraClose | Kind::FinraOpen | Kind::Maker => letter == FINRA,
+        Kind::FinraClose | Kind::FinraOpen | Kind::Maker | Kind::FinraOddLot => letter == FINRA,
         Kind::RoundLot | Kind::OddLot => letter != FINRA,
         Kind::Inquiry | Kind::Integrity | Kind::Test => true,
     };
@@ -55,7 +55,7 @@ pub fn code(letter: u8, message: &[u8], symbols: &[Listed], history: &[Vec<u8>])
     }
 }
 
-/// "42 length not its type's (Q K 60, Q M 36, plus 12 per item)."
+/// "42 length not its type's (Q K 60, Q M 36, plus 12 per item)"; Q T has "the layout of Q M".
 fn has_its_length(kind: Kind, message: &[u8]) -> bool {
     let items = |at: usize| match message.get(at..at + 2) {
         Some(counts) => usize::from(counts[0]) + usize::from(counts[1]),
@@ -65,7 +65,7 @@ fn has_its_length(kind: Kind, message: &[u8]) -> bool {
         Kind::Inquiry | Kind::Integrity | Kind::FinraClose | Kind::FinraOpen => 20,
         Kind::Test => 20 + 95,
         Kind::RoundLot => 60 + 12 * items(57),
-        Kind::OddLot => 36 + 12 * items(32),
+        Kind::OddLot | Kind::FinraOddLot => 36 + 12 * items(32),
         Kind::Maker => 60,
     };
     message.len() == length
@@ -75,7 +75,7 @@ fn has_its_length(kind: Kind, message: &[u8]) -> bool {
 fn has_its_fixed_bytes(kind: Kind, message: &[u8]) -> bool {
     let zeros: &[usize] = match kind {
         Kind::RoundLot => &[3, 59],
-        Kind::OddLot => &[3, 34, 35],
+        Kind::OddLot | Kind::FinraOddLot => &[3, 34, 35],
         _ => &[3],
     };
     let test_bytes: Vec<u8> = (0x20..=0x7E).collect();

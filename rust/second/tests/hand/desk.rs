@@ -168,6 +168,17 @@ pub fn odd_lot(line: u32, odd: &Odd) -> Vec<u8> {
     build::odd_lot(letter(line), 7, build::symbol("ZT"), odd)
 }
 
+/// Q T for ZT at time 7.
+pub fn finra_odd_lot(line: u32, odd: &Odd) -> Vec<u8> {
+    build::finra_odd_lot(letter(line), 7, build::symbol("ZT"), odd)
+}
+
+/// A message with some bytes replaced.
+pub fn with(mut message: Vec<u8>, at: usize, bytes: &[u8]) -> Vec<u8> {
+    message[at..at + bytes.len()].copy_from_slice(bytes);
+    message
+}
+
 /// A message of the header alone, on one of the desk's lines.
 pub fn control(message_type: u8, line: u32) -> Vec<u8> {
     build::header(b'C', message_type, letter(line), 7)

@@ -9,6 +9,7 @@ mod desk;
 mod accident;
 mod cases;
 mod entries;
+mod finra_odd_lots;
 mod line;
 mod messages;
 mod operator;

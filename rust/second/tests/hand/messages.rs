@@ -4,12 +4,6 @@ use crate::desk::*;
 use crate::BOOKS;
 use second::build::{self, Odd};
 
-/// A message with some bytes replaced.
-fn with(mut message: Vec<u8>, at: usize, bytes: &[u8]) -> Vec<u8> {
-    message[at..at + bytes.len()].copy_from_slice(bytes);
-    message
-}
-
 fn two_sided() -> Vec<u8> {
     quote(&round(N, (TEN, 3), (TEN + CENT, 2)))
 }
@@ -49,11 +43,11 @@ fn faults_of_a_round_lot_in_their_order() {
 fn types_are_bytes() {
     each_desk(|desk| {
         for pair in [
-            b"QT", b"qk", b"Qk", b"KQ", b"C?", b"c5", b"C\x05", b"TS", b"\0\0",
+            b"Qt", b"qk", b"Qk", b"KQ", b"C?", b"c5", b"C\x05", b"TS", b"\0\0",
         ] {
             assert_eq!(desk.code(N, with(two_sided(), 0, pair)), 40);
         }
-        assert_eq!(desk.code(N, with(two_sided(), 0, b"QTD")), 40);
+        assert_eq!(desk.code(N, with(two_sided(), 0, b"QtD")), 40);
     });
 }
 

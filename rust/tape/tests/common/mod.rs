@@ -125,3 +125,8 @@ pub fn odd(clear: u8, bids: &[Shown], offers: &[Shown]) -> Odd {
 pub fn odd_lot(letter: u8, odd: &Odd) -> Vec<u8> {
     build::odd_lot(letter, 7, build::symbol("ZT"), odd)
 }
+
+/// Q T for ZT at time 7.
+pub fn finra_odd_lot(letter: u8, odd: &Odd) -> Vec<u8> {
+    build::finra_odd_lot(letter, 7, build::symbol("ZT"), odd)
+}
