@@ -53,7 +53,7 @@ module _ (e : Known) (letter : ℕ) (m : List ℕ) (c : ℕ) (t : Takes c) where
       go true true u b y = absurd (refuses 47 (lit≤ tt) (lit< tt) y)
       go false s u b y = absurd (refuses 46 (lit≤ tt) (lit< tt) y)
 
-  -- what is known of a message that is taken, by what it says: of a Q K, wholly or in part, and of a Q M
+  -- what is known of a message that is taken, by what it says: of a Q K, wholly or in part, and of a Q M or Q T
   pub record OddTaken (o : OddPart) : Type 0 where
     pub known : e .listed ≡ true
     pub odd : oddCode (e .lot) (e .levels letter) (oddOf m o) ≡ c

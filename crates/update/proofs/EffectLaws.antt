@@ -135,7 +135,7 @@ module _ (p : List ℕ) (w : length p ≡ pageLength) (l : ℕ) (u : upper l ≡
         let y : p″ ≡ cond (eqb (oddCodeOn l o p) 0) (putOdd l o x) x = g ∙ ap (oddTaken l o) e ∙ rw code-same in
         f ∙ (λ i. flagged (k i) (y i) (refreshed (y i))) ∙ once (oddCodeOn l o p) (eqb (oddCodeOn l o p) 0)
 
-  -- Q M: refused or taken
+  -- Q M, Q T: refused or taken
   module _ (code : ℕ) (p′ : List ℕ) (c : code ≡ oddCodeOn l o p) (g : p′ ≡ oddTaken l o p) where
     pub odd-refused : (code ≡ 0 → ⊥) → _≡_ {A = Updated} (record { effect = record { code = code; flags = 0 }; page = p′ }) (oddLotOn l o p)
     unfolding oddLotOn

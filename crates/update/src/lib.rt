@@ -124,7 +124,7 @@ pub fn round_lot(
     renewed(page, code)
 }
 
-/// A Q M on the page of its symbol. A refused odd part does nothing.
+/// A Q M or Q T on the page of its symbol. A refused odd part does nothing.
 pub fn odd_lot(page: &mut [u8], letter: u8, odd: OddPart, items: &[u8]) -> Effect
     requires { ⌜ (length (now page) ≡ pageLength) × (upper letter ≡ true) ⌝ }
     requires { ⌜ length (now items) ≡ itemsLength odd ⌝ }
