@@ -81,6 +81,17 @@ fn an_odd_lot_quote_byte_by_byte() {
     assert_eq!((odd.len(), &odd[..3]), (36 + 2 * 12, &b"QMN"[..]));
     assert_eq!(&odd[20..36], b"ZT         X\x01\x01\x00\x00");
     assert_eq!((odd[43], odd[47], odd[55], odd[59]), (1, 2, 3, 4));
+    // FINRA's have the type T and the same layout.
+    let of_finra = Header {
+        letter: b'D',
+        ..HEADER
+    };
+    let finra = OddLotQuote::new(of_finra, zt())
+        .clear(Clear::Both)
+        .offer(Price(3), 4)
+        .bid(Price(1), 2)
+        .to_bytes();
+    assert_eq!((&finra[..3], &finra[3..]), (&b"QTD"[..], &odd[3..]));
 }
 
 #[test]
@@ -156,7 +167,11 @@ fn random_messages() {
             offers: offers.to_vec(),
         };
         assert_eq!(quote.to_bytes(), build::round_lot(&round, &part));
-        assert_eq!(odd.to_bytes(), build::odd_lot(letter, time, symbol, &part));
+        let odd_lot = match letter {
+            b'D' => build::finra_odd_lot,
+            _ => build::odd_lot,
+        };
+        assert_eq!(odd.to_bytes(), odd_lot(letter, time, symbol, &part));
 
         let condition = random.pick(MakerCondition::ALL);
         round.condition = condition.into();
@@ -225,8 +240,10 @@ fn a_book_accepts_every_type() {
         assert_eq!(code(7, quote.bid(TEN, 3).to_bytes()), Code::Accepted);
     }
     for &clear in Clear::ALL {
-        let odd = OddLotQuote::new(n, zt()).clear(clear).bid(TEN, 99);
-        assert_eq!(code(5, odd.to_bytes()), Code::Accepted);
+        for (line, header) in [(5, n), (7, d)] {
+            let odd = OddLotQuote::new(header, zt()).clear(clear).bid(TEN, 99);
+            assert_eq!(code(line, odd.to_bytes()), Code::Accepted);
+        }
         let quote = RoundLotQuote::new(n, zt()).clear(clear).odd_offer(TEN, 0);
         assert_eq!(code(5, quote.to_bytes()), Code::Accepted);
     }

@@ -1,4 +1,4 @@
-//! Odd lots: behind a round lot quote (Q K), or in a message of their own (Q M).
+//! Odd lots: behind a round lot quote (Q K), or in a message of their own (Q M, FINRA's Q T).
 
 use super::{Clear, Header, Shown, Symbol};
 use crate::price::Price;
@@ -42,9 +42,9 @@ fn count(items: &[Shown]) -> u8 {
     u8::try_from(items.len()).unwrap_or(u8::MAX)
 }
 
-/// Q M: a letter's odd lots.
+/// A letter's odd lots: Q M, or Q T under the letter D, which is FINRA.
 ///
-/// D's line does not take it (44). If one odd lot is refused, none is taken and nothing removed.
+/// If one odd lot is refused, none is taken and nothing removed.
 #[derive(Clone, PartialEq, Eq, Debug)]
 pub struct OddLotQuote {
     header: Header,
@@ -85,7 +85,8 @@ impl OddLotQuote {
 
     /// The message: 36 bytes, and 12 for each odd lot.
     pub fn to_bytes(&self) -> Vec<u8> {
-        let mut message = self.header.of_type(*b"QM");
+        let is_finra = self.header.letter == b'D';
+        let mut message = self.header.of_type(if is_finra { *b"QT" } else { *b"QM" });
         message.extend(self.symbol.as_ref());
         self.odd.write(&mut message, &[0, 0]);
         message
