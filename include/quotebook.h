@@ -45,7 +45,7 @@ enum {
     QB_LINE_OR_LETTER = 7,      /* open: the line is above 63, or the letter is not A to Z without S */
     QB_LINE_OPEN = 8,           /* open: the line is already open */
     QB_BUFFER_SHORT = 9,        /* block: the answer buffer is under 180 bytes; read: the publication buffer under 96 */
-    QB_SYMBOL_UNKNOWN = 10,     /* read: the symbol is malformed or not listed */
+    QB_SYMBOL_UNKNOWN = 10,     /* read, is protected: the symbol is malformed or not listed */
     QB_DAY_OPEN = 11,           /* start: the day is already open */
     QB_DAY_NOT_OPEN = 12,       /* end: the day is not open */
     QB_BLOCK_WHILE_CLOSED = 20, /* block: the day is not open */
@@ -59,7 +59,8 @@ enum {
     QB_GAP = 70,                /* block: a warning; it was taken, and sequence numbers before it are missing */
     QB_WRITE_MESSAGES = 71,     /* write: no messages, over 45, one under 20 bytes, lengths that do not add up, or a block over 1,000 */
     QB_WRITE_CONTROL = 72,      /* write: a control message among others */
-    QB_WRITE_SHORT = 73         /* write: the output is shorter than the block */
+    QB_WRITE_SHORT = 73,        /* write: the output is shorter than the block */
+    QB_SIDE = 74                /* is protected: the side mark is not B or S */
 };
 
 /* Codes of messages, in the answer buffer. A Q K with 60 to 64 is partly accepted: its quote is in force, its odd lots did nothing. */
@@ -104,6 +105,14 @@ enum {
     QB_REPORT_LEN = 7
 };
 
+/* Places in the report of a query. */
+enum {
+    QB_PROTECTED_NUMBER = 0,
+    QB_PROTECTED_YES = 1,    /* 1 for yes, 0 for no */
+    QB_PROTECTED_LOOKED = 2, /* letters looked at: the place of the first that answers yes, A being 1, or 26 for no */
+    QB_PROTECTED_LEN = 3
+};
+
 /* Bytes of a book for n symbols; 0 if n is not 1 to 64. */
 uint64_t qb_book_len(uint32_t n);
 
@@ -140,6 +149,13 @@ uint8_t qb_read(const uint8_t *book, size_t len, const uint8_t *symbol, size_t s
  * report: number, bytes written (0 after a refusal); always filled. */
 uint8_t qb_write_block(const uint8_t *messages, size_t messages_len, const uint32_t *lengths, size_t count,
                        uint32_t sequence, uint8_t *block, size_t block_len, uint64_t report[2]);
+
+/* Does a national candidate bid price or more (side B), or offer price or less (side S)? Answers 0, 1, 10, 74.
+ * A candidate is an exchange's quote that counts, or for D the FINRA best; the price has six implied decimals, and 0 is a price.
+ * report: number, 1 for yes or 0 for no, letters looked at (A is 1; 26 for no); always filled, 0 behind the number after a refusal.
+ * The book isn't changed; no day need be open. */
+uint8_t qb_is_protected(const uint8_t *book, size_t len, const uint8_t *symbol, size_t symbol_len,
+                        uint8_t side, uint64_t price, uint64_t report[3]);
 
 #ifdef __cplusplus
 }

@@ -1,3 +1,4 @@
 pub mod NumberLaws
+pub mod ProtectedLaws
 pub mod SoundLaws
 pub mod TakenLaws

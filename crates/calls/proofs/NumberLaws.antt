@@ -19,7 +19,7 @@ use Rattle.update.proofs.TableLaws.{length-range}
 use Rattle.update.proofs.CellLaws.{member-below}
 use Rattle.opening.specs.Opening.{symbolsOf, countOf, sound, Rest, restIn, pageAt, pagesIn}
 use Rattle.line.specs.Line.{done}
-use Rattle.calls.specs.Call.{Call, make, add, openLine, startDay, endDay, take, read, lots, numberOf, makeGood, isMake, numberOn}
+use Rattle.calls.specs.Call.{Call, make, add, openLine, startDay, endDay, take, read, protected, lots, sideMarks, numberOf, makeGood, isMake, numberOn}
 use Rattle.block.specs.Block.{answerLength}
 use Rattle.work.specs.Work.{Listed, isListed, listing, listedOf}
 use Rattle.opening.proofs.OpeningLaws.{Sound, sound-is}
@@ -69,6 +69,7 @@ module _ (n : ℕ) (b : List ℕ) (sd : Sound n b) where
   number-same endDay = rw (sound-is n b sd)
   number-same (take i x k) = rw (sound-is n b sd)
   number-same (read x k) = rw (sound-is n b sd)
+  number-same (protected x m v) = rw (sound-is n b sd)
 
   rest-n : restIn b .n ≡ n
   unfolding restIn
@@ -143,6 +144,16 @@ module _ (r : Rest) (ls : List Listed) where
       go false true true e = (refl, refl)
       go false true false e = clash (sym e)
       go false false c e = clash (sym e)
+
+  pub protected-done : (s : List ℕ) (m x : ℕ) → done (numberOf r ls (protected s m x)) ≡ true → (symbolGood s ≡ true) × (isListed (be s) ls ≡ true) × (member sideMarks m ≡ true)
+  unfolding done numberOf
+  protected-done s m x = go (symbolGood s) (isListed (be s) ls) (member sideMarks m)
+    where
+      go : (a b c : Bool) → done (cond (a && b) (cond c 0 74) 10) ≡ true → (a ≡ true) × (b ≡ true) × (c ≡ true)
+      go true true true e = (refl, refl, refl)
+      go true true false e = clash (sym e)
+      go true false c e = clash (sym e)
+      go false b c e = clash (sym e)
 
 -- ---- what they say of the arguments' bytes
 

@@ -1,4 +1,4 @@
--- The seven calls: `call` gives the bytes after a call and its whole answer.
+-- The calls: `call` gives the bytes after a call and its whole answer.
 -- Assumes nothing.
 use Prim.Native.Nat.{ℕ, _+_}
 use mathlib.Core.Bool.{Bool, true, false, _&&_, cond}
@@ -7,10 +7,17 @@ use mathlib.Core.Option.{Option, none, some}
 use lib.Dec.{ltb, leb, eqb}
 use lib.ListN.{length}
 use Rattle.field.specs.Field.{be, splice, beBytes}
+use Rattle.field.specs.Ascii.{B, S}
 use Rattle.lists.specs.Lists.{member, isSome}
 use Rattle.block.specs.Block.{messagesOf, answerLength}
 use Rattle.block.specs.declared.Checked.the-variants as checks
 use Rattle.text.specs.Form.{symbolGood, letterGood}
+use Rattle.ranking.specs.declared.Side.{Side}
+use Rattle.ranking.specs.declared.Side.the-variants.{Bid, Offer}
+use Rattle.ranking.specs.declared.Candidate.{Candidate}
+use Rattle.page.specs.Page.{occupied}
+use Rattle.protection.specs.Protection.{candidates, protection}
+use Rattle.protection.specs.declared.Protection.{Protection}
 use Rattle.update.specs.Parts.{Reading, blankPage, emptied}
 use Rattle.opening.specs.declared.Line.{Line}
 use Rattle.opening.specs.Opening.{Rest, symbolsOf, countOf, sound, lineBytes, linesIn, restIn, pagesIn, setPage, eachPage, freshBytes, restartLines}
@@ -34,11 +41,21 @@ pub data Call : Type 0 where
   take : ℕ → List ℕ → ℕ → Call
   -- the symbol's bytes, the publication buffer's length
   read : List ℕ → ℕ → Call
+  -- T-06: the symbol's bytes, the side mark, the price
+  protected : List ℕ → ℕ → ℕ → Call
 
 -- ---- the number of a call, in checking order, from n, lines, day and the listed symbols
 
 abbrev pub lots : List ℕ
 lots = 1 ∷ 10 ∷ 25 ∷ 50 ∷ 100 ∷ []
+
+-- 10: "symbol malformed or not listed"
+abbrev pub isKnown : List Listed → List ℕ → Bool
+isKnown ls s = symbolGood s && isListed (be s) ls
+
+-- 74: "side mark not B (bids) or S (offers)"
+abbrev pub sideMarks : List ℕ
+sideMarks = B ∷ S ∷ []
 
 unfoldable pub numberOf : Rest → List Listed → Call → ℕ
 numberOf r ls (make n) = cond (eqb n (r .n)) 0 2
@@ -52,11 +69,12 @@ numberOf r ls (openLine i l) = cond (ltb i lineCount && letterGood l) (cond (isS
 numberOf r ls startDay = cond (r .day) 11 0
 numberOf r ls endDay = cond (r .day) 0 12
 numberOf r ls (take i b room) = cond (ltb room answerLength) 9 (onLine (r .day) b (r .lines i))
-numberOf r ls (read s room) = cond (ltb room publicationLength) 9 (cond (symbolGood s && isListed (be s) ls) 0 10)
+numberOf r ls (read s room) = cond (ltb room publicationLength) 9 (cond (isKnown ls s) 0 10)
+numberOf r ls (protected s m x) = cond (isKnown ls s) (cond (member sideMarks m) 0 74) 10
 
 -- ---- answers
 
--- the report of a block, and the bytes that are filled: the answer buffer's and the publication's
+-- the report of a block; the bytes that are filled: the answer buffer's and the publication's; the two numbers of a query's report
 pub record Answer : Type 0 where
   pub number : ℕ
   pub gap : ℕ
@@ -67,10 +85,13 @@ pub record Answer : Type 0 where
   pub rejected : ℕ
   pub answers : List ℕ
   pub publication : List ℕ
+  -- T-06: 1 for yes or 0 for no, and how many letters were looked at
+  pub found : ℕ
+  pub amount : ℕ
 
 -- "carries its number, and no or 0 for all else"
 abbrev pub bare : ℕ → Answer
-bare k = record { number = k; gap = 0; expected = 0; count = 0; accepted = 0; partly = 0; rejected = 0; answers = []; publication = [] }
+bare k = record { number = k; gap = 0; expected = 0; count = 0; accepted = 0; partly = 0; rejected = 0; answers = []; publication = []; found = 0; amount = 0 }
 
 abbrev pub report : ℕ → ℕ → Line → List Told → Answer
 report k gap r ts =
@@ -84,6 +105,8 @@ report k gap r ts =
       rejected = tally isRejected ts;
       answers = quads 0 ts;
       publication = [];
+      found = 0;
+      amount = 0;
     }
 
 -- ---- a block's answer
@@ -96,21 +119,36 @@ lineAnswer k b ts (some r) = cond (done k) (report k (gapTold r b) (advanced r b
 
 abbrev pub published : ℕ → List ℕ → Answer
 published k p =
-    record { number = k; gap = 0; expected = 0; count = 0; accepted = 0; partly = 0; rejected = 0; answers = []; publication = cond (done k) p [] }
+    record { number = k; gap = 0; expected = 0; count = 0; accepted = 0; partly = 0; rejected = 0; answers = []; publication = cond (done k) p []; found = 0; amount = 0 }
+
+-- ---- a query's answer
+
+abbrev pub queried : ℕ → ℕ → ℕ → Answer
+queried k found amount =
+    record { number = k; gap = 0; expected = 0; count = 0; accepted = 0; partly = 0; rejected = 0; answers = []; publication = []; found = found; amount = amount }
+
+-- B asks of the bids, S of the offers
+abbrev pub askedSide : ℕ → Side
+askedSide m = cond (eqb m B) Bid Offer
+
+abbrev pub protectionTold : ℕ → Protection → Answer
+protectionTold k t = queried k (cond (t .yes) 1 0) (t .looked)
 
 abbrev pub letterOf : Option Line → ℕ
 letterOf none = 0
 letterOf (some x) = x .letter
 
--- ts: what is told of a block's messages, from the line's letter; p: the entries of a symbol. Book and reviewer both answer through this
-unfoldable pub answerOf : Rest → (ℕ → List (List ℕ) → List Told) → (ℕ → List ℕ) → ℕ → Call → Answer
-answerOf r ts p k (make n) = bare k
-answerOf r ts p k (add s l) = bare k
-answerOf r ts p k (openLine i l) = bare k
-answerOf r ts p k startDay = bare k
-answerOf r ts p k endDay = bare k
-answerOf r ts p k (take i b room) = cond (eqb k 9) (bare k) (lineAnswer k b (ts (letterOf (r .lines i)) (messagesOf b)) (r .lines i))
-answerOf r ts p k (read s room) = published k (p (be s))
+-- ts: what is told of a block's messages, from the line's letter; p: the entries of a symbol; cs: its national candidates of a side, by letter.
+-- Book and reviewer both answer through this
+unfoldable pub answerOf : Rest → (ℕ → List (List ℕ) → List Told) → (ℕ → List ℕ) → (ℕ → Side → ℕ → Option Candidate) → ℕ → Call → Answer
+answerOf r ts p cs k (make n) = bare k
+answerOf r ts p cs k (add s l) = bare k
+answerOf r ts p cs k (openLine i l) = bare k
+answerOf r ts p cs k startDay = bare k
+answerOf r ts p cs k endDay = bare k
+answerOf r ts p cs k (take i b room) = cond (eqb k 9) (bare k) (lineAnswer k b (ts (letterOf (r .lines i)) (messagesOf b)) (r .lines i))
+answerOf r ts p cs k (read s room) = published k (p (be s))
+answerOf r ts p cs k (protected s m x) = cond (done k) (protectionTold k (protection (askedSide m) x (cs (be s) (askedSide m)))) (bare k)
 
 -- ---- the book's bytes
 
@@ -120,6 +158,14 @@ entriesIn (some r) = r .entries
 
 abbrev pub publishedOn : List ℕ → ℕ → List ℕ
 publishedOn b s = entriesIn (findReading s (pagesIn b))
+
+-- worked out from the page's quotes, whatever entries it keeps
+abbrev pub candidatesIn : Option Reading → Side → ℕ → Option Candidate
+candidatesIn none = λ s l. none
+candidatesIn (some r) = candidates (r .quotes) (occupied (r .cells))
+
+abbrev pub candidatesOn : List ℕ → ℕ → Side → ℕ → Option Candidate
+candidatesOn b s = candidatesIn (findReading s (pagesIn b))
 
 -- the line's record after a block
 abbrev pub advanceOn : ℕ → List ℕ → Option Line → List ℕ → List ℕ
@@ -135,6 +181,7 @@ afterCall b startDay = splice (restartLines 0 lineCount (eachPage emptied 0 (sym
 afterCall b endDay = splice b dayAt (0 ∷ [])
 afterCall b (take i k room) = advanceOn i k (linesIn b i) (messagesOn (letterOf (linesIn b i)) (messagesOf k) b)
 afterCall b (read s room) = b
+afterCall b (protected s m x) = b
 
 -- 2: "n not 1 to 64 or wrong length"
 unfoldable pub makeGood : List ℕ → ℕ → Bool
@@ -149,6 +196,7 @@ isMake startDay = false
 isMake endDay = false
 isMake (take i k room) = false
 isMake (read s room) = false
+isMake (protected s m x) = false
 
 abbrev pub madeNumber : List ℕ → Call → ℕ
 madeNumber b (make n) = cond (makeGood b n) 0 2
@@ -158,12 +206,13 @@ madeNumber b startDay = 0
 madeNumber b endDay = 0
 madeNumber b (take i k room) = 0
 madeNumber b (read s room) = 0
+madeNumber b (protected s m x) = 0
 
 unfoldable pub numberOn : List ℕ → Call → ℕ
 numberOn b c = cond (isMake c) (madeNumber b c) (cond (sound b) (numberOf (restIn b) (listedOf (pagesIn b)) c) 1)
 
 abbrev pub answerOn : List ℕ → Call → Answer
-answerOn b c = cond (isMake c) (bare (numberOn b c)) (cond (sound b) (answerOf (restIn b) (toldOn b) (publishedOn b) (numberOn b c) c) (bare 1))
+answerOn b c = cond (isMake c) (bare (numberOn b c)) (cond (sound b) (answerOf (restIn b) (toldOn b) (publishedOn b) (candidatesOn b) (numberOn b c) c) (bare 1))
 
 pub record Outcome : Type 0 where
   pub bytes : List ℕ

@@ -1,4 +1,4 @@
-// The rules of every call stand in specs/Call.antt; here is what the block call reports.
+// The rules of every call stand in specs/Call.antt; here is what the block call and T-06's query report.
 
 /// What the block call reports. The number is 0 or 70 for a taken block, else the refusal.
 pub struct Report {
@@ -9,4 +9,11 @@ pub struct Report {
     pub accepted: u8,
     pub partly: u8,
     pub rejected: u8,
+}
+
+/// What `is_protected` reports: with number 0 whether the price is protected, and how many letters were looked at; after a refusal no and 0.
+pub struct Protected {
+    pub number: u8,
+    pub yes: bool,
+    pub looked: u8,
 }

@@ -13,7 +13,7 @@ use lib.Seq.{drop-cons}
 use Rattle.lists.specs.Lists.{all, firstFrom, every, sum}
 use Rattle.lists.specs.declared.Found.{Found}
 use Rattle.lists.specs.declared.Found.the-variants.{At, Nothing}
-use Rattle.lists.proofs.Tests.{and-true}
+use Rattle.lists.proofs.Tests.{clash, and-true, Cut, equal, apart, cut}
 
 -- what is left of a count at k below n is one more than at k + 1
 pub less-one : (n k : ℕ) → k < n → n - k ≡ suc (n - (k + 1))
@@ -96,6 +96,28 @@ first-hit p i (suc k) j e =
     (λ w. let h : Hit p (i + 1) k j = first-hit p (i + 1) k j (w .1) in
     record { low = omega arith; high = omega arith; holds = h .holds })
     (cond-at (p i) i j (firstFrom p (i + 1) k) e)
+
+-- none before what a search finds passes
+pub first-before : (p : ℕ → Bool) (n i k : ℕ) → firstFrom p i n ≡ At k → (j : ℕ) → i ≤ j → j < k → p j ≡ false
+unfolding firstFrom
+first-before p zero i k e j lo hi = clash (cc)
+first-before p (suc n) i k e j lo hi = go (p i) refl (cut i j) e (λ d l. first-before p n (i + 1) k d j l hi)
+  where
+    go : (t : Bool) → p i ≡ t → Cut i j → cond t (At i) (firstFrom p (i + 1) n) ≡ At k → (firstFrom p (i + 1) n ≡ At k → i + 1 ≤ j → p j ≡ false) → p j ≡ false
+    go true x c e down = let z : i ≡ k = cc in absurd (omega arith)
+    go false x (equal t q) e down = rw (sym q) x
+    go false x (apart t q) e down = down e (omega (arith, q))
+
+-- where none is found, none passes
+pub first-none : (p : ℕ → Bool) (n i : ℕ) → firstFrom p i n ≡ Nothing → (j : ℕ) → i ≤ j → j < i + n → p j ≡ false
+unfolding firstFrom
+first-none p zero i e j lo hi = absurd (omega arith)
+first-none p (suc n) i e j lo hi = go (p i) refl (cut i j) e (λ d l. first-none p n (i + 1) d j l (omega arith))
+  where
+    go : (t : Bool) → p i ≡ t → Cut i j → cond t (At i) (firstFrom p (i + 1) n) ≡ Nothing → (firstFrom p (i + 1) n ≡ Nothing → i + 1 ≤ j → p j ≡ false) → p j ≡ false
+    go true x c e down = clash (cc)
+    go false x (equal t q) e down = rw (sym q) x
+    go false x (apart t q) e down = down e (omega (arith, q))
 
 -- ---- every element, as a loop looks at them
 

@@ -1,13 +1,18 @@
 // The calls that read a book.
 ghost use mathlib.Core.Path.{_≡_};
+ghost use mathlib.Core.Bool.{cond};
 ghost use Prim.Native.Nat.{_+_, _≤_};
 ghost use lib.ListN.{length};
 ghost use Rattle.field.specs.Field.{part, splice};
 ghost use Rattle.calls.specs.Buffers.{readOut};
+ghost use Rattle.calls.specs.Call.{call, protected, queried, askedSide};
 ghost use Rattle.entries.specs.Publication.{publicationLength};
+ghost use Rattle.query.specs.code.Asked.{markedOf, askedOf};
+use calls::Protected;
 use lists::Found;
 use opening::Book;
 use page::Page;
+use ranking::Side;
 
 /// Reads a symbol's publication into the first 96 bytes of the buffer.
 pub fn read(book: &[u8], symbol: &[u8], publication: &mut [u8]) -> u8
@@ -38,5 +43,72 @@ fn copy(book: &[u8], at: usize, publication: &mut [u8])
 {
     for i in 0..12 {
         field::put64(publication, 8 * i, field::get64(book, at + 8 * i));
+    }
+}
+
+/// What the checks of a query with a side mark give: which page its symbol has, or a refusal.
+pub enum Asked {
+    Page(usize),
+    Refused(u8),
+}
+
+// Check 74, for page k.
+fn marked(mark: u8, k: usize) -> Asked
+    ensures { λ r. ⌜ r ≡ markedOf mark k ⌝ }
+{
+    match mark {
+        b'B' | b'S' => Asked::Page(k),
+        _ => Asked::Refused(74),
+    }
+}
+
+/// Checks 1, 10 and 74 of a query.
+pub fn judge(book: &[u8], symbol: &[u8], mark: u8) -> Asked
+    ensures { λ r. ⌜ r ≡ askedOf (now (book .entry)) (now (symbol .entry)) mark ⌝ }
+{
+    if opening::is_sound(book) {
+        if text::is_symbol(symbol) {
+            let place = opening::find(book, symbol);
+            let Found::At(k) = place else {
+                return Asked::Refused(10);
+            };
+            return marked(mark, k);
+        }
+        return Asked::Refused(10);
+    }
+    Asked::Refused(1)
+}
+
+// B asks of the bids, S of the offers.
+fn asked_side(mark: u8) -> Side
+    ensures { λ r. ⌜ r ≡ askedSide mark ⌝ }
+{
+    if mark == b'B' {
+        return Side::Bid;
+    }
+    Side::Offer
+}
+
+/// Whether a national candidate of the symbol bids the price or more (mark B), or offers it or less (mark S), by the quotes of its page.
+pub fn is_protected(book: &[u8], symbol: &[u8], mark: u8, price: u64) -> Protected
+    ensures { λ r. ⌜ record { bytes = now (book .entry); answer = queried (r .number) (cond (r .yes) 1 0) (r .looked) } ≡ call (now (book .entry)) (protected (now (symbol .entry)) mark price) ⌝ }
+{
+    let asked = judge(book, symbol, mark);
+    match asked {
+        Asked::Refused(number) => Protected {
+            number,
+            yes: false,
+            looked: 0,
+        },
+        Asked::Page(k) => {
+            let a = Book::OPENING_LEN + k * Book::PAGE_LEN;
+            let e = a + Book::PAGE_LEN;
+            let found = protection::search(&book[a..e], asked_side(mark), price);
+            Protected {
+                number: 0,
+                yes: found.yes,
+                looked: found.looked,
+            }
+        }
     }
 }

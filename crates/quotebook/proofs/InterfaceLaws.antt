@@ -2,11 +2,13 @@
 -- Assumes nothing.
 use Prim.Native.Nat.{ℕ, _≤_, _<_}
 use mathlib.Core.Path.{_≡_, ap}
-use mathlib.Core.List.{List}
+use mathlib.Core.Bool.{Bool, cond}
+use mathlib.Core.List.{List, [], _∷_}
 use borrow.Author.Tests.{le-leb, lt-leb}
 use Rattle.block.specs.Written.{Out, writtenOut}
 use Rattle.calls.specs.Buffers.{TakenBlock, taken}
-use Rattle.quotebook.specs.Interface.{bookLen, numbered, takenNumbers, outNumbers, writtenNumbers}
+use Rattle.calls.specs.Call.{Outcome, queried, call, protected}
+use Rattle.quotebook.specs.Interface.{bookLen, numbered, takenNumbers, queryNumbers, protectedNumbers, outNumbers, writtenNumbers}
 use Rattle.opening.specs.Layout.{bookLength, symbolsMost}
 
 module _ (n : ℕ) where
@@ -29,3 +31,8 @@ numbers-told b i k answer t h = ap numbered h
 pub numbers-written : (b ns : List ℕ) (s : ℕ) (out : List ℕ) (o : Out) → o ≡ writtenOut b ns s out → outNumbers o ≡ writtenNumbers b ns s out
 unfolding writtenNumbers
 numbers-written b ns s out o h = ap outNumbers h
+
+pub query-told : (b s : List ℕ) (m x n y l : ℕ) (t : Bool) → y ≡ cond t 1 0 → record { bytes = b; answer = queried n (cond t 1 0) l } ≡ call b (protected s m x)
+    → record { number = n; report = n ∷ y ∷ l ∷ [] } ≡ protectedNumbers b s m x
+unfolding protectedNumbers
+query-told b s m x n y l t e h = rw e (ap (λ (o : Outcome). queryNumbers (o .answer)) h)

@@ -7,6 +7,7 @@ use lib.Dec.{leb}
 use Rattle.block.specs.Written.{Out, writtenOut}
 use Rattle.calls.specs.declared.Report.{Report}
 use Rattle.calls.specs.Buffers.{TakenBlock, taken}
+use Rattle.calls.specs.Call.{Answer, call, protected}
 use Rattle.opening.specs.Layout.{bookLength, symbolsMost}
 
 -- 0 where n is not 1 to 64
@@ -41,3 +42,15 @@ outNumbers o = record { number = o .number; report = o .number ∷ o .length ∷
 -- the writer of blocks, its report as numbers: number, bytes written
 unfoldable pub writtenNumbers : List ℕ → List ℕ → ℕ → List ℕ → WrittenNumbers
 writtenNumbers messages lengths sequence block = outNumbers (writtenOut messages lengths sequence block)
+
+pub record QueryNumbers : Type 0 where
+  pub number : ℕ
+  pub report : List ℕ
+
+-- a query's report: its number, then what it tells
+abbrev pub queryNumbers : Answer → QueryNumbers
+queryNumbers a = record { number = a .number; report = a .number ∷ a .found ∷ a .amount ∷ [] }
+
+-- T-06
+unfoldable pub protectedNumbers : List ℕ → List ℕ → ℕ → ℕ → QueryNumbers
+protectedNumbers b s m x = queryNumbers (call b (protected s m x) .answer)

@@ -1,8 +1,9 @@
-// The C interface: the seven calls and the writer of blocks under the names of include/quotebook.h. A `&[u8]` is a pointer and a length there.
+// The C interface: the calls on a book and the writer of blocks under the names of include/quotebook.h. A `&[u8]` is a pointer and a length there.
 ghost use mathlib.Core.Path.{_≡_};
+ghost use mathlib.Core.Bool.{cond};
 ghost use Rattle.calls.specs.Call.{bare, call, make, add, openLine, startDay, endDay};
 ghost use Rattle.calls.specs.Buffers.{readOut};
-ghost use Rattle.quotebook.specs.Interface.{bookLen, takenNumbers, writtenNumbers};
+ghost use Rattle.quotebook.specs.Interface.{bookLen, takenNumbers, protectedNumbers, writtenNumbers};
 use opening::Book;
 
 const OPENING: u64 = Book::OPENING_LEN as u64;
@@ -102,5 +103,30 @@ pub extern "C" fn qb_write_block(
 {
     let told = writer::write_block(messages, lengths, sequence, block);
     *report = [told.number as u64, told.len as u64];
+    told.number
+}
+
+fn one_for(yes: bool) -> u64
+    ensures { λ r. ⌜ r ≡ cond yes 1 0 ⌝ }
+{
+    if yes {
+        return 1;
+    }
+    0
+}
+
+/// The report's three numbers: number, 1 for yes or 0 for no, letters looked at. The result is the number too.
+#[no_mangle]
+pub extern "C" fn qb_is_protected(
+    book: &[u8],
+    symbol: &[u8],
+    side: u8,
+    price: u64,
+    report: &mut [u64; 3],
+) -> u8
+    ensures { λ r. ⌜ record { number = r; report = now (report .exit) } ≡ protectedNumbers (now (book .entry)) (now (symbol .entry)) side price ⌝ }
+{
+    let told = query::is_protected(book, symbol, side, price);
+    *report = [told.number as u64, one_for(told.yes), told.looked as u64];
     told.number
 }

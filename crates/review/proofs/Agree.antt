@@ -13,15 +13,16 @@ use Rattle.message.specs.Message.{Part}
 use Rattle.ranking.specs.declared.Side.{Side}
 use Rattle.ranking.specs.declared.Candidate.{Candidate}
 use Rattle.quote.specs.declared.Quote.{Quote}
-use Rattle.entries.specs.Entries.{entriesOf, entriesBy, finraBest, oddBest}
+use Rattle.entries.specs.Entries.{letterCandidate, entriesOf, entriesBy, finraBest, oddBest}
 use Rattle.entries.specs.Publication.{publication}
 use Rattle.page.specs.Page.{occupied}
+use Rattle.protection.specs.Protection.{candidates}
 use Rattle.makers.specs.Makers.{findMaker}
 use Rattle.update.specs.Parts.{Reading, knownBy, knownOf}
 use Rattle.work.specs.Work.{Listed, isListed, lotOf, findReading, listedOf}
 use Rattle.review.specs.Reviewer.{roundsOf, quoteOf, makerOf, makersOf, levelsOf, reviewedBy, knownTo}
 use Rattle.review.proofs.CellLaws.{Sole}
-use Rattle.review.proofs.TimeLaws.{held, held-national}
+use Rattle.review.proofs.TimeLaws.{held, held-letter, held-national}
 use Rattle.review.proofs.HistoryLaws.{same-count, same-finra}
 use Rattle.review.proofs.SilentLaws.{Silent, silent-maker, silent-makers, silent-levels}
 use Rattle.page.specs.Layout.{makerCount}
@@ -45,6 +46,15 @@ good-reviewed h r g =
     let b : finraBest (occupied (r .cells)) ≡ finraBest (makersOf h (r .symbol)) = same-finra h (r .symbol) (r .cells) (g .sole) (g .makers) in
     let by : (Side → Option Candidate) → List ℕ = λ n. publication (record { national = n; finra = finraBest (makersOf h (r .symbol)); odd = oddBest (levelsOf h (r .symbol)) n }) in
     g .entries ∙ (λ i. publication (entriesBy (q i) (b i) (v i))) ∙ ap by (held-national rounds (finraBest (makersOf h (r .symbol))))
+
+-- and its national candidates are those that the reviewer works out
+pub good-candidates : (h : List Part) (r : Reading) → Good h r → candidates (r .quotes) (occupied (r .cells)) ≡ candidates (quoteOf h (r .symbol)) (makersOf h (r .symbol))
+unfolding candidates quoteOf
+good-candidates h r g =
+    let rounds : ℕ → List Quote = roundsOf h (r .symbol) in
+    let q : r .quotes ≡ (λ l. held (rounds l)) = fun-ext (g .quotes) in
+    let b : finraBest (occupied (r .cells)) ≡ finraBest (makersOf h (r .symbol)) = same-finra h (r .symbol) (r .cells) (g .sole) (g .makers) in
+    (λ i s l. letterCandidate s (q i) (b i s) l) ∙ fun-ext (λ s. fun-ext (held-letter rounds s (finraBest (makersOf h (r .symbol)) s)))
 
 abbrev pub AllGood : List Part → List Reading → Type 0
 AllGood h [] = Unit {0}

@@ -8,19 +8,22 @@ use mathlib.Core.Option.{Option, none, some}
 use lib.Dec.{eqb}
 use Rattle.field.specs.Field.{Bytes, be}
 use Rattle.lists.proofs.Tests.{clash}
+use Rattle.ranking.specs.declared.Side.{Side}
+use Rattle.ranking.specs.declared.Candidate.{Candidate}
+use Rattle.protection.specs.Protection.{protection}
 use Rattle.block.specs.Block.{messagesOf}
 use Rattle.update.proofs.EntryLaws.{bytes-every}
 use Rattle.opening.specs.declared.Line.{Line}
 use Rattle.opening.specs.Opening.{linesIn, restIn, pagesIn}
 use Rattle.line.specs.Line.{done}
-use Rattle.calls.specs.Call.{Call, make, add, openLine, startDay, endDay, take, read, numberOf, bare, lineAnswer, published, letterOf, answerOf, entriesIn, publishedOn, numberOn, answerOn, call}
+use Rattle.calls.specs.Call.{Call, make, add, openLine, startDay, endDay, take, read, protected, numberOf, Answer, bare, lineAnswer, published, askedSide, protectionTold, letterOf, answerOf, entriesIn, publishedOn, candidatesIn, candidatesOn, numberOn, answerOn, call}
 use Rattle.work.specs.Work.{Listed, isListed, findReading, listedOf, toldOn}
 use Rattle.opening.proofs.OpeningLaws.{Sound, sound-is}
 use Rattle.opening.proofs.LineLaws.{line-upper, line-open}
-use Rattle.calls.proofs.NumberLaws.{number-same, read-done}
-use Rattle.review.specs.Reviewer.{parts, reviewed, toldR, Review, reviewAnswer}
+use Rattle.calls.proofs.NumberLaws.{number-same, read-done, protected-done}
+use Rattle.review.specs.Reviewer.{parts, reviewed, candidatesR, toldR, Review, reviewAnswer}
 use Rattle.review.specs.Lists.{blockIsBytes}
-use Rattle.review.proofs.Agree.{good-reviewed, Core, ReadingOf, missing, found, reading-of}
+use Rattle.review.proofs.Agree.{good-reviewed, good-candidates, Core, ReadingOf, missing, found, reading-of}
 use Rattle.review.proofs.WorkLaws.{told-same}
 use Rattle.review.proofs.BytesLaws.{messages-bytes, told-done}
 use Rattle.review.proofs.CallLaws.{Agrees, viewOf, view-is}
@@ -37,13 +40,22 @@ module _ (n : ℕ) (b : List ℕ) (h : List (List ℕ)) (sd : Sound n b) (y : By
       go (missing u v) = clash (sym e ∙ v)
       go (found r u v w g) = rw (u, sym w) (good-reviewed (parts h) r g)
 
+  -- and has the candidates that the history gives
+  candidates-same : (s : ℕ) → isListed s ls ≡ true → candidatesOn b s ≡ candidatesR h s
+  candidates-same s e = go (reading-of s (parts h) (pagesIn b) (c .good))
+    where
+      go : ReadingOf s (parts h) (pagesIn b) → candidatesIn (findReading s (pagesIn b)) ≡ candidatesR h s
+      go (missing u v) = clash (sym e ∙ v)
+      go (found r u v w g) = rw (u, sym w) (good-candidates (parts h) r g)
+
   pub told-line : (i : ℕ) (r : Line) (x : List ℕ) → linesIn b i ≡ some r → Bytes x → toldOn b (r .letter) (messagesOf x) ≡ toldR ls h (r .letter) (messagesOf x)
   told-line i r x e z =
       told-done n (r .letter) (line-upper r (line-open b i r e .1)) (messagesOf x) b (messages-bytes x z) sd y
       ∙ told-same (r .letter) ls (messagesOf x) h (pagesIn b) refl c
 
   answer-same : (k : Call) → blockIsBytes k ≡ true
-      → answerOf (restIn b) (toldOn b) (publishedOn b) (numberOf (restIn b) ls k) k ≡ answerOf (restIn b) (toldR ls h) (reviewed h) (numberOf (restIn b) ls k) k
+      → answerOf (restIn b) (toldOn b) (publishedOn b) (candidatesOn b) (numberOf (restIn b) ls k) k
+      ≡ answerOf (restIn b) (toldR ls h) (reviewed h) (candidatesR h) (numberOf (restIn b) ls k) k
   unfolding answerOf restIn
   answer-same (make k) z = refl
   answer-same (add x l) z = refl
@@ -63,8 +75,18 @@ module _ (n : ℕ) (b : List ℕ) (h : List (List ℕ)) (sd : Sound n b) (y : By
           → published (numberOf (restIn b) ls (read x k)) (publishedOn b (be x)) ≡ published (numberOf (restIn b) ls (read x k)) (reviewed h (be x))
       go true e = rw (read-same (be x) (read-done (restIn b) ls x k e .1))
       go false e = rw e
+  answer-same (protected x m v) z = go (done (numberOf (restIn b) ls (protected x m v))) refl
+    where
+      told : (Side → ℕ → Option Candidate) → Answer
+      told cs = protectionTold (numberOf (restIn b) ls (protected x m v)) (protection (askedSide m) v (cs (askedSide m)))
 
-  answer-sound : (k : Call) → answerOn b k ≡ answerOf (restIn b) (toldOn b) (publishedOn b) (numberOn b k) k
+      go : (t : Bool) → done (numberOf (restIn b) ls (protected x m v)) ≡ t
+          → cond t (told (candidatesOn b (be x))) (bare (numberOf (restIn b) ls (protected x m v)))
+          ≡ cond t (told (candidatesR h (be x))) (bare (numberOf (restIn b) ls (protected x m v)))
+      go true e = ap told (candidates-same (be x) (protected-done (restIn b) ls x m v e .1))
+      go false e = refl
+
+  answer-sound : (k : Call) → answerOn b k ≡ answerOf (restIn b) (toldOn b) (publishedOn b) (candidatesOn b) (numberOn b k) k
   unfolding answerOf
   answer-sound (make k) = refl
   answer-sound (add x l) = rw (sound-is n b sd)
@@ -73,10 +95,11 @@ module _ (n : ℕ) (b : List ℕ) (h : List (List ℕ)) (sd : Sound n b) (y : By
   answer-sound endDay = rw (sound-is n b sd)
   answer-sound (take i x k) = rw (sound-is n b sd)
   answer-sound (read x k) = rw (sound-is n b sd)
+  answer-sound (protected x m v) = rw (sound-is n b sd)
 
   answer-view : (k : Call) → blockIsBytes k ≡ true → answerOn b k ≡ reviewAnswer (viewOf b h) k
   unfolding reviewAnswer
-  answer-view k z = answer-sound k ∙ ap (λ (q : ℕ). answerOf (restIn b) (toldOn b) (publishedOn b) q k) (number-same n b sd k) ∙ answer-same k z
+  answer-view k z = answer-sound k ∙ ap (λ (q : ℕ). answerOf (restIn b) (toldOn b) (publishedOn b) (candidatesOn b) q k) (number-same n b sd k) ∙ answer-same k z
 
 pub call-answer : (n : ℕ) (b : List ℕ) (v : Review) (k : Call) → blockIsBytes k ≡ true → Agrees n b v → call b k .answer ≡ reviewAnswer v k
 unfolding call

@@ -17,6 +17,7 @@ use Rattle.review.proofs.Checks as Checks
 use Rattle.review.proofs.Bounds as Bounds
 use Rattle.review.proofs.Times as Times
 use Rattle.review.proofs.FinraOddLots as FinraOddLots
+use Rattle.review.proofs.Protected as Protected
 
 abbrev pub OnBook : List Row → Type 0
 OnBook [] = Unit {0}
@@ -58,3 +59,7 @@ times = on-book Times.table refl Times.cases
 pub finraOddLots : OnBook FinraOddLots.table
 unfolding FinraOddLots.table blocksAreBytes every beBytes
 finraOddLots = on-book FinraOddLots.table refl FinraOddLots.cases
+
+pub protected : OnBook Protected.table
+unfolding Protected.table blocksAreBytes every beBytes
+protected = on-book Protected.table refl Protected.cases

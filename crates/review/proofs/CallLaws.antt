@@ -23,7 +23,7 @@ use Rattle.update.proofs.BlankLaws.{emptied-kept, emptied-reads}
 use Rattle.opening.specs.declared.Line.{Line}
 use Rattle.opening.specs.Opening.{symbolsOf, countOf, lineIn, linesIn, restIn, pagesIn, eachPage, restartLines}
 use Rattle.line.specs.Line.{done, nextBy, advanced}
-use Rattle.calls.specs.Call.{Call, make, add, openLine, startDay, endDay, take, read, numberOf, letterOf, advanceOn, afterCall, call}
+use Rattle.calls.specs.Call.{Call, make, add, openLine, startDay, endDay, take, read, protected, numberOf, letterOf, advanceOn, afterCall, call}
 use Rattle.work.specs.Work.{Listed, listedOf, messagesOn}
 use Rattle.opening.proofs.OpeningLaws.{Sound, rest-by}
 use Rattle.opening.proofs.PageLaws.{OpeningKept, kept-sound, each-kept, each-reads}
@@ -194,6 +194,10 @@ module _ (n : ℕ) (b : List ℕ) (h : List (List ℕ)) (sd : Sound n b) (y : By
   unfolding afterCall restAfter symbolsAfter historyAfter
   after-read x k = record { rest = refl; listed = refl; core = c }
 
+  after-protected : (x : List ℕ) (m v : ℕ) → Then (protected x m v)
+  unfolding afterCall restAfter symbolsAfter historyAfter
+  after-protected x m v = record { rest = refl; listed = refl; core = c }
+
   after : (k : Call) → blockIsBytes k ≡ true → IsDone k → Then k
   after (make k) z d = after-make k d
   after (add x l) z d = after-add x l d
@@ -202,6 +206,7 @@ module _ (n : ℕ) (b : List ℕ) (h : List (List ℕ)) (sd : Sound n b) (y : By
   after endDay z d = after-end
   after (take i x k) z d = after-take i x k (bytes-every x z) d
   after (read x k) z d = after-read x k
+  after (protected x m v) z d = after-protected x m v
 
   call-view : (k : Call) → blockIsBytes k ≡ true → Held (call b k .bytes) (reviewCall (viewOf b h) k)
   unfolding call reviewCall

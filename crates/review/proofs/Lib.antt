@@ -16,6 +16,7 @@ pub mod RunLaws
 pub mod Demand3
 pub mod FrameLaws
 pub mod PlaceLaws
+pub mod Protected
 pub mod AgreedFrame
 pub mod Frame
 pub mod NumberLaws

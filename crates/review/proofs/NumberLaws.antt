@@ -27,7 +27,7 @@ use Rattle.block.specs.declared.Arrival.the-variants.{Taken, Duplicate}
 use Rattle.opening.specs.declared.Line.{Line}
 use Rattle.opening.specs.Opening.{sound, Rest, restIn, pagesIn}
 use Rattle.line.specs.Line.{arrivalNumberOf, lineNumber, checkedNumberOf, blockNumber, onLine}
-use Rattle.calls.specs.Call.{Call, make, add, openLine, startDay, endDay, take, read, lots, numberOf, makeGood, isMake, numberOn}
+use Rattle.calls.specs.Call.{Call, make, add, openLine, startDay, endDay, take, read, protected, lots, sideMarks, numberOf, makeGood, isMake, numberOn}
 use Rattle.work.specs.Work.{Listed, isListed, listedOf}
 use Rattle.review.specs.Numbers.{numbersOf, codes}
 use Rattle.entries.specs.Publication.{publicationLength}
@@ -147,6 +147,7 @@ number-of r ls startDay = either (r .day) (among refl) (among refl)
 number-of r ls endDay = either (r .day) (among refl) (among refl)
 number-of r ls (take i b room) = either (ltb room answerLength) (among refl) (on-known i b room (r .day) (r .lines i))
 number-of r ls (read s room) = either (ltb room publicationLength) (among refl) (either (symbolGood s && isListed (be s) ls) (among refl) (among refl))
+number-of r ls (protected s m x) = either (symbolGood s && isListed (be s) ls) (either (member sideMarks m) (among refl) (among refl)) (among refl)
 
 sounded : (b : List ℕ) (c : Call) → isMake c ≡ false → member (numbersOf c) 1 ≡ true → Among (numbersOf c) (numberOn b c)
 unfolding numberOn
@@ -161,6 +162,7 @@ known-of b startDay = sounded b startDay refl refl
 known-of b endDay = sounded b endDay refl refl
 known-of b (take i x room) = sounded b (take i x room) refl refl
 known-of b (read s room) = sounded b (read s room) refl refl
+known-of b (protected s m x) = sounded b (protected s m x) refl refl
 
 -- the number of a call is one of document 01's, on any bytes
 pub number-known : (b : List ℕ) (c : Call) → member (numbersOf c) (numberOn b c) ≡ true

@@ -2,7 +2,9 @@
 -- Assumes nothing.
 use Prim.Native.Nat.{ℕ, _+_, _*_, _%_}
 use mathlib.Core.Path.{_≡_}
+use mathlib.Core.Bool.{_&&_, cond}
 use mathlib.Core.List.{List, [], _∷_, _++_}
+use lib.Dec.{eqb}
 use lib.ListN.{length, replicate}
 use Rattle.field.specs.Field.{beBytes}
 use Rattle.field.specs.Field as Field
@@ -13,6 +15,7 @@ use Rattle.quote.specs.Quote as Quote
 use Rattle.levels.specs.Levels as Levels
 use Rattle.entries.specs.Entries as Entries
 use Rattle.entries.specs.Publication as Publication
+use Rattle.protection.specs.Protection as Protection
 use Rattle.text.specs.Form as Form
 use Rattle.message.specs.Message as Message
 use Rattle.block.specs.Block as Block
@@ -21,7 +24,7 @@ use Rattle.line.specs.Line as Line
 use Rattle.calls.specs.Call as Call
 use Rattle.told.specs.Told as Told
 use Rattle.work.specs.Work as Work
-use Rattle.calls.specs.Call.{Call, add, openLine, startDay, take, read, Answer}
+use Rattle.calls.specs.Call.{Call, add, openLine, startDay, take, read, protected, Answer}
 use Rattle.review.specs.Runs as Runs
 use Rattle.review.specs.Reviewer as Reviewer
 use Rattle.review.specs.Reviewer.{freshReview, reviewAnswers}
@@ -87,10 +90,16 @@ sealed c sequence rest = framed c (10 + length rest) sequence (total (framed c (
 abbrev pub block : ℕ → List (List ℕ) → List ℕ
 block sequence ms = sealed (length ms) sequence (offsets (10 + 2 * length ms) ms ++ joined ms)
 
--- ---- answers: the report's seven numbers, then the bytes that are filled
+-- ---- answers: the report's seven numbers, then the bytes that are filled, then the two numbers of a query
+
+-- left out where both are 0
+abbrev pub pair : ℕ → ℕ → List ℕ
+pair found amount = cond (eqb found 0 && eqb amount 0) [] (found ∷ amount ∷ [])
 
 abbrev pub told : Answer → List ℕ
-told a = a .number ∷ a .gap ∷ a .expected ∷ a .count ∷ a .accepted ∷ a .partly ∷ a .rejected ∷ (a .answers ++ a .publication)
+told a =
+    a .number ∷ a .gap ∷ a .expected ∷ a .count ∷ a .accepted ∷ a .partly ∷ a .rejected
+    ∷ (a .answers ++ (a .publication ++ pair (a .found) (a .amount)))
 
 abbrev pub allTold : List Answer → List (List ℕ)
 allTold [] = []
@@ -121,6 +130,13 @@ twoRejected expected count = 0 ∷ 0 ∷ expected ∷ count ∷ 0 ∷ 0 ∷ 2 �
 -- a gap: number 70, d, next expected number, count, one message rejected with 40
 abbrev pub gap : ℕ → ℕ → ℕ → List ℕ
 gap d expected count = 70 ∷ d ∷ expected ∷ count ∷ 0 ∷ 0 ∷ 1 ∷ 0 ∷ 40 ∷ 0 ∷ 0 ∷ []
+
+-- a price is protected: the letters looked at; or it is not
+abbrev pub yes : ℕ → List ℕ
+yes looked = replicate 7 0 ++ (1 ∷ looked ∷ [])
+
+abbrev pub no : List ℕ
+no = replicate 7 0 ++ (0 ∷ 26 ∷ [])
 
 -- ---- a publication: six entries of a name of 4 bytes, a price and a size
 
@@ -222,6 +238,13 @@ onD sequence ms = take 7 (block sequence ms) 180
 abbrev pub look : Call
 look = read zt 96
 
+-- is this price of ZT protected, by the bids, by the offers?
+abbrev pub bidAt : ℕ → Call
+bidAt price = protected zt 66 price
+
+abbrev pub offerAt : ℕ → Call
+offerAt price = protected zt 83 price
+
 -- ---- rows
 
 -- a book of n symbols, the calls after its make, and what each is answered
@@ -240,7 +263,7 @@ fromMake n cs told = record { n = n; calls = cs; answers = told }
 
 -- what the reviewer answers, worked out by the definitions named here
 unfoldable pub answered : ℕ → List Call → List (List ℕ)
-unfolding Field.be Field.beBytes Field.part Field.field Lists.sum Lists.member Lists.every Lists.all Ranking.lex Ranking.lower Ranking.higher Ranking.byPrice Ranking.better Quote.admits Quote.counts Quote.emptyQuote Quote.withCondition Quote.withTimes Quote.candidateOf Levels.without Levels.insert Levels.itemOn Levels.itemsOn Levels.clears Levels.clearedBy Levels.oddOn Levels.itemsBad Levels.oddBad Levels.oddCode Levels.itemAt Levels.itemsFrom Levels.oddIn Entries.letters Entries.makerCandidate Entries.finraBest Entries.asD Entries.letterCandidate Entries.nationalBest Entries.oddCandidate Entries.letterLevels Entries.oddBest Entries.entriesBy Entries.entriesOf Publication.noEntry Publication.publication Publication.changeFlags Form.padded Form.symbolGood Form.makerGood Message.controlKind Message.quoteKind Message.kindOf Message.timeOf Message.symbolOf Message.levelAt Message.quoteAt Message.makerName Message.oddAt Message.priceFault Message.quoteFault Message.readInquiry Message.testBytes Message.readTest Message.readFinra Message.readRoundLot Message.readOddLot Message.readMaker Message.messageOf Message.makerCode Message.codeOf Message.partlyTaken Block.checksumOf Block.startAt Block.messageAt Block.messagesFrom Block.messagesOf Block.lengthGood Block.spaced Block.tableGood Block.controlAmong Block.checked Block.idleBlock Sequence.gapOf Sequence.nextOf Sequence.arrivalOf Work.isListed Work.lotOf Line.lineNumber Line.blockNumber Call.numberOf Line.done Told.quads Told.tally Line.gapTold Line.advanced Call.answerOf Work.flagsOf Runs.latestRun Runs.firstTime Reviewer.parts Reviewer.roundsOf Reviewer.quoteOf Reviewer.makerQuotes Reviewer.conditionOf Reviewer.makerOf Reviewer.namesOf Reviewer.makersOf Reviewer.levelsOf Reviewer.reviewedBy Reviewer.knownTo Reviewer.restAfter Reviewer.symbolsAfter Reviewer.historyAfter Reviewer.reviewCall Reviewer.reviewAnswer
+unfolding Field.be Field.beBytes Field.part Field.field Lists.sum Lists.member Lists.every Lists.all Ranking.lex Ranking.lower Ranking.higher Ranking.byPrice Ranking.better Quote.admits Quote.counts Quote.emptyQuote Quote.withCondition Quote.withTimes Quote.candidateOf Levels.without Levels.insert Levels.itemOn Levels.itemsOn Levels.clears Levels.clearedBy Levels.oddOn Levels.itemsBad Levels.oddBad Levels.oddCode Levels.itemAt Levels.itemsFrom Levels.oddIn Entries.letters Entries.makerCandidate Entries.finraBest Entries.asD Entries.letterCandidate Entries.nationalBest Entries.oddCandidate Entries.letterLevels Entries.oddBest Entries.entriesBy Entries.entriesOf Publication.noEntry Publication.publication Publication.changeFlags Form.padded Form.symbolGood Form.makerGood Message.controlKind Message.quoteKind Message.kindOf Message.timeOf Message.symbolOf Message.levelAt Message.quoteAt Message.makerName Message.oddAt Message.priceFault Message.quoteFault Message.readInquiry Message.testBytes Message.readTest Message.readFinra Message.readRoundLot Message.readOddLot Message.readMaker Message.messageOf Message.makerCode Message.codeOf Message.partlyTaken Block.checksumOf Block.startAt Block.messageAt Block.messagesFrom Block.messagesOf Block.lengthGood Block.spaced Block.tableGood Block.controlAmong Block.checked Block.idleBlock Sequence.gapOf Sequence.nextOf Sequence.arrivalOf Work.isListed Work.lotOf Line.lineNumber Line.blockNumber Call.numberOf Line.done Told.quads Told.tally Line.gapTold Line.advanced Call.answerOf Work.flagsOf Runs.latestRun Runs.firstTime Reviewer.parts Reviewer.roundsOf Reviewer.quoteOf Reviewer.makerQuotes Reviewer.conditionOf Reviewer.makerOf Reviewer.namesOf Reviewer.makersOf Reviewer.levelsOf Reviewer.reviewedBy Reviewer.knownTo Reviewer.restAfter Reviewer.symbolsAfter Reviewer.historyAfter Reviewer.reviewCall Reviewer.reviewAnswer Protection.candidates Protection.firstYes Protection.protection Lists.firstFrom
 answered n cs = allTold (reviewAnswers (freshReview n) cs)
 
 -- every row is answered as it says

@@ -136,9 +136,11 @@ unfolding held quoteOver
 held-candidate s n [] = refl
 held-candidate s n (q ∷ qs) = same-candidate s n (λ k. timeKept (sideOf k (held qs)) (sideOf k q)) (runTime (q ∷ qs)) q (held-time s q qs)
 
--- so the national best is the same
+-- so each letter's candidate is the same, and the national best
+pub held-letter : (rounds : ℕ → List Quote) (s : Side) (fb : Option Candidate) (l : ℕ) → letterCandidate s (λ k. held (rounds k)) fb l ≡ letterCandidate s (λ k. orElse (latest (rounds k)) noQuote) fb l
+unfolding letterCandidate
+held-letter rounds s fb l = ap (λ (o : Option Candidate). cond (eqb l D) (mapOption asD fb) (cond (eqb l S) none o)) (held-candidate s l (rounds l))
+
 pub held-national : (rounds : ℕ → List Quote) (fb : Side → Option Candidate) → nationalBest (λ l. held (rounds l)) fb ≡ nationalBest (λ l. orElse (latest (rounds l)) noQuote) fb
-unfolding nationalBest letterCandidate
-held-national rounds fb = fun-ext (λ s.
-    ap (λ (f : ℕ → Option Candidate). best (better s) (collect f letters))
-    (fun-ext (λ l. ap (λ (o : Option Candidate). cond (eqb l D) (mapOption asD (fb s)) (cond (eqb l S) none o)) (held-candidate s l (rounds l)))))
+unfolding nationalBest
+held-national rounds fb = fun-ext (λ s. ap (λ (f : ℕ → Option Candidate). best (better s) (collect f letters)) (fun-ext (held-letter rounds s (fb s))))

@@ -5,7 +5,7 @@ use mathlib.Core.Bool.{Bool, true, _&&_}
 use mathlib.Core.List.{List, [], _∷_}
 use lib.Dec.{ltb}
 use Rattle.lists.specs.Lists.{every}
-use Rattle.calls.specs.Call.{Call, make, add, openLine, startDay, endDay, take, read}
+use Rattle.calls.specs.Call.{Call, make, add, openLine, startDay, endDay, take, read, protected}
 
 -- each element is a byte
 abbrev pub areBytes : List ℕ → Bool
@@ -20,6 +20,7 @@ blockIsBytes startDay = true
 blockIsBytes endDay = true
 blockIsBytes (take i b room) = areBytes b
 blockIsBytes (read s room) = true
+blockIsBytes (protected s m x) = true
 
 unfoldable pub blocksAreBytes : List Call → Bool
 blocksAreBytes [] = true

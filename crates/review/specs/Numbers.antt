@@ -2,7 +2,7 @@
 -- Assumes nothing.
 use Prim.Native.Nat.{ℕ}
 use mathlib.Core.List.{List, [], _∷_}
-use Rattle.calls.specs.Call.{Call, make, add, openLine, startDay, endDay, take, read}
+use Rattle.calls.specs.Call.{Call, make, add, openLine, startDay, endDay, take, read, protected}
 
 abbrev pub numbersOf : Call → List ℕ
 numbersOf (make n) = 0 ∷ 2 ∷ []
@@ -12,6 +12,7 @@ numbersOf startDay = 0 ∷ 1 ∷ 11 ∷ []
 numbersOf endDay = 0 ∷ 1 ∷ 12 ∷ []
 numbersOf (take i b room) = 0 ∷ 70 ∷ 1 ∷ 9 ∷ 21 ∷ 30 ∷ 31 ∷ 32 ∷ 33 ∷ 34 ∷ 20 ∷ 35 ∷ []
 numbersOf (read s room) = 0 ∷ 1 ∷ 9 ∷ 10 ∷ []
+numbersOf (protected s m x) = 0 ∷ 1 ∷ 10 ∷ 74 ∷ []
 
 abbrev pub codes : List ℕ
 codes = 0 ∷ 40 ∷ 41 ∷ 42 ∷ 43 ∷ 44 ∷ 45 ∷ 46 ∷ 47 ∷ 48 ∷ 49 ∷ 60 ∷ 61 ∷ 62 ∷ 63 ∷ 64 ∷ []

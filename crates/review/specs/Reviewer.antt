@@ -10,11 +10,14 @@ use lib.ListN.{length, take as prefix}
 use Rattle.field.specs.Field.{be}
 use Rattle.field.specs.Ascii.{L, R}
 use Rattle.lists.specs.Lists.{mapOption, orElse, isSome, collect, member}
+use Rattle.ranking.specs.declared.Side.{Side}
+use Rattle.ranking.specs.declared.Candidate.{Candidate}
 use Rattle.quote.specs.declared.Quote.{Quote}
 use Rattle.quote.specs.Quote.{noQuote, emptyQuote, withCondition}
 use Rattle.levels.specs.Levels.{Standing, noLevels, oddOn}
 use Rattle.entries.specs.Entries.{Maker, entriesOf}
 use Rattle.entries.specs.Publication.{publication}
+use Rattle.protection.specs.Protection.{candidates}
 use Rattle.block.specs.Block.{messagesOf}
 use Rattle.message.specs.declared.Kind.{Kind}
 use Rattle.message.specs.declared.Kind.the-variants as kind
@@ -22,7 +25,7 @@ use Rattle.message.specs.Message.{roundLength, kindOf, symbolOf, roundLotOdd, o
 use Rattle.opening.specs.declared.Line.{Line}
 use Rattle.opening.specs.Opening.{Rest}
 use Rattle.line.specs.Line.{done, advanced}
-use Rattle.calls.specs.Call.{Call, make, add, openLine, startDay, endDay, take, read, numberOf, letterOf, Answer, answerOf}
+use Rattle.calls.specs.Call.{Call, make, add, openLine, startDay, endDay, take, read, protected, numberOf, letterOf, Answer, answerOf}
 use Rattle.work.specs.Work.{Listed, isListed, lotOf, flagsOf}
 use Rattle.told.specs.declared.Told.{Told}
 use Rattle.review.specs.Runs.{latest}
@@ -108,6 +111,10 @@ reviewedBy h s = publication (entriesOf (quoteOf h s) (makersOf h s) (levelsOf h
 abbrev pub reviewed : List (List ℕ) → ℕ → List ℕ
 reviewed h s = reviewedBy (parts h) s
 
+-- the symbol's national candidates of a side by letter, for T-06
+abbrev pub candidatesR : List (List ℕ) → ℕ → Side → ℕ → Option Candidate
+candidatesR h s = candidates (quoteOf (parts h) s) (makersOf (parts h) s)
+
 -- what the symbols and the history give for the code of a message that names the symbol
 unfoldable pub knownTo : List Listed → List Part → ℕ → Known
 knownTo ls h s =
@@ -171,6 +178,7 @@ restAfter r endDay = record { n = r .n; lines = r .lines; day = false }
 restAfter r (take i b room) =
     record { n = r .n; lines = λ j. cond (eqb j i) (mapOption (λ x. advanced x b) (r .lines i)) (r .lines j); day = r .day }
 restAfter r (read s room) = r
+restAfter r (protected s m x) = r
 
 unfoldable pub symbolsAfter : List Listed → Call → List Listed
 symbolsAfter ls (make n) = []
@@ -180,6 +188,7 @@ symbolsAfter ls startDay = ls
 symbolsAfter ls endDay = ls
 symbolsAfter ls (take i b room) = ls
 symbolsAfter ls (read s room) = ls
+symbolsAfter ls (protected s m x) = ls
 
 -- "make and Start of Day with 0 empty the history"; "Nothing else alters the history"
 unfoldable pub historyAfter : Rest → List Listed → List (List ℕ) → Call → List (List ℕ)
@@ -190,6 +199,7 @@ historyAfter r ls h startDay = []
 historyAfter r ls h endDay = h
 historyAfter r ls h (take i b room) = messagesR ls (letterOf (r .lines i)) (messagesOf b) h
 historyAfter r ls h (read s room) = h
+historyAfter r ls h (protected s m x) = h
 
 -- "a refused call alters nothing"
 unfoldable pub reviewCall : Review → Call → Review
@@ -203,7 +213,8 @@ reviewCall v c =
     v
 
 unfoldable pub reviewAnswer : Review → Call → Answer
-reviewAnswer v c = answerOf (v .rest) (toldR (v .symbols) (v .history)) (reviewed (v .history)) (numberOf (v .rest) (v .symbols) c) c
+reviewAnswer v c =
+    answerOf (v .rest) (toldR (v .symbols) (v .history)) (reviewed (v .history)) (candidatesR (v .history)) (numberOf (v .rest) (v .symbols) c) c
 
 -- "It starts with the make that gave the fresh book"
 abbrev pub freshReview : ℕ → Review

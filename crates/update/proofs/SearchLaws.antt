@@ -15,7 +15,7 @@ use Rattle.lists.proofs.Ranges.{map-range}
 use Rattle.lists.specs.declared.Found.{Found}
 use Rattle.lists.specs.declared.Found.the-variants.{At, Nothing}
 use Rattle.lists.proofs.Searches.{Hit, first-hit}
-use Rattle.lists.proofs.Tests.{clash, Cut, equal, apart, cut}
+use Rattle.lists.proofs.Tests.{Cut, equal, apart, cut}
 use Rattle.entries.specs.Entries.{Maker}
 use Rattle.page.specs.Page.{occupied}
 use Rattle.makers.specs.Makers.{named, findMaker}
@@ -49,28 +49,6 @@ first-is p (suc n) i k lo hi e b = go (cut i k) (λ l. first-is p n (i + 1) k l 
     go : Cut i k → (i + 1 ≤ k → firstFrom p (i + 1) n ≡ At k) → cond (p i) (At i) (firstFrom p (i + 1) n) ≡ At k
     go (equal t q) down = rw (q, e)
     go (apart t q) down = rw (b i (omega arith) (omega (arith, q))) (down (omega (arith, q)))
-
--- and none before it passes
-pub first-before : (p : ℕ → Bool) (n i k : ℕ) → firstFrom p i n ≡ At k → (j : ℕ) → i ≤ j → j < k → p j ≡ false
-unfolding firstFrom
-first-before p zero i k e j lo hi = clash (cc)
-first-before p (suc n) i k e j lo hi = go (p i) refl (cut i j) e (λ d l. first-before p n (i + 1) k d j l hi)
-  where
-    go : (t : Bool) → p i ≡ t → Cut i j → cond t (At i) (firstFrom p (i + 1) n) ≡ At k → (firstFrom p (i + 1) n ≡ At k → i + 1 ≤ j → p j ≡ false) → p j ≡ false
-    go true x c e down = let z : i ≡ k = cc in absurd (omega arith)
-    go false x (equal t q) e down = rw (sym q) x
-    go false x (apart t q) e down = down e (omega (arith, q))
-
--- where none is found, none passes
-pub first-none : (p : ℕ → Bool) (n i : ℕ) → firstFrom p i n ≡ Nothing → (j : ℕ) → i ≤ j → j < i + n → p j ≡ false
-unfolding firstFrom
-first-none p zero i e j lo hi = absurd (omega arith)
-first-none p (suc n) i e j lo hi = go (p i) refl (cut i j) e (λ d l. first-none p n (i + 1) d j l (omega arith))
-  where
-    go : (t : Bool) → p i ≡ t → Cut i j → cond t (At i) (firstFrom p (i + 1) n) ≡ Nothing → (firstFrom p (i + 1) n ≡ Nothing → i + 1 ≤ j → p j ≡ false) → p j ≡ false
-    go true x c e down = clash (cc)
-    go false x (equal t q) e down = rw (sym q) x
-    go false x (apart t q) e down = down e (omega (arith, q))
 
 -- ---- a search over a list
 

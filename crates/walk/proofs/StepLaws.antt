@@ -91,7 +91,7 @@ module _ (s : Side) (b : Candidate) (n : ℕ) where
 -- ---- a maker
 
 -- R alone counts
-maker-r : (p : List ℕ) (a : ℕ) (s : Side) → field p (a + nameLength) 1 ≡ 82 → bindOption (makerIn (part p a cellLength)) (makerCandidate s) ≡ candidateOf s (field p a 4) (quoteIn (part p (a + nameLength) quoteLength))
+pub maker-r : (p : List ℕ) (a : ℕ) (s : Side) → field p (a + nameLength) 1 ≡ 82 → bindOption (makerIn (part p a cellLength)) (makerCandidate s) ≡ candidateOf s (field p a 4) (quoteIn (part p (a + nameLength) quoteLength))
 unfolding makerCandidate member
 maker-r p a s e = rw (maker-at p a, e)
 
@@ -105,7 +105,7 @@ closed s n q e = go (ltb 0 (sideOf s q .price)) (ltb 0 (sideOf s q .size)) (admi
     go true true true f = clash f
     go true true false f = refl
 
-maker-other : (p : List ℕ) (a : ℕ) (s : Side) → (field p (a + nameLength) 1 ≡ 82 → ⊥) → bindOption (makerIn (part p a cellLength)) (makerCandidate s) ≡ none
+pub maker-other : (p : List ℕ) (a : ℕ) (s : Side) → (field p (a + nameLength) 1 ≡ 82 → ⊥) → bindOption (makerIn (part p a cellLength)) (makerCandidate s) ≡ none
 unfolding makerCandidate member
 maker-other p a s n = rw (maker-at p a, ne-eqb (field p (a + nameLength) 1) 82 n) (go (eqb (field p (a + nameLength) 1) 76) refl)
   where

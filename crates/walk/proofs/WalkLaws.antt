@@ -137,7 +137,7 @@ module _ (p : List ℕ) (b : Bytes p) where
       occupied-is [] = refl
       occupied-is (k ∷ ks) = ap (consOption (makerIn (part p (cellAt k) cellLength))) (occupied-is ks)
 
-  finra-is : (s : Side) → best (better s) (collect (makerAt p s) (range makerCount 0)) ≡ fb s
+  pub finra-is : (s : Side) → best (better s) (collect (makerAt p s) (range makerCount 0)) ≡ fb s
   unfolding finraBest
   finra-is s = ap (best (better s)) (maker-list s)
 

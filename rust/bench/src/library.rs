@@ -1,7 +1,7 @@
 //! The proved library on lent memory, under the calls that all books here have.
 
 use quotebook::lent;
-use second::{QuoteBook, Report};
+use second::{Protected, QuoteBook, Report};
 
 /// A book of the library and the memory that is lent to its calls.
 pub struct Library {
@@ -62,5 +62,15 @@ impl QuoteBook for Library {
 
     fn read(&self, symbol: &[u8], publication: &mut [u8]) -> u8 {
         lent::read(&self.memory, symbol, publication).into()
+    }
+
+    #[inline]
+    fn is_protected(&self, symbol: &[u8], side: u8, price: u64) -> Protected {
+        let told = lent::is_protected(&self.memory, symbol, side, price);
+        Protected {
+            number: told.number.into(),
+            yes: told.yes,
+            looked: told.looked,
+        }
     }
 }

@@ -1,6 +1,7 @@
 //! The benchmark: the proved library and the second implementation side by side, in one run.
 //!
-//! Without arguments it prints all tables. `--quick` measures the full blocks of 64 symbols only.
+//! Without arguments it prints all tables. `--quick` measures the full blocks of 64 symbols only,
+//! `--queries` the queries.
 //! `--library N`, `--engine N` and `--incremental N` replay these blocks N times on one book alone,
 //! for a profiler; `--single` before them takes single-message blocks.
 
@@ -9,6 +10,7 @@
 mod library;
 mod market;
 mod measure;
+mod query;
 mod replay;
 mod stream;
 mod table;
@@ -28,9 +30,13 @@ fn main() -> ExitCode {
     let done = match words[..] {
         [] => table::print_all(MESSAGES, ROUNDS),
         ["--quick"] => table::print_quick(MESSAGES, ROUNDS),
+        ["--queries"] => {
+            query::print(10 * ROUNDS);
+            Ok(())
+        }
         ["--single", book, times] => alone(Size::Fixed(1), book, times),
         [book, times] => alone(Size::Full, book, times),
-        _ => Err("arguments: none, --quick, or [--single] --library N".to_string()),
+        _ => Err("arguments: none, --quick, --queries, or [--single] --library N".to_string()),
     };
     match done {
         Ok(()) => ExitCode::SUCCESS,

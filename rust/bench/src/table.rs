@@ -4,6 +4,7 @@ use std::fs;
 
 use crate::library::Library;
 use crate::measure::{self, Latency, Throughput, NAMES};
+use crate::query;
 use crate::replay::{Outcome, KINDS};
 use crate::stream::{Kind, Size, Stream};
 use second::{Engine, Incremental};
@@ -50,6 +51,8 @@ pub fn print_all(messages: usize, rounds: usize) -> Result<(), String> {
     print_latency(messages, rounds)?;
     println!();
     print_kinds(messages, rounds);
+    println!();
+    query::print(10 * rounds);
     println!();
     print_memory();
     Ok(())

@@ -5,6 +5,8 @@ use std::fmt::{self, Debug, Formatter};
 use crate::lent::{self, ANSWER_LEN, PUBLICATION_LEN, SYMBOL_LEN};
 use crate::message::filled_up;
 use crate::number::Refusal;
+use crate::price::Price;
+use crate::protection::{Protection, Side};
 use crate::publication::Publication;
 use crate::report::Taken;
 
@@ -66,6 +68,19 @@ impl Book {
         let mut publication = [0; PUBLICATION_LEN];
         lent::read(&self.memory, &symbol_bytes(symbol), &mut publication).result()?;
         Ok(Publication::from_bytes(&publication))
+    }
+
+    /// Whether a price is protected: does an exchange, or FINRA, bid it or more, or offer at it or
+    /// less? A day need not be open.
+    pub fn is_protected(
+        &self,
+        symbol: impl AsRef<[u8]>,
+        side: Side,
+        price: Price,
+    ) -> Result<Protection, Refusal> {
+        let symbol = filled_up(symbol.as_ref());
+        let told = lent::is_protected(&self.memory, &symbol, side.mark(), price.0);
+        Protection::new(side, price, told)
     }
 
     /// The book's memory, to keep a copy that can be lent to the functions of [`lent`].

@@ -47,6 +47,15 @@ mod c {
             block_len: usize,
             report: *mut u64,
         ) -> u8;
+        pub fn qb_is_protected(
+            book: *const u8,
+            len: usize,
+            symbol: *const u8,
+            symbol_len: usize,
+            side: u8,
+            price: u64,
+            report: *mut u64,
+        ) -> u8;
     }
 }
 
@@ -145,6 +154,29 @@ pub fn write_block(
             sequence,
             block.as_mut_ptr(),
             block.len(),
+            report.as_mut_ptr(),
+        )
+    }
+}
+
+/// The result of the call is the report's number too.
+pub fn is_protected(
+    book: &[u8],
+    symbol: &[u8],
+    side: u8,
+    price: u64,
+    report: &mut [u64; 3],
+) -> u8 {
+    // SAFETY: each pointer and its length are one slice's; the report has its three numbers; book and
+    // symbol are only read.
+    unsafe {
+        c::qb_is_protected(
+            book.as_ptr(),
+            book.len(),
+            symbol.as_ptr(),
+            symbol.len(),
+            side,
+            price,
             report.as_mut_ptr(),
         )
     }

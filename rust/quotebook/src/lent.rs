@@ -1,11 +1,12 @@
-//! The seven calls on lent memory, for those who keep a book elsewhere than in a [`Book`](crate::Book),
-//! and the writer of blocks.
+//! The calls on lent memory, for those who keep a book elsewhere than in a [`Book`](crate::Book), and
+//! the writer of blocks.
 //!
 //! Any bytes of any length may be lent. A refused call changes no byte. In every buffer the bytes
 //! behind those that a call fills keep their contents.
 
 use crate::ffi;
 use crate::number::Number;
+use crate::protection::Protected;
 use crate::report::Report;
 use crate::writer::Written;
 
@@ -68,6 +69,14 @@ pub fn read(book: &[u8], symbol: &[u8], publication: &mut [u8]) -> Number {
     number(ffi::read(book, symbol, publication))
 }
 
+/// Whether a national candidate of a symbol bids a price or more (side mark B), or offers it or less
+/// (S).
+pub fn is_protected(book: &[u8], symbol: &[u8], side: u8, price: u64) -> Protected {
+    let mut fields = [0; 3];
+    let answered = ffi::is_protected(book, symbol, side, price, &mut fields);
+    Protected::from_fields(number(answered), fields)
+}
+
 /// Writes the block that carries these messages, laid end to end with a length for each, under a
 /// sequence number. It needs 10 bytes, 2 for each message, and theirs; [`BLOCK_MAX`] always suffice.
 pub fn write_block(messages: &[u8], lengths: &[u32], sequence: u32, block: &mut [u8]) -> Written {
@@ -109,6 +118,26 @@ mod tests {
         assert_eq!(filled(5, &[], 180), [30, 0, 1, 0, 0, 0, 0]);
         assert_eq!(filled(4, &[], 180), [21, 0, 0, 0, 0, 0, 0]);
         assert_eq!(filled(5, &[], 179), [9, 0, 0, 0, 0, 0, 0]);
+    }
+
+    /// A query writes its three numbers, whatever they were, and its result is the first.
+    #[test]
+    fn a_querys_report_is_filled() {
+        let mut book = vec![0; book_len(1).expect("one symbol")];
+        assert_eq!(make(&mut book, 1), Number::Done);
+        let zt = b"ZT         ";
+        assert_eq!(add_symbol(&mut book, zt, 100), Number::Done);
+        let filled = |book: &[u8], symbol: &[u8], side| {
+            let mut fields = [u64::MAX; 3];
+            let result = ffi::is_protected(book, symbol, side, 0, &mut fields);
+            assert_eq!(u64::from(result), fields[0]);
+            fields
+        };
+        assert_eq!(filled(&book, zt, b'B'), [0, 0, 26]);
+        assert_eq!(filled(&book, zt, b'X'), [74, 0, 0]);
+        assert_eq!(filled(&book, b"ZT", b'X'), [10, 0, 0]);
+        assert_eq!(filled(&book[1..], zt, b'B'), [1, 0, 0]);
+        assert_eq!(filled(&[], &[], 0), [1, 0, 0]);
     }
 
     /// The writer writes both numbers of its report, and its result is the first.

@@ -2,7 +2,7 @@
 //!
 //! ```
 //! use quotebook::message::{Header, RoundLotQuote};
-//! use quotebook::{write_block, Book, Code};
+//! use quotebook::{write_block, Book, Code, Side};
 //!
 //! # fn main() -> Result<(), Box<dyn std::error::Error>> {
 //! let quote = RoundLotQuote::new(Header::new(b'N', 7), "ZT".parse()?)
@@ -21,6 +21,8 @@
 //! let best = book.read("ZT")?;
 //! assert_eq!(best.national_bid.map(|bid| bid.to_string()), Some("N R 10.00 x 3".to_string()));
 //! assert_eq!(best.odd_bid, None);
+//! let bid = book.is_protected("ZT", Side::Bids, "10.00".parse()?)?;
+//! assert_eq!(bid.to_string(), "yes: N bids 10.00 or more");
 //! # Ok(())
 //! # }
 //! ```
@@ -41,6 +43,7 @@ pub mod lent;
 pub mod message;
 mod number;
 mod price;
+mod protection;
 mod publication;
 mod report;
 mod table;
@@ -51,6 +54,7 @@ pub use code::Code;
 pub use field_error::FieldError;
 pub use number::{Number, Refusal};
 pub use price::Price;
+pub use protection::{Protected, Protection, Side};
 pub use publication::{Entry, Name, Publication};
 pub use report::{Answer, Changes, Report, Taken};
 pub use writer::{write_block, Written};

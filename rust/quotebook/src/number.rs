@@ -33,6 +33,7 @@ table! {
     71 WriteMessages "No messages, over 45, one under 20 bytes, lengths that do not add up, or a block over 1,000.";
     72 WriteControl "A control message among others: it has to be alone in its block.";
     73 WriteShort "The output is shorter than the block to write.";
+    74 Side "The side mark is not B (bids) or S (offers).";
 }
 
 impl Number {

@@ -65,6 +65,15 @@ fn a_byte_of_another_line_or_of_the_symbol() {
 }
 
 #[test]
+fn a_byte_at_a_query() {
+    let mut book = book();
+    let zt = build::symbol("ZT");
+    assert_eq!(book.is_protected(&zt, b'B', 0).number, 0);
+    book.plant(page(0).start + 12);
+    assert_eq!(book.is_protected(&zt, b'B', 0).number, broken::BEYOND);
+}
+
+#[test]
 fn a_byte_at_a_read() {
     let mut book = book();
     book.plant(page(0).start + 12);

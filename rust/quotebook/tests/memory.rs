@@ -8,12 +8,13 @@ mod support;
 use std::collections::BTreeMap;
 
 use second::generate::{self, Random};
-use second::{build, Call, QuoteBook, Report};
+use second::{build, Call, Protected, QuoteBook, Report};
 use support::damage::{damage, overwrite, Wrong};
 use support::foretold::{self, ensure, Left, NUMBERS};
 use support::guarded::{Fenced, Guarded};
-use support::layout::{in_page, is_book, record, N, SYMBOL};
-use support::parts::{on_wrong_entries, resent, PARTS, RESENT};
+use support::layout::{in_page, is_book, page, record, N, SYMBOL};
+use support::parts::{against_the_entry, on_wrong_entries, resent, ASKED, PARTS, RESENT};
+use support::reading::Reading;
 
 const BOOKS: u64 = 4_000;
 /// Books in which the entries of pages are overwritten before each call.
@@ -55,7 +56,7 @@ fn any_memory() {
 }
 
 /// Sound books whose pages have wrong entries, overwritten before each call. Each kind of part meets
-/// each kind of wrong entries.
+/// each kind of wrong entries, and queries are answered otherwise than these say.
 #[test]
 fn wrong_entries() {
     let mut reached = BTreeMap::new();
@@ -66,15 +67,15 @@ fn wrong_entries() {
         for call in &calls {
             let wrong = random.pick(&Wrong::ALL);
             overwrite(&mut random, wrong, &mut memory);
-            let Checked { part, .. } = check_call(&mut memory, call)
+            let Checked { met, .. } = check_call(&mut memory, call)
                 .unwrap_or_else(|what| panic!("seed {seed}, {wrong:?}, {call}: {what}"));
-            if let Some(part) = part {
-                *reached.entry((wrong, part)).or_insert(0) += 1;
+            if let Some(kind) = met {
+                *reached.entry((wrong, kind)).or_insert(0) += 1;
             }
         }
     }
     for wrong in Wrong::ALL {
-        for part in PARTS {
+        for part in PARTS.into_iter().chain([ASKED]) {
             let times = reached.get(&(wrong, part)).copied().unwrap_or(0);
             println!("{wrong:?}, {part}: {times} times");
             assert_ne!(times, 0, "{wrong:?}, {part}");
@@ -104,10 +105,22 @@ fn fit(random: &mut Random, call: &Call, memory: &[u8]) -> Call {
     if !is_book(memory) || random.percent(30) {
         return call;
     }
-    let of_page = in_page(random.below(usize::from(memory[N])), SYMBOL);
+    let at = random.below(usize::from(memory[N]));
+    let of_page = in_page(at, SYMBOL);
     match &mut call {
         Call::Read { symbol, .. } | Call::AddSymbol { symbol, .. } => {
             *symbol = memory[of_page].to_vec();
+        }
+        // A price that stands in the page, or one beside it.
+        Call::IsProtected {
+            symbol,
+            side,
+            price,
+        } => {
+            let reading = Reading::of(&memory[page(at)]);
+            *symbol = memory[of_page].to_vec();
+            *price = reading.price_of(random.below(42), usize::from(*side == b'S'));
+            *price = price.wrapping_add(random.pick(&[0, 0, 1, u64::MAX]));
         }
         Call::TakeBlock { line, block, .. } if *line < 64 && block.len() >= 32 => {
             let (expected, _) = record(memory, *line as usize);
@@ -119,29 +132,47 @@ fn fit(random: &mut Random, call: &Call, memory: &[u8]) -> Call {
     call
 }
 
-/// Makes a call; but for a block, the report has its number alone.
-fn make_call(book: &mut Guarded, call: &Call, buffer: &mut [u8]) -> Report {
+/// Makes a call; but for a block, the report has its number alone. A query's answer stands beside it.
+fn make_call(
+    book: &mut Guarded,
+    call: &Call,
+    buffer: &mut [u8],
+) -> (Report, Option<Protected>) {
+    let mut asked = None;
     let number = match call {
         Call::Make { n } => book.make(*n),
         Call::AddSymbol { symbol, round_lot } => book.add_symbol(symbol, *round_lot),
         Call::OpenLine { line, letter } => book.open_line(*line, *letter),
         Call::StartDay => book.start_day(),
         Call::EndDay => book.end_day(),
-        Call::TakeBlock { line, block, .. } => return book.take_block(*line, block, buffer),
+        Call::TakeBlock { line, block, .. } => {
+            return (book.take_block(*line, block, buffer), None);
+        }
         Call::Read { symbol, .. } => book.read(symbol, buffer),
+        Call::IsProtected {
+            symbol,
+            side,
+            price,
+        } => {
+            let told = book.is_protected(symbol, *side, *price);
+            asked = Some(told);
+            told.number
+        }
     };
-    Report {
+    let report = Report {
         number,
         ..Report::default()
-    }
+    };
+    (report, asked)
 }
 
 /// What a call on any memory led to.
 struct Checked {
     number: u8,
-    /// The kind of a taken block's first message, if that met wrong entries.
-    part: Option<&'static str>,
-    /// Which of its sides keep a time.
+    /// The kind of a taken block's first message, if that met wrong entries, or a query that was
+    /// answered otherwise than the kept entry says.
+    met: Option<&'static str>,
+    /// Which sides of the first message keep a time.
     resent: Vec<&'static str>,
 }
 
@@ -157,7 +188,7 @@ fn check_call(memory: &mut Vec<u8>, call: &Call) -> Result<Checked, String> {
     let pattern: Vec<u8> = (0..room).map(|at| 0xA5 ^ at as u8).collect();
     let mut buffer = Fenced::new(&pattern);
     let mut book = Guarded::over(memory);
-    let report = make_call(&mut book, call, buffer.bytes_mut());
+    let (report, asked) = make_call(&mut book, call, buffer.bytes_mut());
 
     let number = report.number;
     let (_, numbers) = NUMBERS[foretold::row(call)];
@@ -166,6 +197,8 @@ fn check_call(memory: &mut Vec<u8>, call: &Call) -> Result<Checked, String> {
         let right = number == foretold;
         ensure(right, format!("number {number}, not {foretold}"))?;
     }
+    let expected = foretold::protected(memory, call, number);
+    ensure(asked == expected, format!("{asked:?}, not {expected:?}"))?;
     ensure(buffer.stands(), "a byte around the buffer was written")?;
     let left = Left {
         before: memory,
@@ -176,14 +209,20 @@ fn check_call(memory: &mut Vec<u8>, call: &Call) -> Result<Checked, String> {
     left.check(call, &report)?;
     let mut checked = Checked {
         number,
-        part: None,
+        met: None,
         resent: Vec::new(),
     };
-    if let (Call::TakeBlock { block, .. }, 0 | 70) = (call, number) {
-        let (_, messages) = build::split(block).ok_or("no block")?;
-        let code = buffer.bytes()[1];
-        checked.part = on_wrong_entries(memory, &messages[0], code);
-        checked.resent = resent(memory, &messages[0], code);
+    match (call, number) {
+        (Call::TakeBlock { block, .. }, 0 | 70) => {
+            let (_, messages) = build::split(block).ok_or("no block")?;
+            let code = buffer.bytes()[1];
+            checked.met = on_wrong_entries(memory, &messages[0], code);
+            checked.resent = resent(memory, &messages[0], code);
+        }
+        (Call::IsProtected { .. }, 0) => {
+            checked.met = against_the_entry(memory, call, asked.is_some_and(|told| told.yes));
+        }
+        _ => {}
     }
     *memory = book.bytes().to_vec();
     Ok(checked)

@@ -465,3 +465,39 @@ fn a_refused_block_leaves_wrong_entries() {
     assert_eq!(book.bytes(), before);
     assert_eq!(read(&book, "ZT"), CLAIMED);
 }
+
+/// A query goes by the quotes of the page: entries that nobody quotes protect nothing, and a quote or
+/// a maker protects its price whatever the entries say. Quotes in the slot of S are not looked at.
+#[test]
+fn a_query_goes_by_the_quotes() {
+    let asked = |book: &Guarded, side, price| {
+        let told = book.is_protected(&build::symbol("ZT"), side, price);
+        assert_eq!(told.number, 0);
+        (told.yes, told.looked)
+    };
+    let no = (false, 26);
+    let book = claimed(self::book(), &ALL);
+    for price in [0, 1_000_000, TEN, 99_000_000, u64::MAX] {
+        assert_eq!((asked(&book, b'B', price), asked(&book, b'S', price)), (no, no));
+    }
+    for (line, message, looked) in [(N, quote(b'N', &Odd::IDLE), 14), (D, maker(), 4)] {
+        let book = claimed(after(self::book(), line, message), &ALL);
+        let (yes, offer) = ((true, looked), TEN + 2 * CENT);
+        assert_eq!([TEN, TEN + 1].map(|price| asked(&book, b'B', price)), [yes, no]);
+        assert_eq!([offer, offer - 1].map(|price| asked(&book, b'S', price)), [yes, no]);
+    }
+    // S and T have N's quote in their slots.
+    let slot = |letter: u8| {
+        let start = SLOTS.start + SLOT_LEN * usize::from(letter - b'A');
+        in_page(ZT, start..start + SLOT_LEN)
+    };
+    let mut bytes = after(self::book(), N, quote(b'N', &Odd::IDLE)).bytes().to_vec();
+    bytes.copy_within(slot(b'N'), slot(b'S').start);
+    bytes.copy_within(slot(b'N'), slot(b'T').start);
+    bytes[slot(b'N')].fill(0);
+    let book = Guarded::over(&bytes);
+    assert_eq!(asked(&book, b'B', TEN), (true, 20));
+    let mut bytes = book.bytes().to_vec();
+    bytes[slot(b'T')].fill(0);
+    assert_eq!(asked(&Guarded::over(&bytes), b'B', TEN), no);
+}

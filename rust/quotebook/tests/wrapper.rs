@@ -4,7 +4,7 @@
 use std::collections::HashSet;
 
 use quotebook::lent::{self, PUBLICATION_LEN};
-use quotebook::{Answer, Book, Code, Number, Price, Publication, Refusal};
+use quotebook::{Answer, Book, Code, Number, Price, Protection, Publication, Refusal, Side};
 use second::build::{self, Odd, Round};
 use second::{generate, terms, Call};
 
@@ -14,7 +14,7 @@ fn numbers_and_codes_are_those_of_the_documents() {
         .filter(|&byte| Number::try_from(byte).is_ok())
         .collect();
     let mut expected: Vec<u8> = (0..=12).collect();
-    expected.extend([20, 21, 30, 31, 32, 33, 34, 35, 70, 71, 72, 73]);
+    expected.extend([20, 21, 30, 31, 32, 33, 34, 35, 70, 71, 72, 73, 74]);
     assert_eq!(numbers, expected);
     let codes: Vec<u8> = (0..=255)
         .filter(|&byte| Code::try_from(byte).is_ok())
@@ -87,6 +87,9 @@ fn prices_have_two_to_six_decimals() {
         "    5.00|5.00    |"
     );
 }
+
+/// No quote on a side.
+const NOTHING: (u64, u32) = (0, 0);
 
 fn quote(sequence: u32, bid: (u64, u32), odd: &Odd) -> Vec<u8> {
     let round = Round::regular(b'N', 7, "ZT", bid, (10_020_000, 2));
@@ -195,6 +198,45 @@ fn a_publication_is_decoded() -> Result<(), Refusal> {
 }
 
 #[test]
+fn a_desk_asks_whether_a_price_is_protected() -> Result<(), Refusal> {
+    let mut book = book()?;
+    book.take_block(5, &quote(1, (10_000_000, 3), &Odd::IDLE))?;
+    let round = Round::regular(b'D', 7, "ZT", NOTHING, (10_015_000, 9));
+    let maker = build::maker_quote(&round, build::maker("AB"));
+    book.take_block(7, &build::block(1, &[maker]))?;
+    let asked = |side, price| book.is_protected("ZT", side, Price(price));
+    let yes = asked(Side::Bids, 10_000_000)?;
+    let expected = Protection {
+        side: Side::Bids,
+        price: Price(10_000_000),
+        letter: Some(b'N'),
+    };
+    assert_eq!(yes, expected);
+    assert!(yes.is_yes() && yes.looked() == 14);
+    assert_eq!(yes.to_string(), "yes: N bids 10.00 or more");
+    let no = asked(Side::Bids, 10_000_001)?;
+    assert!(!no.is_yes() && no.letter.is_none() && no.looked() == 26);
+    assert_eq!(no.to_string(), "no: nobody bids 10.000001 or more");
+    for (price, letter, said) in [
+        (10_020_000, Some(b'D'), "yes: D offers at 10.02 or less"),
+        (10_010_000, None, "no: nobody offers at 10.01 or less"),
+        (0, None, "no: nobody offers at 0.00 or less"),
+    ] {
+        let answer = asked(Side::Offers, price)?;
+        assert_eq!((answer.letter, answer.to_string().as_str()), (letter, said));
+    }
+    let refusal = book.is_protected("XX", Side::Bids, Price(0)).unwrap_err();
+    assert_eq!(refusal.number, Number::SymbolUnknown);
+    let zt = build::symbol("ZT");
+    let refused = lent::is_protected(book.as_bytes(), &zt, b'X', 0);
+    assert_eq!(
+        (refused.number, refused.yes, refused.looked),
+        (Number::Side, false, 0)
+    );
+    Ok(())
+}
+
+#[test]
 fn symbols_are_filled_up() -> Result<(), Refusal> {
     let mut book = book()?;
     assert_eq!(
@@ -262,6 +304,25 @@ fn a_book_and_lent_memory_agree() {
                         assert_eq!(read, Publication::from_bytes(&publication));
                     }
                     (read.map(|_| ()), lent)
+                }
+                // A mark that is none has no method.
+                Call::IsProtected { side, .. } if !b"BS".contains(side) => continue,
+                Call::IsProtected {
+                    symbol,
+                    side,
+                    price,
+                } => {
+                    let of = if *side == b'B' {
+                        Side::Bids
+                    } else {
+                        Side::Offers
+                    };
+                    let lent = lent::is_protected(&memory, &filled_up(symbol), *side, *price);
+                    let asked = book.is_protected(symbol, of, Price(*price));
+                    if let Ok(asked) = asked {
+                        assert_eq!((asked.is_yes(), asked.looked()), (lent.yes, lent.looked));
+                    }
+                    (asked.map(|_| ()), lent.number)
                 }
             };
             match method {

@@ -4,7 +4,8 @@
 //! usage: definitions FIRST_SEED LISTS CALLS SYMBOLS MESSAGES each|end
 //!
 //! Writes a line for each list: its seed, n, the calls, and their answers, with tabs between. An
-//! answer is the seven numbers of a report and the bytes that the call fills. Only lists of a book of
+//! answer is the seven numbers of a report, the bytes that the call fills, and the two numbers of a
+//! query, left out where both are 0. Only lists of a book of
 //! at most SYMBOLS symbols and with at most MESSAGES messages in taken blocks are written. Behind
 //! each block that is taken, or behind the last call alone, every symbol that the list adds is read.
 //! What the lists reach is told on standard error.
@@ -12,7 +13,7 @@
 use second::compare::{lent_part, observe, Observed};
 use second::coverage::Coverage;
 use second::terms::PUBLICATION_LEN;
-use second::{generate, Call, List, QuoteBook, Report, Reviewer};
+use second::{generate, Call, List, Protected, QuoteBook, Report, Reviewer};
 
 fn word(at: usize) -> String {
     let usage = "usage: definitions FIRST_SEED LISTS CALLS SYMBOLS MESSAGES each|end";
@@ -85,7 +86,7 @@ fn messages_of(observed: &Observed) -> usize {
     (report.accepted + report.partly + report.rejected) as usize
 }
 
-/// The seven numbers of an answer, then the bytes that the call filled.
+/// The seven numbers of an answer, then the bytes that the call filled and the numbers of a query.
 fn told(observed: &Observed) -> Vec<u64> {
     let bare = Report {
         number: observed.number,
@@ -100,6 +101,11 @@ fn told(observed: &Observed) -> Vec<u64> {
     if filled > 0 {
         let bytes = &lent_part(&observed.buffer)[..filled];
         told.extend(bytes.iter().map(|&byte| u64::from(byte)));
+    }
+    if let Some(Protected { yes, looked, .. }) = observed.protected {
+        if yes || looked > 0 {
+            told.extend([u64::from(yes), u64::from(looked)]);
+        }
     }
     told
 }
@@ -120,6 +126,11 @@ fn term(call: &Call) -> String {
             symbol,
             publication_len,
         } => format!("read {} {publication_len}", row(symbol)),
+        Call::IsProtected {
+            symbol,
+            side,
+            price,
+        } => format!("protected {} {side} {price}", row(symbol)),
     }
 }
 

@@ -45,6 +45,15 @@ pub enum Call {
         /// The length of the publication buffer.
         publication_len: usize,
     },
+    /// Ask whether a price is protected.
+    IsProtected {
+        /// The symbol, of any length.
+        symbol: Vec<u8>,
+        /// The side mark.
+        side: u8,
+        /// The price.
+        price: u64,
+    },
 }
 
 /// A list of calls on a fresh book of n symbols.
@@ -88,6 +97,11 @@ impl Display for Call {
                 symbol,
                 publication_len,
             } => write!(f, "read {} {publication_len}", Hex(symbol)),
+            Call::IsProtected {
+                symbol,
+                side,
+                price,
+            } => write!(f, "protected {} {side} {price}", Hex(symbol)),
         }
     }
 }
@@ -144,6 +158,11 @@ fn parse_call(words: &[&str]) -> Option<Call> {
         ["read", symbol, publication_len] => Call::Read {
             symbol: bytes(symbol)?,
             publication_len: publication_len.parse().ok()?,
+        },
+        ["protected", symbol, side, price] => Call::IsProtected {
+            symbol: bytes(symbol)?,
+            side: side.parse().ok()?,
+            price: price.parse().ok()?,
         },
         _ => return None,
     })

@@ -3,7 +3,7 @@
 use std::fmt::{self, Display, Formatter};
 
 use crate::call::{Call, List};
-use crate::quote_book::{QuoteBook, Report};
+use crate::quote_book::{Protected, QuoteBook, Report};
 use crate::terms::{ANSWER_LEN, PUBLICATION_LEN};
 
 /// Gives a fresh book of n symbols, n being 1 to 64.
@@ -16,6 +16,8 @@ pub struct Observed {
     pub number: u8,
     /// What the block call reports.
     pub report: Option<Report>,
+    /// What the query of T-06 reports.
+    pub protected: Option<Protected>,
     /// Every byte of the buffer lent to the call, and of the guards around it.
     pub buffer: Vec<u8>,
     /// What a read afterwards gives for each symbol that the list adds: number and buffer.
@@ -73,6 +75,7 @@ impl<'a> Watched<'a> {
 /// empty block, which is refused and changes nothing.
 fn observe_call(book: &mut dyn QuoteBook, call: &Call, watched: &Watched) -> Observed {
     let mut report = None;
+    let mut protected = None;
     let mut buffer = Vec::new();
     let number = match call {
         Call::Make { n } => book.make(*n),
@@ -97,6 +100,15 @@ fn observe_call(book: &mut dyn QuoteBook, call: &Call, watched: &Watched) -> Obs
             buffer = patterned(*publication_len);
             book.read(symbol, lent(&mut buffer))
         }
+        Call::IsProtected {
+            symbol,
+            side,
+            price,
+        } => {
+            let asked = book.is_protected(symbol, *side, *price);
+            protected = Some(asked);
+            asked.number
+        }
     };
     let publications = watched.symbols.iter().map(|symbol| {
         let mut publication = patterned(PUBLICATION_LEN);
@@ -111,6 +123,7 @@ fn observe_call(book: &mut dyn QuoteBook, call: &Call, watched: &Watched) -> Obs
     Observed {
         number,
         report,
+        protected,
         buffer,
         publications,
         records: records.collect(),
@@ -172,6 +185,10 @@ impl Display for Difference {
         if observed.report != expected.report {
             let (report, expected) = (observed.report, expected.report);
             writeln!(f, "the report is {report:?}, expected {expected:?}")?;
+        }
+        if observed.protected != expected.protected {
+            let (answer, expected) = (observed.protected, expected.protected);
+            writeln!(f, "the query tells {answer:?}, expected {expected:?}")?;
         }
         write_bytes(f, "the buffer", &observed.buffer, &expected.buffer)?;
         let pairs = observed.publications.iter().zip(&expected.publications);

@@ -1,4 +1,5 @@
-//! Counting which numbers, codes, flags and cases of resent quotes a run of lists has reached.
+//! Counting which numbers, codes, flags, answers to queries and cases of resent quotes a run of lists
+//! has reached.
 
 mod resent;
 
@@ -8,11 +9,12 @@ use std::fmt::{self, Display, Formatter};
 use crate::build;
 use crate::call::{Call, List};
 use crate::compare::{lent_part, Observed};
+use crate::quote_book::Protected;
 use crate::terms::ENTRY_LEN;
 use resent::Resent;
 
 /// The numbers that each call can answer in a list.
-const NUMBERS: [(&str, &[u8]); 7] = [
+const NUMBERS: [(&str, &[u8]); 8] = [
     ("make", &[0, 2]),
     ("add", &[0, 3, 4, 5, 6]),
     ("open", &[0, 7, 8]),
@@ -20,6 +22,21 @@ const NUMBERS: [(&str, &[u8]); 7] = [
     ("end", &[0, 12]),
     ("take", &[0, 9, 20, 21, 30, 31, 32, 33, 34, 35, 70]),
     ("read", &[0, 9, 10]),
+    ("protected", &[0, 10, 74]),
+];
+
+/// How many letters a query can look at before it answers yes: the positions of the letters that
+/// the lists' lines have, D among them.
+const LOOKED: &[u8] = &[1, 2, 3, 4, 5, 14, 16, 17, 26];
+
+/// What queries can answer: how many letters are looked at; about a price of 0, yes or no.
+const ANSWERS: [(&str, &[u8]); 6] = [
+    ("bids, yes", LOOKED),
+    ("bids, no", &[26]),
+    ("offers, yes", LOOKED),
+    ("offers, no", &[26]),
+    ("bids at 0", &[0, 1]),
+    ("offers at 0", &[0]),
 ];
 
 /// The codes that each type of message can get.
@@ -57,7 +74,8 @@ const LEADERS: [(&str, &[u8]); 4] = [
 const ODD_BID: [&str; 2] = ["odd bid", "odd bid without a FINRA bid"];
 const ODD_OFFER: [&str; 2] = ["odd offer", "odd offer without a FINRA offer"];
 
-/// How often each number, code, flag, leader of an odd entry and case of a resent quote was reached.
+/// How often each number, code, flag, leader of an odd entry, answer and case of a resent quote was
+/// reached.
 #[derive(Default)]
 pub struct Coverage {
     calls: u64,
@@ -65,6 +83,7 @@ pub struct Coverage {
     codes: Counts,
     flags: Counts,
     leaders: Counts,
+    answers: Counts,
     resent: Resent,
 }
 
@@ -102,6 +121,11 @@ impl Coverage {
                 self.note_leaders(lent_part(publication));
             }
         }
+        if let (Call::IsProtected { side, price, .. }, Some(answer)) = (call, observed.protected) {
+            if answer.number == 0 {
+                self.note_answer(*side, *price, answer);
+            }
+        }
     }
 
     fn note_leaders(&mut self, publication: &[u8]) {
@@ -111,6 +135,21 @@ impl Coverage {
                 let name = names[usize::from(finra == b' ')];
                 *self.leaders.entry((name, odd)).or_default() += 1;
             }
+        }
+    }
+
+    fn note_answer(&mut self, side: u8, price: u64, answer: Protected) {
+        let name = match (side, answer.yes) {
+            (b'B', true) => "bids, yes",
+            (b'B', false) => "bids, no",
+            (_, true) => "offers, yes",
+            (_, false) => "offers, no",
+        };
+        *self.answers.entry((name, answer.looked)).or_default() += 1;
+        if price == 0 {
+            let name = if side == b'B' { "bids at 0" } else { "offers at 0" };
+            let key = (name, u8::from(answer.yes));
+            *self.answers.entry(key).or_default() += 1;
         }
     }
 
@@ -135,6 +174,7 @@ impl Coverage {
         missing.extend(missing_in("flag", &FLAGS, &self.flags));
         missing.extend(self.resent.missing());
         missing.extend(missing_in("leader", &LEADERS, &self.leaders));
+        missing.extend(missing_in("answer", &ANSWERS, &self.answers));
         missing
     }
 
@@ -143,6 +183,7 @@ impl Coverage {
         let mut unforeseen = unforeseen_in("number", &NUMBERS, &self.numbers);
         unforeseen.extend(unforeseen_in("code", &CODES, &self.codes));
         unforeseen.extend(unforeseen_in("flag", &FLAGS, &self.flags));
+        unforeseen.extend(unforeseen_in("answer", &ANSWERS, &self.answers));
         unforeseen
     }
 }
@@ -181,6 +222,7 @@ fn call_name(call: &Call) -> &'static str {
         Call::EndDay => "end",
         Call::TakeBlock { .. } => "take",
         Call::Read { .. } => "read",
+        Call::IsProtected { .. } => "protected",
     }
 }
 
@@ -208,6 +250,7 @@ impl Display for Coverage {
             ("codes", &self.codes),
             ("flags", &self.flags),
             ("leaders", &self.leaders),
+            ("answers", &self.answers),
         ];
         for (what, counts) in tables {
             let mut last = "";

@@ -28,5 +28,5 @@ pub mod writer;
 
 pub use call::{Call, List};
 pub use engine::{Engine, Incremental};
-pub use quote_book::{QuoteBook, Report};
+pub use quote_book::{Protected, QuoteBook, Report};
 pub use reviewer::Reviewer;

@@ -1,4 +1,4 @@
-//! The seven calls of document 01 ("The book and its calls") and their answers.
+//! The seven calls of document 01 ("The book and its calls") and those of document 02, with their answers.
 
 /// What the block call reports. A refused block carries its number, no gap and no messages.
 #[derive(Clone, Copy, PartialEq, Eq, Debug, Default)]
@@ -34,7 +34,28 @@ impl Report {
     }
 }
 
-/// A quote book under its seven calls. Arguments are raw: a number may be out of range, a symbol,
+/// What the query of T-06 reports. A refusal carries its number, no and 0.
+#[derive(Clone, Copy, PartialEq, Eq, Debug, Default)]
+pub struct Protected {
+    /// 0, or the refusal.
+    pub number: u8,
+    /// Whether a national candidate reaches the price.
+    pub yes: bool,
+    /// How many letters were looked at: the position of the first that answers yes, or 26.
+    pub looked: u8,
+}
+
+impl Protected {
+    /// A refused query.
+    pub fn refused(number: u8) -> Protected {
+        Protected {
+            number,
+            ..Protected::default()
+        }
+    }
+}
+
+/// A quote book under its calls. Arguments are raw: a number may be out of range, a symbol,
 /// block or buffer may have any length. Each call answers its number of document 01.
 ///
 /// An implementation begins as a fresh book, memory for n symbols in which make has just answered
@@ -62,4 +83,7 @@ pub trait QuoteBook {
 
     /// Reads a symbol's publication into the first 96 bytes of the buffer.
     fn read(&self, symbol: &[u8], publication: &mut [u8]) -> u8;
+
+    /// Whether a national candidate bids a price or more (side mark B), or offers it or less (S).
+    fn is_protected(&self, symbol: &[u8], side: u8, price: u64) -> Protected;
 }

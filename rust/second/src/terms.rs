@@ -20,7 +20,7 @@ pub mod number {
     pub const LINE_OPEN: u8 = 8;
     /// The answer buffer is under 180 bytes, or the publication buffer under 96.
     pub const BUFFER_SHORT: u8 = 9;
-    /// The symbol to read is malformed or not listed.
+    /// The symbol to read or to ask about is malformed or not listed.
     pub const SYMBOL_UNKNOWN: u8 = 10;
     /// Start of Day while the day is open.
     pub const DAY_OPEN: u8 = 11;
@@ -51,6 +51,8 @@ pub mod number {
     pub const WRITE_CONTROL: u8 = 72;
     /// The output is too short for the block.
     pub const WRITE_SHORT: u8 = 73;
+    /// The side mark of a query is not B or S.
+    pub const SIDE: u8 = 74;
 }
 
 /// Codes that a message gets.
@@ -97,6 +99,8 @@ pub const LINES: usize = 64;
 pub const SYMBOL_LEN: usize = 11;
 /// The round lots that a symbol may have.
 pub const ROUND_LOTS: [u32; 5] = [1, 10, 25, 50, 100];
+/// The letters A to Z, S among them.
+pub const LETTERS: usize = 26;
 /// The letter of FINRA.
 pub const FINRA: u8 = b'D';
 /// The letter of the processor, which no line may have.

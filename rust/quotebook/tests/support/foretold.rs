@@ -1,7 +1,7 @@
 //! What document 01 and docs/LAYOUT.md say of a call on memory of any bytes.
 
 use quotebook::Code;
-use second::{build, Call, Report};
+use second::{build, Call, Protected, Report};
 
 use super::guarded::Guarded;
 use super::layout::{
@@ -11,7 +11,7 @@ use super::layout::{
 use super::reading::Reading;
 
 /// The numbers that each call can answer.
-pub const NUMBERS: [(&str, &[u8]); 7] = [
+pub const NUMBERS: [(&str, &[u8]); 8] = [
     ("make", &[0, 2]),
     ("add", &[0, 1, 3, 4, 5, 6]),
     ("open", &[0, 1, 7, 8]),
@@ -19,6 +19,7 @@ pub const NUMBERS: [(&str, &[u8]); 7] = [
     ("end", &[0, 1, 12]),
     ("take", &[0, 1, 9, 20, 21, 30, 31, 32, 33, 34, 35, 70]),
     ("read", &[0, 1, 9, 10]),
+    ("protected", &[0, 1, 10, 74]),
 ];
 
 /// The row of a call in the table.
@@ -31,6 +32,7 @@ pub fn row(call: &Call) -> usize {
         Call::EndDay => 4,
         Call::TakeBlock { .. } => 5,
         Call::Read { .. } => 6,
+        Call::IsProtected { .. } => 7,
     }
 }
 
@@ -84,6 +86,10 @@ pub fn number(memory: &[u8], call: &Call) -> Option<u8> {
             (*publication_len < 96, 9),
             (!is_symbol(symbol) || !listed(symbol), 10),
         ],
+        Call::IsProtected { symbol, side, .. } => vec![
+            (!is_symbol(symbol) || !listed(symbol), 10),
+            (!b"BS".contains(side), 74),
+        ],
     };
     let fault = checks.iter().find(|check| check.0);
     match (fault, call) {
@@ -91,6 +97,28 @@ pub fn number(memory: &[u8], call: &Call) -> Option<u8> {
         (None, Call::TakeBlock { .. }) => None,
         (None, _) => Some(0),
     }
+}
+
+/// What a query on memory of any bytes answers: by the quotes of the page, whatever entries it keeps.
+pub fn protected(memory: &[u8], call: &Call, number: u8) -> Option<Protected> {
+    let Call::IsProtected {
+        symbol,
+        side,
+        price,
+    } = call
+    else {
+        return None;
+    };
+    if number != 0 {
+        return Some(Protected::refused(number));
+    }
+    let reading = Reading::of(&memory[page(listed_page(memory, symbol)?)]);
+    let (yes, looked) = reading.protection(usize::from(*side == b'S'), *price);
+    Some(Protected {
+        number,
+        yes,
+        looked,
+    })
 }
 
 /// The memory before and after a call, and the buffer that was lent to it.
@@ -115,6 +143,7 @@ impl Left<'_> {
             Call::EndDay => ensure(self.after[DAY] == 0, "the day is open"),
             Call::TakeBlock { line, block, .. } => self.check_taken(*line as usize, block, report),
             Call::Read { symbol, .. } => self.check_read(symbol),
+            Call::IsProtected { .. } => ensure(self.before == self.after, "a query wrote"),
         }
     }
 

@@ -5,7 +5,7 @@
 use std::ops::{BitXorAssign, Range};
 
 use quotebook::{lent, Number};
-use second::{build, QuoteBook, Report};
+use second::{build, Protected, QuoteBook, Report};
 
 use super::layout::{self, byte, in_page, line, moved, page, CONTENTS, COUNT, DAY, LINES, N};
 
@@ -126,6 +126,17 @@ impl Guarded {
         }
     }
 
+    /// The number of a call that only reads the book, or what it broke.
+    fn settle_read(&self, number: Number, argument_kept: bool) -> u8 {
+        if !argument_kept {
+            return broken::ARGUMENT;
+        }
+        if !self.memory.keeps(&self.before) {
+            return broken::BEYOND;
+        }
+        u8::from(number)
+    }
+
     /// What a taken block may change: its line's numbers, and the contents of each page that an
     /// accepted or partly accepted message names; with an accepted FINRA Close or Open, of every page.
     fn may_change(&self, line: u32, block: &[u8], answer: &[u8]) -> Vec<Range<usize>> {
@@ -215,12 +226,16 @@ impl QuoteBook for Guarded {
     fn read(&self, symbol: &[u8], publication: &mut [u8]) -> u8 {
         let argument = Fenced::new(symbol);
         let number = lent::read(self.memory.bytes(), argument.bytes(), publication);
-        if !argument.keeps(symbol) {
-            return broken::ARGUMENT;
+        self.settle_read(number, argument.keeps(symbol))
+    }
+
+    fn is_protected(&self, symbol: &[u8], side: u8, price: u64) -> Protected {
+        let argument = Fenced::new(symbol);
+        let told = lent::is_protected(self.memory.bytes(), argument.bytes(), side, price);
+        Protected {
+            number: self.settle_read(told.number, argument.keeps(symbol)),
+            yes: told.yes,
+            looked: told.looked,
         }
-        if !self.memory.keeps(&self.before) {
-            return broken::BEYOND;
-        }
-        u8::from(number)
     }
 }

@@ -1,7 +1,9 @@
 //! The kinds of parts after which the entries of a page are worked out from its quotes, and of sides
 //! that keep a time.
 
-use super::layout::{in_page, listed_page, page, ENTRIES, N};
+use second::Call;
+
+use super::layout::{in_page, listed_page, number, page, ENTRIES, N};
 use super::reading::{is_empty_quote, Reading};
 
 pub const PARTS: [&str; 11] = [
@@ -17,6 +19,27 @@ pub const PARTS: [&str; 11] = [
     "C C",
     "C O",
 ];
+
+/// A query whose answer is not what the entry that the page keeps says.
+pub const ASKED: &str = "a query";
+
+/// That a query was answered otherwise than the kept entry says.
+pub fn against_the_entry(book: &[u8], call: &Call, yes: bool) -> Option<&'static str> {
+    let Call::IsProtected {
+        symbol,
+        side,
+        price,
+    } = call
+    else {
+        return None;
+    };
+    let entries = &book[in_page(listed_page(book, symbol)?, ENTRIES)];
+    let (entry, bids) = (&entries[16 * usize::from(*side == b'S')..][..16], *side == b'B');
+    let kept = number(&entry[4..12]);
+    let reached = kept == *price || bids == (kept > *price);
+    let says = entry != *b"    \0\0\0\0\0\0\0\0\0\0\0\0" && reached;
+    (says != yes).then_some(ASKED)
+}
 
 /// The kind of a message by its code, if the entries of a page that it concerns were not those of
 /// the page's quotes.

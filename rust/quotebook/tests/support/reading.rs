@@ -227,6 +227,36 @@ impl Reading {
         0
     }
 
+    /// Which letter from A on first has a national candidate that reaches a price: whether there is
+    /// one, and how many letters were looked at. D has its best maker; S has nothing.
+    pub fn protection(&self, side: usize, price: u64) -> (bool, u8) {
+        let reaches = |quote: &Quote| {
+            counting(side, quote, [0; 4]).is_some_and(|(shown, _)| {
+                let bids = side == 0;
+                shown.price == price || bids == (shown.price > price)
+            })
+        };
+        for (letter, (quote, _)) in (b'A'..).zip(&self.letters) {
+            let yes = match letter {
+                b'D' => self.makers.iter().flatten().any(|(_, quote)| reaches(quote)),
+                b'S' => false,
+                _ => reaches(quote),
+            };
+            if yes {
+                return (true, letter - b'A' + 1);
+            }
+        }
+        (false, 26)
+    }
+
+    /// The price of one of the quotes.
+    pub fn price_of(&self, place: usize, side: usize) -> u64 {
+        let quotes = self.letters.iter().map(|(quote, _)| quote);
+        let makers = self.makers.iter().flatten().map(|(_, quote)| quote);
+        let mut all = quotes.chain(makers).cycle();
+        all.nth(place).map_or(0, |quote| quote.sides[side].price)
+    }
+
     /// The six entries that follow.
     pub fn entries(&self) -> [u8; 96] {
         let mut entries = [0; 96];

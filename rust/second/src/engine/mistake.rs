@@ -82,4 +82,16 @@ mistakes! {
     64 FINRA_ODD_NEEDS_MAKER "D's levels rank only while the FINRA best has that side.";
     65 CLOSE_CLEARS_LEVELS "FINRA Open and Close remove D's levels.";
     66 EMPTY_MAKER_CLEARS "An empty quote of a maker removes D's levels.";
+    67 LEADER_ASKED "A query asks the national leader, not the letters from A on.";
+    68 LOOKED_FROM_0 "A query counts the letters before the one that answers yes.";
+    69 PROCESSOR_PASSED_OVER "A query does not count S among the letters looked at.";
+    70 AT_THE_PRICE_IS_NO "A candidate at the very price does not protect it.";
+    71 MARKS_EXCHANGED "A query asks the offers for B and the bids for S.";
+    72 ZERO_IS_NO_PRICE "A query about a price of 0 is answered no.";
+    73 ZERO_BY_RANK "Every offer protects a price of 0, none being rank 0.";
+    74 INDICATION_PROTECTS "A query counts indications and quotes whose condition admits no side.";
+    75 D_NOT_ASKED "A query leaves D and its makers out.";
+    76 MARK_BEFORE_SYMBOL "74 is checked before 10.";
+    77 SMALL_MARK_TAKEN "The side mark b is taken as B.";
+    78 REFUSED_LOOKS "A query refused with 10 reports 26 letters.";
 }

@@ -17,8 +17,9 @@ mod update;
 
 use std::marker::PhantomData;
 
-use crate::quote_book::{QuoteBook, Report};
+use crate::quote_book::{Protected, QuoteBook, Report};
 use crate::terms::{number, LINES, PROCESSOR, PUBLICATION_LEN, ROUND_LOTS, SYMBOLS_MAX};
+use candidate::Side;
 use directory::{well_formed, Directory, Symbol};
 use page::Page;
 pub use update::{FollowLeader, Recompute, Update};
@@ -181,6 +182,37 @@ impl<U: Update, const M: u8> QuoteBook for Book<U, M> {
         };
         publication[..PUBLICATION_LEN].copy_from_slice(&self.pages[page].publication());
         number::DONE
+    }
+
+    /// Checks 10, 74.
+    fn is_protected(&self, symbol: &[u8], side: u8, price: u64) -> Protected {
+        let listed = as_symbol(symbol).and_then(|symbol| self.directory.find(symbol));
+        let asked = match side {
+            b'B' if M == mistake::MARKS_EXCHANGED => Some(Side::Offer),
+            b'S' if M == mistake::MARKS_EXCHANGED => Some(Side::Bid),
+            b'B' => Some(Side::Bid),
+            b'S' => Some(Side::Offer),
+            b'b' if M == mistake::SMALL_MARK_TAKEN => Some(Side::Bid),
+            _ => None,
+        };
+        if M == mistake::MARK_BEFORE_SYMBOL && asked.is_none() {
+            return Protected::refused(number::SIDE);
+        }
+        let Some(page) = listed else {
+            return Protected {
+                looked: if M == mistake::REFUSED_LOOKS { 26 } else { 0 },
+                ..Protected::refused(number::SYMBOL_UNKNOWN)
+            };
+        };
+        let Some(side) = asked else {
+            return Protected::refused(number::SIDE);
+        };
+        let (yes, looked) = self.pages[page].search::<M>(side, price);
+        Protected {
+            number: number::DONE,
+            yes,
+            looked,
+        }
     }
 }
 

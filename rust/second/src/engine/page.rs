@@ -5,7 +5,7 @@ use super::mistake;
 use super::odd_part::Levels;
 use super::page_side::{Leaders, PageSide};
 use super::quote::{counts, Quote};
-use crate::terms::{ENTRY_LEN, MAKERS_MAX, PUBLICATION_LEN};
+use crate::terms::{ENTRY_LEN, FINRA, MAKERS_MAX, PROCESSOR, PUBLICATION_LEN};
 
 /// No maker's name has a zero byte, so these two are no names.
 const FREE_CELL: u32 = 0;
@@ -160,6 +160,50 @@ impl Page {
         } else {
             Entry::NONE
         };
+    }
+
+    /// The first letter from A with a counting bid at or above the price, or offer at or below it:
+    /// whether there is one, and how many letters were looked at.
+    pub fn search<const M: u8>(&self, side: Side, price: u64) -> (bool, u8) {
+        let page_side = &self.sides[side as usize];
+        let answers = |letter: u8| {
+            if M == mistake::D_NOT_ASKED && letter == FINRA {
+                return false;
+            }
+            let quote = match M {
+                mistake::INDICATION_PROTECTS => page_side.standing_quote(letter),
+                _ => page_side.counting_quote(letter),
+            };
+            if M == mistake::ZERO_BY_RANK {
+                return quote.stands() && quote.rank >= side.rank(price);
+            }
+            if M == mistake::ZERO_IS_NO_PRICE && price == 0 {
+                return false;
+            }
+            let shown = side.price(quote.rank);
+            let reached = match side {
+                Side::Bid => shown >= price,
+                Side::Offer => shown <= price,
+            };
+            quote.stands() && reached && (M != mistake::AT_THE_PRICE_IS_NO || shown != price)
+        };
+        let found = match M {
+            mistake::LEADER_ASKED => {
+                let leader = page_side.leaders.national.letter();
+                (b'A'..=b'Z').find(|&letter| letter == leader && answers(letter))
+            }
+            _ => (b'A'..=b'Z').find(|&letter| answers(letter)),
+        };
+        let Some(letter) = found else {
+            return (false, 26);
+        };
+        let position = letter - b'A' + 1;
+        let looked = match M {
+            mistake::LOOKED_FROM_0 => position - 1,
+            mistake::PROCESSOR_PASSED_OVER if letter > PROCESSOR => position - 1,
+            _ => position,
+        };
+        (true, looked)
     }
 
     /// The change flags: 1 national bid, 2 national offer, 4 FINRA bid, 8 FINRA offer, 16 odd bid,

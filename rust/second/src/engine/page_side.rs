@@ -4,9 +4,7 @@ use super::candidate::{national_name, Candidate};
 use super::mistake;
 use super::odd_part::Levels;
 use super::ranking::Ranking;
-use crate::terms::{FINRA, MAKERS_MAX};
-
-const LETTERS: usize = 26;
+use crate::terms::{FINRA, LETTERS, MAKERS_MAX};
 
 /// The place of a letter in the tables of a side.
 #[inline]
@@ -77,6 +75,12 @@ impl PageSide {
     #[inline]
     pub fn counting_quote(&self, letter: u8) -> Candidate {
         self.quotes.counting(place(letter))
+    }
+
+    /// A letter's quote, whether it counts or not.
+    #[inline]
+    pub fn standing_quote(&self, letter: u8) -> Candidate {
+        self.quotes.standing(place(letter))
     }
 
     /// The best of one letter's levels.

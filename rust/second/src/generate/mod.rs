@@ -145,7 +145,8 @@ impl Generator {
             3 => self.open_call(),
             4 => Call::StartDay,
             5 => Call::EndDay,
-            _ => self.make_call(),
+            6 => self.make_call(),
+            _ => self.protected_call(),
         }
     }
 
@@ -154,6 +155,22 @@ impl Generator {
         Call::Read {
             symbol: self.draw_symbol_argument(),
             publication_len: self.random.usually(70, &[PUBLICATION_LEN], &odd_lengths),
+        }
+    }
+
+    /// Mostly a listed symbol; a price of the list, one beside it, or one at the ends of the range.
+    fn protected_call(&mut self) -> Call {
+        let symbol = if self.listed.is_empty() || self.random.percent(20) {
+            self.draw_symbol_argument()
+        } else {
+            self.random.pick(&self.listed).0.to_vec()
+        };
+        let price = self.random.pick(&self.pools.prices);
+        let near = [price, price - 1, price.saturating_add(1)];
+        Call::IsProtected {
+            symbol,
+            side: self.random.usually(90, b"BS", b"bsAXZ \x00\xff"),
+            price: self.random.usually(80, &near, &[0, 0, 1, u64::MAX]),
         }
     }
 
@@ -249,7 +266,7 @@ impl Generator {
                     open.expected = report.expected;
                 }
             }
-            Call::Read { .. } => {}
+            Call::Read { .. } | Call::IsProtected { .. } => {}
         }
     }
 }

@@ -53,28 +53,47 @@ fn finra_best(account: &Account, side: Side) -> Option<(Candidate, u8)> {
 /// "National best: the same over letters, D standing with its FINRA best and that maker's
 /// condition; a last tie goes to the lowest letter."
 fn national_best(account: &Account, side: Side) -> Option<Candidate> {
-    let mut candidates = Vec::new();
+    let letters = b'A'..=b'Z';
+    let candidates = letters.filter_map(|letter| national_candidate(account, side, letter));
+    best(side, candidates.collect())
+}
+
+fn national_candidate(account: &Account, side: Side, letter: u8) -> Option<Candidate> {
+    if letter == b'D' {
+        let (finra, condition) = finra_best(account, side)?;
+        return Some(Candidate {
+            name: [b'D', condition, b' ', b' '],
+            ..finra
+        });
+    }
+    let standing = account.quote(letter)?;
+    let quote = standing.quote;
+    quote.counts(side).then(|| Candidate {
+        name: [letter, quote.condition, b' ', b' '],
+        price: quote.side(side).price,
+        size: quote.side(side).size,
+        time: standing.time(side),
+    })
+}
+
+/// "Does any national candidate stand with a bid at or above a given price (or an offer at or
+/// below)? Letters are looked at from A, and the search stops at the first that answers yes." Yes
+/// or no, and the letters looked at.
+pub fn protection(account: &Account, side: Side, price: u64) -> (bool, u8) {
+    let mut looked = 0;
     for letter in b'A'..=b'Z' {
-        if letter == b'D' {
-            if let Some((finra, condition)) = finra_best(account, side) {
-                candidates.push(Candidate {
-                    name: [b'D', condition, b' ', b' '],
-                    ..finra
-                });
-            }
-        } else if let Some(standing) = account.quote(letter) {
-            let quote = standing.quote;
-            if quote.counts(side) {
-                candidates.push(Candidate {
-                    name: [letter, quote.condition, b' ', b' '],
-                    price: quote.side(side).price,
-                    size: quote.side(side).size,
-                    time: standing.time(side),
-                });
+        looked += 1;
+        if let Some(candidate) = national_candidate(account, side, letter) {
+            let yes = match side {
+                Side::Bid => candidate.price >= price,
+                Side::Offer => candidate.price <= price,
+            };
+            if yes {
+                return (true, looked);
             }
         }
     }
-    best(side, candidates)
+    (false, looked)
 }
 
 /// "Odd best: over all letters' levels priced above the national bid (below the national offer;

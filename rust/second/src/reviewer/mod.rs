@@ -10,11 +10,11 @@ mod block;
 mod fields;
 mod judge;
 
-use crate::quote_book::{QuoteBook, Report};
+use crate::quote_book::{Protected, QuoteBook, Report};
 use crate::terms::{number, ANSWER_LEN, ENTRY_LEN, LINES, PUBLICATION_LEN, ROUND_LOTS};
 use account::Account;
-use best::publication;
-use fields::{is_symbol, symbol_of, Kind};
+use best::{protection, publication};
+use fields::{is_symbol, symbol_of, Kind, Side};
 use judge::is_partly_accepted;
 
 /// The reviewer of one book.
@@ -239,5 +239,22 @@ impl QuoteBook for Reviewer {
         }
         publication[..PUBLICATION_LEN].copy_from_slice(&self.publication(symbol));
         number::DONE
+    }
+
+    fn is_protected(&self, symbol: &[u8], side: u8, price: u64) -> Protected {
+        if !is_symbol(symbol) || self.listed(symbol).is_none() {
+            return Protected::refused(number::SYMBOL_UNKNOWN);
+        }
+        let side = match side {
+            b'B' => Side::Bid,
+            b'S' => Side::Offer,
+            _ => return Protected::refused(number::SIDE),
+        };
+        let (yes, looked) = protection(&Account::of(&self.history, symbol), side, price);
+        Protected {
+            number: number::DONE,
+            yes,
+            looked,
+        }
     }
 }

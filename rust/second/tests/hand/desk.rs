@@ -1,7 +1,7 @@
 //! A desk that makes hand-written cases short.
 
 use second::build::{self, Odd, Round, Shown};
-use second::{QuoteBook, Report};
+use second::{Protected, QuoteBook, Report};
 
 use crate::BOOKS;
 
@@ -95,6 +95,18 @@ impl Desk {
         assert_eq!(publication[96..], [0xEE; 4]);
         publication.truncate(96);
         publication
+    }
+
+    /// What a query about ZT answers: yes or no, and the letters looked at.
+    pub fn protected(&self, side: u8, price: u64) -> (bool, u8) {
+        let symbol = build::symbol("ZT");
+        let Protected {
+            number,
+            yes,
+            looked,
+        } = self.book.is_protected(&symbol, side, price);
+        assert_eq!(number, 0);
+        (yes, looked)
     }
 
     /// The six entries of a symbol.

@@ -13,6 +13,7 @@ mod finra_odd_lots;
 mod line;
 mod messages;
 mod operator;
+mod protection;
 mod times;
 
 use common::BOOKS;

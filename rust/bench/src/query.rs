@@ -1,0 +1,125 @@
+//! What a query about a protected price costs, by the letter that answers, beside a read.
+
+use std::hint::black_box;
+use std::time::Instant;
+
+use crate::library::Library;
+use second::build::{self, Odd, Round};
+use second::{Engine, QuoteBook};
+
+/// What is asked: a name, the price in cents above 10.00, and the letters that are looked at.
+const ASKED: [(&str, u64, u8); 5] = [
+    ("yes at A", 0, 1),
+    ("yes at D, its last maker", 3, 4),
+    ("yes at N", 13, 14),
+    ("yes at Z", 25, 26),
+    ("no", 26, 26),
+];
+
+/// Calls of a round, and rounds.
+const CALLS: usize = 2_000;
+
+const TEN: u64 = 10_000_000;
+const CENT: u64 = 10_000;
+
+fn symbol(at: usize) -> [u8; 11] {
+    build::symbol(&format!("A{at}"))
+}
+
+/// Each letter bids as many cents above 10.00 as letters stand before it, and offers as many below
+/// 20.00; of D's sixteen makers the last one does, the others bid and offer 5.00 and 30.00.
+fn set_up(book: &mut impl QuoteBook, n: usize) {
+    for at in 0..n {
+        assert_eq!(book.add_symbol(&symbol(at), 100), 0);
+    }
+    let letters = (b'A'..=b'Z').filter(|&letter| letter != b'S');
+    for (line, letter) in letters.clone().enumerate() {
+        assert_eq!(book.open_line(line as u32, letter), 0);
+    }
+    assert_eq!(book.start_day(), 0);
+    for (line, letter) in letters.enumerate() {
+        let mut sequence = 1;
+        let mut send = |message: Vec<u8>| {
+            let block = build::block(sequence, &[message]);
+            let report = book.take_block(line as u32, &block, &mut [0; 180]);
+            assert_eq!((report.number, report.accepted), (0, 1));
+            sequence += 1;
+        };
+        for at in 0..n {
+            let cents = u64::from(letter - b'A') * CENT;
+            let mut round = Round::regular(letter, 7, "", (TEN + cents, 3), (2 * TEN - cents, 3));
+            round.symbol = symbol(at);
+            if letter != b'D' {
+                send(build::round_lot(&round, &Odd::IDLE));
+                continue;
+            }
+            for maker in b'A'..=b'P' {
+                let mut made = round.clone();
+                if maker != b'P' {
+                    (made.bid, made.offer) = ((TEN / 2, 3), (3 * TEN, 3));
+                }
+                send(build::maker_quote(&made, [maker, b' ', b' ', b' ']));
+            }
+        }
+    }
+}
+
+/// Nanoseconds a call in the fastest round.
+fn fastest(rounds: usize, mut call: impl FnMut(usize)) -> f64 {
+    let round = |_| {
+        let began = Instant::now();
+        (0..CALLS).for_each(&mut call);
+        began.elapsed().as_nanos() as f64 / CALLS as f64
+    };
+    (0..rounds).map(round).fold(f64::INFINITY, f64::min)
+}
+
+/// A row for each answer and a read, for 1 and 64 symbols, bids and offers alike.
+pub fn print(rounds: usize) {
+    println!("| query, ns a call | n | library, bids | library, offers | Engine, bids |");
+    println!("|---|---|---|---|---|");
+    for n in [1, 64] {
+        let mut library = Library::fresh(n as u32);
+        let mut engine = Engine::fresh(n as u32).expect("n is 1 to 64");
+        set_up(&mut library, n);
+        set_up(&mut engine, n);
+        // Symbols in an order that a processor does not foresee.
+        let symbols: Vec<_> = (0..CALLS).map(|call| symbol(call * 37 % n)).collect();
+        for (name, cents, looked) in ASKED {
+            let (bid, offer) = (TEN + cents * CENT, 2 * TEN - cents * CENT);
+            let time = |book: &dyn QuoteBook, side, price| {
+                let yes = name != "no";
+                fastest(rounds, |call| {
+                    let told = black_box(book.is_protected(&symbols[call], side, price));
+                    assert_eq!((told.number, told.yes, told.looked), (0, yes, looked));
+                })
+            };
+            let times = [
+                time(&library, b'B', bid),
+                time(&library, b'S', offer),
+                time(&engine, b'B', bid),
+            ];
+            let times = times.map(|time| format!("{time:.0}"));
+            println!("| {name} | {n} | {} |", times.join(" | "));
+        }
+        let mut publication = [0; 96];
+        let mut read = |book: &dyn QuoteBook| {
+            fastest(rounds, |call| {
+                assert_eq!(book.read(&symbols[call], black_box(&mut publication)), 0);
+            })
+        };
+        let (library, engine) = (read(&library), read(&engine));
+        println!("| a read, 96 bytes | {n} | {library:.0} | | {engine:.0} |");
+    }
+}
+
+#[cfg(test)]
+mod tests {
+    use super::*;
+
+    /// Both books give the answers that the rows are named for.
+    #[test]
+    fn the_rows_are_what_they_say() {
+        print(1);
+    }
+}
