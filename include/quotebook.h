@@ -143,19 +143,19 @@ uint8_t qb_take_block(uint8_t *book, size_t len, uint32_t line, const uint8_t *b
 uint8_t qb_read(const uint8_t *book, size_t len, const uint8_t *symbol, size_t symbol_len,
                 uint8_t *publication, size_t publication_len);
 
-/* Writes the block that carries count messages, laid end to end, under a sequence number. No book is needed. Answers 0, 71, 72, 73.
- * lengths: one for each message, messages_len in all.
- * block: 10 + 2 * count + messages_len bytes are needed, QB_BLOCK_MAX at most. The first report[1] are filled; the bytes behind stay.
- * report: number, bytes written (0 after a refusal); always filled. */
-uint8_t qb_write_block(const uint8_t *messages, size_t messages_len, const uint32_t *lengths, size_t count,
-                       uint32_t sequence, uint8_t *block, size_t block_len, uint64_t report[2]);
-
 /* Does a national candidate bid price or more (side B), or offer price or less (side S)? Answers 0, 1, 10, 74.
  * A candidate is an exchange's quote that counts, or for D the FINRA best; the price has six implied decimals, and 0 is a price.
  * report: number, 1 for yes or 0 for no, letters looked at (A is 1; 26 for no); always filled, 0 behind the number after a refusal.
  * The book isn't changed; no day need be open. */
 uint8_t qb_is_protected(const uint8_t *book, size_t len, const uint8_t *symbol, size_t symbol_len,
                         uint8_t side, uint64_t price, uint64_t report[3]);
+
+/* Writes the block that carries count messages, laid end to end, under a sequence number. No book is needed. Answers 0, 71, 72, 73.
+ * lengths: one for each message, messages_len in all.
+ * block: 10 + 2 * count + messages_len bytes are needed, QB_BLOCK_MAX at most. The first report[1] are filled; the bytes behind stay.
+ * report: number, bytes written (0 after a refusal); always filled. */
+uint8_t qb_write_block(const uint8_t *messages, size_t messages_len, const uint32_t *lengths, size_t count,
+                       uint32_t sequence, uint8_t *block, size_t block_len, uint64_t report[2]);
 
 #ifdef __cplusplus
 }

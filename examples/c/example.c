@@ -1,5 +1,5 @@
-/* One quote of the New York Stock Exchange becomes a block, the block goes into a book, and the best prices come out. `tests/c-example`
- * builds and runs it. */
+/* One quote of the New York Stock Exchange becomes a block, the block goes into a book, and the best prices come out; then a desk asks
+ * whether prices are protected. `tests/c-example` builds and runs it. */
 #include <stdio.h>
 #include <stdlib.h>
 #include <string.h>
@@ -31,7 +31,7 @@ int main(void) {
     static const uint8_t zt[] = "ZT         ";
     uint8_t quote[60], block[QB_BLOCK_MAX], answer[QB_ANSWER_LEN], publication[QB_PUBLICATION_LEN];
     const uint32_t lengths[] = {sizeof quote};                              /* one for each message */
-    uint64_t written[2], report[QB_REPORT_LEN];
+    uint64_t written[2], report[QB_REPORT_LEN], told[QB_PROTECTED_LEN];
     size_t len = (size_t)qb_book_len(1);
     uint8_t *book = (uint8_t *)malloc(len);
     if (!book || qb_make(book, len, 1) || qb_add_symbol(book, len, zt, QB_SYMBOL_LEN, 100)
@@ -49,6 +49,11 @@ int main(void) {
         const uint8_t *entry = publication + side * QB_ENTRY_LEN;
         double price = (double)get(entry + 4, 8) / 1e6;                     /* six implied decimals */
         printf("best %s: %c %.2f for %d\n", side ? "offer" : "bid", entry[0], price, (int)get(entry + 12, 4));
+    }
+    for (uint64_t price = 9990000; price <= 10010000; price += 10000) {     /* 9.99, 10.00, 10.01 */
+        if (qb_is_protected(book, len, zt, QB_SYMBOL_LEN, 'B', price, told)) return 1;
+        printf("a bid at %.2f or more: %s, letters looked at %d\n", (double)price / 1e6,
+               told[QB_PROTECTED_YES] ? "yes" : "no", (int)told[QB_PROTECTED_LOOKED]);
     }
     free(book);
     return 0;

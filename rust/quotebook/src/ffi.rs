@@ -160,13 +160,7 @@ pub fn write_block(
 }
 
 /// The result of the call is the report's number too.
-pub fn is_protected(
-    book: &[u8],
-    symbol: &[u8],
-    side: u8,
-    price: u64,
-    report: &mut [u64; 3],
-) -> u8 {
+pub fn is_protected(book: &[u8], symbol: &[u8], side: u8, price: u64, report: &mut [u64; 3]) -> u8 {
     // SAFETY: each pointer and its length are one slice's; the report has its three numbers; book and
     // symbol are only read.
     unsafe {

@@ -133,11 +133,7 @@ fn fit(random: &mut Random, call: &Call, memory: &[u8]) -> Call {
 }
 
 /// Makes a call; but for a block, the report has its number alone. A query's answer stands beside it.
-fn make_call(
-    book: &mut Guarded,
-    call: &Call,
-    buffer: &mut [u8],
-) -> (Report, Option<Protected>) {
+fn make_call(book: &mut Guarded, call: &Call, buffer: &mut [u8]) -> (Report, Option<Protected>) {
     let mut asked = None;
     let number = match call {
         Call::Make { n } => book.make(*n),

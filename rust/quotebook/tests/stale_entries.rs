@@ -478,20 +478,31 @@ fn a_query_goes_by_the_quotes() {
     let no = (false, 26);
     let book = claimed(self::book(), &ALL);
     for price in [0, 1_000_000, TEN, 99_000_000, u64::MAX] {
-        assert_eq!((asked(&book, b'B', price), asked(&book, b'S', price)), (no, no));
+        assert_eq!(
+            (asked(&book, b'B', price), asked(&book, b'S', price)),
+            (no, no)
+        );
     }
     for (line, message, looked) in [(N, quote(b'N', &Odd::IDLE), 14), (D, maker(), 4)] {
         let book = claimed(after(self::book(), line, message), &ALL);
         let (yes, offer) = ((true, looked), TEN + 2 * CENT);
-        assert_eq!([TEN, TEN + 1].map(|price| asked(&book, b'B', price)), [yes, no]);
-        assert_eq!([offer, offer - 1].map(|price| asked(&book, b'S', price)), [yes, no]);
+        assert_eq!(
+            [TEN, TEN + 1].map(|price| asked(&book, b'B', price)),
+            [yes, no]
+        );
+        assert_eq!(
+            [offer, offer - 1].map(|price| asked(&book, b'S', price)),
+            [yes, no]
+        );
     }
     // S and T have N's quote in their slots.
     let slot = |letter: u8| {
         let start = SLOTS.start + SLOT_LEN * usize::from(letter - b'A');
         in_page(ZT, start..start + SLOT_LEN)
     };
-    let mut bytes = after(self::book(), N, quote(b'N', &Odd::IDLE)).bytes().to_vec();
+    let mut bytes = after(self::book(), N, quote(b'N', &Odd::IDLE))
+        .bytes()
+        .to_vec();
     bytes.copy_within(slot(b'N'), slot(b'S').start);
     bytes.copy_within(slot(b'N'), slot(b'T').start);
     bytes[slot(b'N')].fill(0);

@@ -147,7 +147,11 @@ impl Coverage {
         };
         *self.answers.entry((name, answer.looked)).or_default() += 1;
         if price == 0 {
-            let name = if side == b'B' { "bids at 0" } else { "offers at 0" };
+            let name = if side == b'B' {
+                "bids at 0"
+            } else {
+                "offers at 0"
+            };
             let key = (name, u8::from(answer.yes));
             *self.answers.entry(key).or_default() += 1;
         }

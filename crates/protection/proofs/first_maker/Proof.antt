@@ -1,6 +1,7 @@
 -- `protection::first_maker` meets its contract.
 use Prim.Native.Nat.{_≤_, _-_}
 use mathlib.Core.Path.{_≡_, sym, _∙_}
+use native.Mathlib.Omega.{arith}
 use Rattle.lists.specs.Lists.{firstFrom}
 use Rattle.lists.proofs.Searches.{first-start, first-found, first-again, first-end}
 use Rattle.page.specs.Layout.{makerCount}
@@ -21,15 +22,15 @@ loop-holds c = (search needs, first-start _ _)
 returns : tie.Need-returns Inv-loop μ-loop
 returns c =
     let l = c .before .before in
-    first-found _ _ _ _ (l .loop-test .taken) (l .before .loop .inv .1) (sym (c .before .maker-yes .ensures) ∙ c .if1 .taken)
+    first-found _ _ _ _ (omega (arith, l .loop-test .taken)) (l .before .loop .inv .1) (sym (c .before .maker-yes .ensures) ∙ c .if1 .taken)
 
 loop-again : tie.Need-loop-again Inv-loop μ-loop
 loop-again c =
     let l = c .before .before in
-    (search needs, first-again _ _ _ _ (l .loop-test .taken) (l .before .loop .inv .1) (sym (c .before .maker-yes .ensures) ∙ c .if1 .left))
+    (search needs, first-again _ _ _ _ (omega (arith, l .loop-test .taken)) (l .before .loop .inv .1) (sym (c .before .maker-yes .ensures) ∙ c .if1 .left))
 
 returns-2 : tie.Need-returns-2 Inv-loop μ-loop
-returns-2 c = first-end _ _ _ _ (c .loop-test .left) (c .before .loop .inv .1)
+returns-2 c = first-end _ _ _ _ (omega (arith, c .loop-test .left)) (c .before .loop .inv .1)
 
 pub first-maker-spec : {M : Type 1} → statement M
 first-maker-spec =

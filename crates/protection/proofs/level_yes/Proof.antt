@@ -1,4 +1,5 @@
 -- `protection::level_yes` meets its contract.
+use mathlib.Core.Path.{refl}
 use Rattle.protection.proofs.StepLaws.{level-short, level-priceless, level-sized}
 use borrow.Author.Needs.{needs}
 use Rattle.protection.proofs.level_yes.Statement.{statement}
@@ -10,7 +11,7 @@ returns c = let q = c .before .before in level-priceless _ _ _ _ _ (q .before .l
 returns-2 : tie.Need-returns-2
 returns-2 c =
     let q = c .before .before .before in
-    level-sized _ _ _ _ _ (q .before .low64 .ensures) _ (q .reaches .ensures) (c .before .if2 .left) (c .before .before .if1 .taken) _ _ (c .low32 .ensures) (search needs)
+    level-sized _ _ _ _ _ (q .before .low64 .ensures) _ (q .reaches .ensures) (c .before .if2 .left) (c .before .before .if1 .taken) _ _ (c .low32 .ensures) refl
 
 returns-3 : tie.Need-returns-3
 returns-3 c = level-short _ _ _ _ _ (c .before .before .low64 .ensures) _ (c .before .reaches .ensures) (c .if1 .left)

@@ -1,4 +1,5 @@
 -- `protection::maker_yes` meets its contract.
+use mathlib.Core.Path.{refl}
 use Rattle.protection.proofs.StepLaws.{maker-short, maker-regular}
 use borrow.Author.Needs.{needs}
 use Rattle.protection.proofs.maker_yes.Statement.{statement}
@@ -7,7 +8,7 @@ use Rattle.protection.proofs.maker_yes.Tie as tie
 returns : tie.Need-returns
 returns c =
     let l = c .before .before in
-    maker-regular _ _ _ _ _ _ (l .before .before .cell-at .ensures) (l .before .in-quote .ensures .0) _ (l .level-yes .ensures) _ _ (c .before .if1 .taken) (c .get8 .ensures) (search needs)
+    maker-regular _ _ _ _ _ _ (l .before .before .cell-at .ensures) (l .before .in-quote .ensures .0) _ (l .level-yes .ensures) _ _ (c .before .if1 .taken) (c .get8 .ensures) refl
 
 returns-2 : tie.Need-returns-2
 returns-2 c =

@@ -2,6 +2,7 @@
 use Prim.Native.Nat.{_≤_, _+_, _-_}
 use mathlib.Core.Path.{_≡_, refl, sym, _∙_}
 use Rattle.field.specs.Ascii.{A, Z}
+use native.Mathlib.Omega.{arith}
 use Rattle.lists.specs.Lists.{firstFrom}
 use Rattle.lists.proofs.Searches.{first-found, first-again, first-end}
 use Rattle.page.specs.Layout.{letterCount}
@@ -24,15 +25,15 @@ loop-holds c = (search needs, search needs, refl)
 returns : tie.Need-returns Inv-loop μ-loop
 returns c =
     let l = c .before .before in
-    search-found _ _ _ _ (first-found _ _ _ _ (l .loop-test .taken) (l .before .loop .inv .2) (sym (c .before .letter-yes .ensures) ∙ c .if1 .taken))
+    search-found _ _ _ _ (first-found _ _ _ _ (omega (arith, l .loop-test .taken)) (l .before .loop .inv .2) (sym (c .before .letter-yes .ensures) ∙ c .if1 .taken))
 
 loop-again : tie.Need-loop-again Inv-loop μ-loop
 loop-again c =
     let l = c .before .before in
-    (search needs, search needs, first-again _ _ _ _ (l .loop-test .taken) (l .before .loop .inv .2) (sym (c .before .letter-yes .ensures) ∙ c .if1 .left))
+    (search needs, search needs, first-again _ _ _ _ (omega (arith, l .loop-test .taken)) (l .before .loop .inv .2) (sym (c .before .letter-yes .ensures) ∙ c .if1 .left))
 
 returns-2 : tie.Need-returns-2 Inv-loop μ-loop
-returns-2 c = search-none _ _ _ (first-end _ _ _ _ (c .loop-test .left) (c .before .loop .inv .2))
+returns-2 c = search-none _ _ _ (first-end _ _ _ _ (omega (arith, c .loop-test .left)) (c .before .loop .inv .2))
 
 pub search-spec : {M : Type 1} → statement M
 search-spec =

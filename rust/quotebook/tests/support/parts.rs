@@ -34,7 +34,9 @@ pub fn against_the_entry(book: &[u8], call: &Call, yes: bool) -> Option<&'static
         return None;
     };
     let entries = &book[in_page(listed_page(book, symbol)?, ENTRIES)];
-    let (entry, bids) = (&entries[16 * usize::from(*side == b'S')..][..16], *side == b'B');
+    let (bid, offer) = entries[..32].split_at(16);
+    let bids = *side == b'B';
+    let entry = if bids { bid } else { offer };
     let kept = number(&entry[4..12]);
     let reached = kept == *price || bids == (kept > *price);
     let says = entry != *b"    \0\0\0\0\0\0\0\0\0\0\0\0" && reached;

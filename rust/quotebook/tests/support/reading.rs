@@ -236,9 +236,10 @@ impl Reading {
                 shown.price == price || bids == (shown.price > price)
             })
         };
+        let makers = self.makers.iter().flatten();
         for (letter, (quote, _)) in (b'A'..).zip(&self.letters) {
             let yes = match letter {
-                b'D' => self.makers.iter().flatten().any(|(_, quote)| reaches(quote)),
+                b'D' => makers.clone().any(|(_, quote)| reaches(quote)),
                 b'S' => false,
                 _ => reaches(quote),
             };

@@ -89,9 +89,8 @@ fn d_stands_with_its_finra_best() {
         desk.code(D, maker("BB", (TEN + CENT, 1), NOTHING));
         desk.code(D, maker("CC", (TEN + 2 * CENT, 0), (TEN + 3 * CENT, 1)));
         desk.code(N, quote(&round(N, (TEN + 2 * CENT, 1), NOTHING)));
-        let asked = |desk: &Desk| {
-            [0, 1, 2, 3].map(|cents| desk.protected(b'B', TEN + cents * CENT))
-        };
+        let asked =
+            |desk: &Desk| [0, 1, 2, 3].map(|cents| desk.protected(b'B', TEN + cents * CENT));
         assert_eq!(asked(desk), [yes(4), yes(4), yes(14), NO]);
         assert_eq!(desk.protected(b'S', TEN + 3 * CENT), yes(4));
         // FINRA Close: no maker counts; Open: they do again.
@@ -111,7 +110,10 @@ fn a_price_of_0_is_a_price() {
         desk.code(A, quote(&round(A, (TEN, 0), NOTHING)));
         desk.code(N, quote(&round(N, (1, 1), (1, 1))));
         assert_eq!(desk.protected(b'B', 0), yes(14));
-        assert_eq!((desk.protected(b'S', 0), desk.protected(b'S', 1)), (NO, yes(14)));
+        assert_eq!(
+            (desk.protected(b'S', 0), desk.protected(b'S', 1)),
+            (NO, yes(14))
+        );
     });
 }
 
@@ -130,10 +132,16 @@ fn what_does_not_count_is_no_candidate() {
         // E admits the offer, F the bid.
         closing.condition = b'E';
         desk.code(N, quote(&closing));
-        assert_eq!([b'B', b'S'].map(|side| desk.protected(side, TEN)), [NO, yes(14)]);
+        assert_eq!(
+            [b'B', b'S'].map(|side| desk.protected(side, TEN)),
+            [NO, yes(14)]
+        );
         closing.condition = b'F';
         desk.code(N, quote(&closing));
-        assert_eq!([b'B', b'S'].map(|side| desk.protected(side, TEN)), [yes(14), NO]);
+        assert_eq!(
+            [b'B', b'S'].map(|side| desk.protected(side, TEN)),
+            [yes(14), NO]
+        );
     });
 }
 
