@@ -15,8 +15,9 @@ use Rattle.text.specs.Form.{symbolGood, letterGood}
 use Rattle.ranking.specs.declared.Side.{Side}
 use Rattle.ranking.specs.declared.Side.the-variants.{Bid, Offer}
 use Rattle.ranking.specs.declared.Candidate.{Candidate}
+use Rattle.entries.specs.Entries.{candidates}
 use Rattle.page.specs.Page.{occupied}
-use Rattle.protection.specs.Protection.{candidates, protection}
+use Rattle.protection.specs.Protection.{protection}
 use Rattle.protection.specs.declared.Protection.{Protection}
 use Rattle.update.specs.Parts.{Reading, blankPage, emptied}
 use Rattle.opening.specs.declared.Line.{Line}

@@ -45,6 +45,10 @@ asD c = record { name = D; price = c .price; size = c .size; time = c .time; con
 unfoldable pub letterCandidate : Side → (ℕ → Quote) → Option Candidate → ℕ → Option Candidate
 letterCandidate s quotes fb l = cond (eqb l D) (mapOption asD fb) (cond (eqb l S) none (candidateOf s l (quotes l)))
 
+-- a symbol's national candidates of a side by letter; `nationalBest` is the best of them
+unfoldable pub candidates : (ℕ → Quote) → List Maker → Side → ℕ → Option Candidate
+candidates quotes makers s l = letterCandidate s quotes (finraBest makers s) l
+
 -- "National best: the same over letters"
 unfoldable pub nationalBest : (ℕ → Quote) → (Side → Option Candidate) → Side → Option Candidate
 nationalBest quotes fb s = best (better s) (collect (letterCandidate s quotes (fb s)) letters)

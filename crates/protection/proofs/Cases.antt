@@ -13,11 +13,11 @@ use Rattle.ranking.specs.declared.Side.the-variants.{Bid, Offer}
 use Rattle.ranking.specs.Ranking.{lex, lower, higher, byPrice, better}
 use Rattle.quote.specs.declared.Quote.{Quote}
 use Rattle.quote.specs.Quote.{admits, counts, candidateOf, levelIn, levelBytes, quoteIn, quoteBytes}
-use Rattle.entries.specs.Entries.{letters, makerCandidate, finraBest, asD, letterCandidate}
+use Rattle.entries.specs.Entries.{letters, makerCandidate, finraBest, asD, letterCandidate, candidates}
 use Rattle.page.specs.Page.{quotesIn, makerIn, makerBytes, makersIn}
 use Rattle.page.specs.Layout.{pageLength, slotAt, cellAt}
 use Rattle.protection.specs.declared.Protection.{Protection}
-use Rattle.protection.specs.Protection.{candidates, firstYes, protection, pageCandidates}
+use Rattle.protection.specs.Protection.{firstYes, protection, pageCandidates}
 
 -- a bid and an offer, one lot each, time 7
 abbrev quoted : ℕ → ℕ → ℕ → Quote

@@ -21,11 +21,11 @@ use Rattle.ranking.specs.Ranking.{ahead, better, best}
 use Rattle.ranking.proofs.OrderLaws.{either, best-cons}
 use Rattle.ranking.proofs.RankingLaws.{better-weak, better-not-ahead}
 use Rattle.quote.specs.declared.Quote.{Quote}
-use Rattle.entries.specs.Entries.{Maker, letters, finraBest, nationalBest, entriesBy, entriesOf}
+use Rattle.entries.specs.Entries.{Maker, letters, finraBest, nationalBest, entriesBy, entriesOf, candidates}
 use Rattle.page.specs.Page.{quotesIn, makersIn, occupied, pageEntries}
 use Rattle.page.specs.Layout.{letterCount}
 use Rattle.protection.specs.declared.Protection.{Protection}
-use Rattle.protection.specs.Protection.{candidates, reaches, answersYes, firstYes, lookedAt, protection, pageCandidates}
+use Rattle.protection.specs.Protection.{reaches, answersYes, firstYes, lookedAt, protection, pageCandidates}
 
 -- ---- the best reaches a price exactly if one of the candidates does
 

@@ -23,7 +23,7 @@ use Rattle.quote.specs.declared.Quote.{Quote}
 use Rattle.quote.specs.Quote.{sideOf, admits, counts, levelCandidate, candidateOf, levelIn, quoteIn, quoteLength, levelLength}
 use Rattle.quote.proofs.QuoteLaws.{level-at}
 use Rattle.text.specs.Form.{nameLength}
-use Rattle.entries.specs.Entries.{asD, makerCandidate, finraBest, letterCandidate}
+use Rattle.entries.specs.Entries.{asD, makerCandidate, finraBest, letterCandidate, candidates}
 use Rattle.page.specs.Page.{makerIn, makersIn, occupied}
 use Rattle.page.specs.Layout.{cellLength, slotAt, cellAt, inQuote, makerCount, letterCount}
 use Rattle.walk.specs.code.Walk.{makerAt}
@@ -31,7 +31,7 @@ use Rattle.walk.proofs.ReadLaws.{quote-side, quote-condition, quotes-at}
 use Rattle.walk.proofs.StepLaws.{maker-r, maker-other}
 use Rattle.walk.proofs.WalkLaws.{finra-is}
 use Rattle.protection.specs.declared.Protection.{Protection}
-use Rattle.protection.specs.Protection.{candidates, reaches, answersYes, firstYes, lookedAt, protection, pageCandidates}
+use Rattle.protection.specs.Protection.{reaches, answersYes, firstYes, lookedAt, protection, pageCandidates}
 use Rattle.protection.specs.code.Search.{levelYes, makerYes, letterYes}
 use Rattle.protection.proofs.ProtectionLaws.{yes-best}
 

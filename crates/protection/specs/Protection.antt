@@ -12,15 +12,10 @@ use Rattle.lists.specs.declared.Found.the-variants.{At, Nothing}
 use Rattle.ranking.specs.declared.Side.{Side}
 use Rattle.ranking.specs.declared.Side.the-variants.{Bid, Offer}
 use Rattle.ranking.specs.declared.Candidate.{Candidate}
-use Rattle.quote.specs.declared.Quote.{Quote}
-use Rattle.entries.specs.Entries.{Maker, finraBest, letterCandidate}
+use Rattle.entries.specs.Entries.{candidates}
 use Rattle.page.specs.Page.{quotesIn, makersIn, occupied}
 use Rattle.page.specs.Layout.{letterCount}
 use Rattle.protection.specs.declared.Protection.{Protection}
-
--- a symbol's national candidates of a side by letter, D with its FINRA best; `nationalBest` is the best of them
-unfoldable pub candidates : (ℕ → Quote) → List Maker → Side → ℕ → Option Candidate
-candidates quotes makers s l = letterCandidate s quotes (finraBest makers s) l
 
 -- "stand with a bid at or above a given price (or an offer at or below)": x, where p is asked for
 abbrev pub reaches : Side → ℕ → ℕ → Bool

@@ -13,10 +13,9 @@ use Rattle.message.specs.Message.{Part}
 use Rattle.ranking.specs.declared.Side.{Side}
 use Rattle.ranking.specs.declared.Candidate.{Candidate}
 use Rattle.quote.specs.declared.Quote.{Quote}
-use Rattle.entries.specs.Entries.{letterCandidate, entriesOf, entriesBy, finraBest, oddBest}
+use Rattle.entries.specs.Entries.{letterCandidate, candidates, entriesOf, entriesBy, finraBest, oddBest}
 use Rattle.entries.specs.Publication.{publication}
 use Rattle.page.specs.Page.{occupied}
-use Rattle.protection.specs.Protection.{candidates}
 use Rattle.makers.specs.Makers.{findMaker}
 use Rattle.update.specs.Parts.{Reading, knownBy, knownOf}
 use Rattle.work.specs.Work.{Listed, isListed, lotOf, findReading, listedOf}

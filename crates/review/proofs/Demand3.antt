@@ -6,8 +6,8 @@
 --   `blocksAreBytes` (review/specs/Lists.antt): each element of each block is a byte.
 -- Assumes nothing.
 use Prim.Native.Nat.{ℕ}
-use mathlib.Core.Path.{_≡_, ap, _∙_}
-use mathlib.Core.Bool.{true, false}
+use mathlib.Core.Path.{_≡_, refl, ap, _∙_}
+use mathlib.Core.Bool.{Bool, true, false, cond}
 use mathlib.Core.List.{List}
 use lib.ListN.{length}
 use Rattle.field.specs.Field.{beBytes}
@@ -16,9 +16,10 @@ use Rattle.lists.proofs.Members.{In}
 use Rattle.entries.specs.Entries.{entriesOf}
 use Rattle.entries.proofs.LengthLaws.{length-publication}
 use Rattle.line.specs.Line.{done}
-use Rattle.calls.specs.Call.{Call, make, read, call, answers, bytesAfter}
+use Rattle.calls.specs.Call.{Call, make, read, protected, numberOf, call, answers, bytesAfter}
+use Rattle.calls.proofs.ProtectedLaws.{protected-keeps}
 use Rattle.work.specs.Work.{Listed}
-use Rattle.review.specs.Reviewer.{quoteOf, makersOf, levelsOf, parts, reviewedBy, reviewed, freshReview, reviewAnswers, reviewAfter}
+use Rattle.review.specs.Reviewer.{quoteOf, makersOf, levelsOf, parts, reviewedBy, reviewed, Review, freshReview, restAfter, symbolsAfter, historyAfter, reviewCall, reviewAnswers, reviewAfter}
 use Rattle.review.specs.Lists.{blocksAreBytes}
 use Rattle.review.specs.Numbers.{numbersOf}
 use Rattle.review.proofs.RunLaws.{answers-agree, reads-agree}
@@ -58,3 +59,12 @@ refusal-changes-nothing b c e = refused-same b c e
 -- every number is one of document 01's for that call
 pub numbers-known : (b : List ℕ) (c : Call) → member (numbersOf c) (call b c .answer .number) ≡ true
 numbers-known b c = ap (member (numbersOf c)) (number-told b c) ∙ number-known b c
+
+-- a query alters nothing, refused or not: no byte of the book, and nothing that the reviewer holds
+pub query-alters-nothing : (b : List ℕ) (v : Review) (s : List ℕ) (m x : ℕ) → (call b (protected s m x) .bytes ≡ b) × (reviewCall v (protected s m x) ≡ v)
+unfolding reviewCall restAfter symbolsAfter historyAfter
+query-alters-nothing b v s m x = (protected-keeps b s m x, go (done (numberOf (v .rest) (v .symbols) (protected s m x))))
+  where
+    go : (t : Bool) → cond t v v ≡ v
+    go true = refl
+    go false = refl

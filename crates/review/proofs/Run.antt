@@ -1,5 +1,5 @@
--- Demand 3 of whatever carries calls out: if each call leaves the bytes and gives the answer of `call`, as the contracts of the seven functions of
--- `book` say, then every list of calls is answered as the reviewer answers it.
+-- Demand 3 of whatever carries calls out: if each call leaves the bytes and gives the answer of `call`, as the contracts of the calls say,
+-- then every list of calls is answered as the reviewer answers it.
 -- Assumes nothing.
 use Prim.Native.Nat.{ℕ}
 use mathlib.Core.Path.{_≡_, refl, ap, _∙_}

@@ -15,9 +15,8 @@ use Rattle.ranking.specs.declared.Candidate.{Candidate}
 use Rattle.quote.specs.declared.Quote.{Quote}
 use Rattle.quote.specs.Quote.{noQuote, emptyQuote, withCondition}
 use Rattle.levels.specs.Levels.{Standing, noLevels, oddOn}
-use Rattle.entries.specs.Entries.{Maker, entriesOf}
+use Rattle.entries.specs.Entries.{Maker, entriesOf, candidates}
 use Rattle.entries.specs.Publication.{publication}
-use Rattle.protection.specs.Protection.{candidates}
 use Rattle.block.specs.Block.{messagesOf}
 use Rattle.message.specs.declared.Kind.{Kind}
 use Rattle.message.specs.declared.Kind.the-variants as kind
