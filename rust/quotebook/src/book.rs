@@ -78,7 +78,7 @@ impl Book {
         side: Side,
         price: Price,
     ) -> Result<Protection, Refusal> {
-        let symbol = filled_up(symbol.as_ref());
+        let symbol = symbol_bytes(symbol);
         let told = lent::is_protected(&self.memory, &symbol, side.mark(), price.0);
         Protection::new(side, price, told)
     }
