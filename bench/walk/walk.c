@@ -1,5 +1,5 @@
 // The same walk in plain C, over the same bytes: the yardstick of walk.rs. Letters in order, both sides together, D with its makers' best at
-// its place, price before eligibility before size and time, one odd cell for each letter and side.
+// its place, price before eligibility before size and time, one odd cell for each letter and side, which ranks as T-07 says.
 #include <stdint.h>
 #include <string.h>
 
@@ -37,15 +37,20 @@ static inline int wins(const Best *b, uint32_t size, uint64_t time, uint32_t nam
     return name < b->name;
 }
 
-// a level (any condition) or a side of a quote (its condition must admit it)
-static inline void take(const uint8_t *p, int bid, int quote, uint8_t condition, uint32_t name, Best *b) {
+// whether a letter's odd lots rank: D's while its FINRA best has that side, another letter's by its condition, 0 being no quote
+static inline int ranks(int bid, uint8_t condition, uint32_t name, const Best *finra) {
+    return name == 'D' ? finra->price != 0 : condition == 0 || admits(bid, condition);
+}
+
+// a side of a quote, whose condition must admit it; with a FINRA best a letter's odd lots, which must rank
+static inline void take(const uint8_t *p, int bid, uint8_t condition, uint32_t name, const Best *finra, Best *b) {
     uint64_t price = low64(p), r = rank(bid, price), top = rank(bid, b->price);
     if (r < top || price == 0) return;
-    if (quote && !admits(bid, condition)) return;
+    if (finra ? !ranks(bid, condition, name, finra) : !admits(bid, condition)) return;
     uint32_t size = low32(p + 8);
     uint64_t time = low64(p + 12);
     if (size == 0) return;
-    if (r > top || wins(b, size, time, name)) *b = (Best){price, time, size, name, condition};
+    if (r > top || wins(b, size, time, name)) *b = (Best){price, time, size, name, finra ? ' ' : condition};
 }
 
 static inline void take_d(int bid, const Best *f, Best *b) {
@@ -59,8 +64,8 @@ static inline void take_makers(const uint8_t *page, Best e[6]) {
         const uint8_t *c = page + CELLS + i * CELL;
         if (c[4] != 'L' && c[4] != 'R') continue;
         uint32_t name = get32(c);
-        take(c + 5, 1, 1, c[4], name, &e[2]);
-        take(c + 25, 0, 1, c[4], name, &e[3]);
+        take(c + 5, 1, c[4], name, 0, &e[2]);
+        take(c + 25, 0, c[4], name, 0, &e[3]);
     }
 }
 
@@ -75,11 +80,11 @@ static inline void walk(const uint8_t *page, Best e[6]) {
             take_d(1, &e[2], &e[0]);
             take_d(0, &e[3], &e[1]);
         } else {
-            take(s + 1, 1, 1, s[0], l, &e[0]);
-            take(s + 21, 0, 1, s[0], l, &e[1]);
+            take(s + 1, 1, s[0], l, 0, &e[0]);
+            take(s + 21, 0, s[0], l, 0, &e[1]);
         }
-        take(s + 41, 1, 0, ' ', l, &odd[0]);
-        take(s + 121, 0, 0, ' ', l, &odd[1]);
+        take(s + 41, 1, s[0], l, &e[2], &odd[0]);
+        take(s + 121, 0, s[0], l, &e[3], &odd[1]);
     }
     if (rank(1, e[0].price) < rank(1, odd[0].price)) e[4] = odd[0];
     if (rank(0, e[1].price) < rank(0, odd[1].price)) e[5] = odd[1];

@@ -1,3 +1,4 @@
+pub mod Closed
 pub mod FinraLaws
 pub mod LengthLaws
 pub mod NoneLaws

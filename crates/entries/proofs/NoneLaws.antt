@@ -11,9 +11,10 @@ use Rattle.ranking.specs.declared.Side.{Side}
 use Rattle.ranking.specs.declared.Side.the-variants.{Bid, Offer}
 use Rattle.ranking.specs.declared.Candidate.{Candidate}
 use Rattle.ranking.specs.Ranking.{better, best}
+use Rattle.quote.specs.declared.Quote.{Quote}
 use Rattle.quote.specs.Quote.{noQuote, counts, candidateOf}
 use Rattle.levels.specs.Levels.{noLevels, sideLevels}
-use Rattle.entries.specs.Entries.{Entries, letters, finraBest, letterCandidate, nationalBest, oddCandidate, letterLevels, oddBest, entriesBy, entriesOf}
+use Rattle.entries.specs.Entries.{Entries, letters, finraBest, letterCandidate, nationalBest, oddCandidate, ranks, letterLevels, oddBest, entriesBy, entriesOf}
 use Rattle.entries.specs.Publication.{noEntries, publication}
 use Rattle.field.specs.Ascii.{D, S}
 
@@ -49,14 +50,15 @@ no-letter s l = rw (no-candidate s l) (go (eqb l D) (eqb l S))
     go false true = refl
     go false false = refl
 
-no-levels : (s : Side) (l : ℕ) → letterLevels s (λ l. noLevels) l ≡ []
+no-levels : (s : Side) (quotes : ℕ → Quote) (fb : Option Candidate) (l : ℕ) → letterLevels s quotes fb (λ l. noLevels) l ≡ []
 unfolding letterLevels
-no-levels s l = go (eqb l S) s
+no-levels s quotes fb l = go (eqb l S) (ranks s quotes fb l) s
   where
-    go : (t : Bool) (s : Side) → cond t [] (sideLevels s noLevels) ≡ []
-    go true s = refl
-    go false Bid = refl
-    go false Offer = refl
+    go : (t u : Bool) (s : Side) → cond t [] (cond u (sideLevels s noLevels) []) ≡ []
+    go true u s = refl
+    go false true Bid = refl
+    go false true Offer = refl
+    go false false s = refl
 
 pub none-entries : entriesOf (λ l. noQuote) [] (λ l. noLevels) ≡ noBest
 unfolding entriesOf entriesBy finraBest nationalBest oddBest
@@ -68,6 +70,6 @@ none-entries =
       odd =
           fun-ext (λ s.
           ap (best (better s))
-          (gather-none (λ l. collect (oddCandidate s (nationalBest (λ l. noQuote) (finraBest []) s) l) (letterLevels s (λ l. noLevels) l))
-          (λ l. ap (collect (oddCandidate s (nationalBest (λ l. noQuote) (finraBest []) s) l)) (no-levels s l)) letters)) i;
+          (gather-none (λ l. collect (oddCandidate s (nationalBest (λ l. noQuote) (finraBest []) s) l) (letterLevels s (λ l. noQuote) (finraBest [] s) (λ l. noLevels) l))
+          (λ l. ap (collect (oddCandidate s (nationalBest (λ l. noQuote) (finraBest []) s) l)) (no-levels s (λ l. noQuote) (finraBest [] s) l)) letters)) i;
     }

@@ -6,13 +6,13 @@ use mathlib.Core.List.{List, []}
 use mathlib.Core.Option.{Option, none, some}
 use lib.Dec.{eqb}
 use Rattle.field.specs.Ascii.{A, D, S, space}
-use Rattle.lists.specs.Lists.{mapOption, collect, gather, range}
+use Rattle.lists.specs.Lists.{mapOption, isSome, collect, gather, range}
 use Rattle.ranking.specs.declared.Side.{Side}
 use Rattle.ranking.specs.declared.Candidate.{Candidate}
 use Rattle.ranking.specs.Ranking.{ahead, better, best}
 use Rattle.quote.specs.declared.Level.{Level}
 use Rattle.quote.specs.declared.Quote.{Quote}
-use Rattle.quote.specs.Quote.{candidateOf, levelCandidate}
+use Rattle.quote.specs.Quote.{admits, isQuoted, candidateOf, levelCandidate}
 use Rattle.levels.specs.Levels.{Standing, sideLevels}
 
 -- a maker's standing quote; the name is its four bytes as one number, so that lower names are lower numbers
@@ -61,15 +61,22 @@ beyond s (some c) p = ahead s p (c .price)
 unfoldable pub oddCandidate : Side → Option Candidate → ℕ → Level → Option Candidate
 oddCandidate s nb l v = cond (beyond s nb (v .price)) (some (levelCandidate l space v)) none
 
-unfoldable pub letterLevels : Side → (ℕ → Standing) → ℕ → List Level
-letterLevels s levels l = cond (eqb l S) [] (sideLevels s (levels l))
+-- "A level now ranks only while its letter's latest round quote admits that side by its condition, whatever price and size it shows. A letter other
+-- than D with no round quote since Start of Day ranks as before. D ranks only while its FINRA best has that side, whatever quotes it had" (document
+-- 02, T-07)
+unfoldable pub ranks : Side → (ℕ → Quote) → Option Candidate → ℕ → Bool
+ranks s quotes fb l = cond (eqb l D) (isSome fb) (cond (isQuoted (quotes l .condition)) (admits s (quotes l .condition)) true)
 
--- "Odd best: over all letters' levels", ordered likewise
-unfoldable pub oddBest : (ℕ → Standing) → (Side → Option Candidate) → Side → Option Candidate
-oddBest levels nb s = best (better s) (gather (λ l. collect (oddCandidate s (nb s) l) (letterLevels s levels l)) letters)
+-- a letter's levels that rank; S, the processor, has none
+unfoldable pub letterLevels : Side → (ℕ → Quote) → Option Candidate → (ℕ → Standing) → ℕ → List Level
+letterLevels s quotes fb levels l = cond (eqb l S) [] (cond (ranks s quotes fb l) (sideLevels s (levels l)) [])
+
+-- "Odd best: over all letters' levels", those that rank, ordered likewise
+unfoldable pub oddBest : (ℕ → Quote) → (Side → Option Candidate) → (ℕ → Standing) → (Side → Option Candidate) → Side → Option Candidate
+oddBest quotes fb levels nb s = best (better s) (gather (λ l. collect (oddCandidate s (nb s) l) (letterLevels s quotes (fb s) levels l)) letters)
 
 unfoldable pub entriesBy : (ℕ → Quote) → (Side → Option Candidate) → (ℕ → Standing) → Entries
-entriesBy quotes fb levels = record { national = nationalBest quotes fb; finra = fb; odd = oddBest levels (nationalBest quotes fb) }
+entriesBy quotes fb levels = record { national = nationalBest quotes fb; finra = fb; odd = oddBest quotes fb levels (nationalBest quotes fb) }
 
 unfoldable pub entriesOf : (ℕ → Quote) → List Maker → (ℕ → Standing) → Entries
 entriesOf quotes makers levels = entriesBy quotes (finraBest makers) levels

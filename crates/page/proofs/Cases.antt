@@ -11,7 +11,7 @@ use Rattle.ranking.specs.Ranking.{lex, lower, higher, byPrice, better}
 use Rattle.quote.specs.declared.Quote.{Quote}
 use Rattle.quote.specs.Quote.{noLevel, admits, counts, candidateOf, levelIn, levelBytes, quoteIn, quoteBytes}
 use Rattle.levels.specs.Levels.{ranked, cellsIn, sideIn, levelsIn}
-use Rattle.entries.specs.Entries.{letters, makerCandidate, finraBest, asD, letterCandidate, nationalBest, oddCandidate, letterLevels, oddBest, entriesBy, entriesOf}
+use Rattle.entries.specs.Entries.{letters, makerCandidate, finraBest, asD, letterCandidate, nationalBest, oddCandidate, ranks, letterLevels, oddBest, entriesBy, entriesOf}
 use Rattle.entries.specs.Publication.{noEntry, publication}
 use Rattle.page.specs.Page.{quotesIn, levelsFor, makerIn, makerBytes, makersIn, pageEntries}
 use Rattle.page.specs.Cut.{noneBehind, noMakers, cut}
@@ -73,6 +73,6 @@ pub record Cases : Type 0 where
   pub behind-z : stopped 90 ≡ shown (national 90 24 4) (maker 21 2) noEntry
 
 pub cases : Cases
-unfolding letters makerCandidate finraBest asD letterCandidate nationalBest oddCandidate letterLevels oddBest entriesBy entriesOf noEntry publication quotesIn levelsFor makerIn makerBytes makersIn pageEntries noneBehind noMakers cut member be beBytes part field splice le leBytes low lex lower higher byPrice better admits counts candidateOf levelIn levelBytes quoteIn quoteBytes ranked cellsIn sideIn levelsIn
+unfolding letters makerCandidate finraBest asD letterCandidate nationalBest oddCandidate ranks letterLevels oddBest entriesBy entriesOf noEntry publication quotesIn levelsFor makerIn makerBytes makersIn pageEntries noneBehind noMakers cut member be beBytes part field splice le leBytes low lex lower higher byPrice better admits counts candidateOf levelIn levelBytes quoteIn quoteBytes ranked cellsIn sideIn levelsIn
 cases =
     record { behind-a = refl; behind-c = refl; behind-d = refl; behind-m = refl; behind-n = refl; behind-s = refl; behind-z = refl }

@@ -1,4 +1,5 @@
 pub mod BlankLaws
 pub mod Cases
+pub mod Closed
 pub mod CutLaws
 pub mod FrameLaws

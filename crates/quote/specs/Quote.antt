@@ -18,9 +18,17 @@ use Rattle.quote.specs.declared.Quote.{Quote}
 abbrev pub noLevel : Level
 noLevel = record { price = 0; size = 0; time = 0 }
 
+-- the condition of no quote, which Start of Day leaves
+abbrev pub noCondition : ℕ
+noCondition = 0
+
 -- no quote: no condition, and so neither side counts
 abbrev pub noQuote : Quote
-noQuote = record { condition = 0; bid = noLevel; offer = noLevel }
+noQuote = record { condition = noCondition; bid = noLevel; offer = noLevel }
+
+-- "a round quote since Start of Day" (document 02, T-07), by its condition: any byte but that of no quote, in the table below or not
+abbrev pub isQuoted : ℕ → Bool
+isQuoted c = not (eqb c noCondition)
 
 abbrev pub sideOf : Side → Quote → Level
 sideOf Bid q = q .bid

@@ -3,7 +3,7 @@ ghost use mathlib.Core.Path.{_≡_};
 ghost use Prim.Native.Nat.{_+_, _≤_};
 ghost use lib.ListN.{length};
 ghost use Rattle.field.specs.Field.{part, splice};
-ghost use Rattle.quote.specs.Quote.{levelLength, quoteLength, admits, isBid, withTime, timeKept, quoteOver, levelIn, levelBytes, quoteIn, quoteBytes};
+ghost use Rattle.quote.specs.Quote.{levelLength, quoteLength, isQuoted, admits, isBid, withTime, timeKept, quoteOver, levelIn, levelBytes, quoteIn, quoteBytes};
 use ranking::Side;
 
 /// One side of a quote, or one odd-lot level. Sizes are round lots in a quote and shares in a level.
@@ -88,6 +88,8 @@ impl Quote {
     pub const BID: usize = 1;
 
     pub const OFFER: usize = Quote::BID + Level::LEN;
+    /// The condition of no quote, which Start of Day leaves.
+    pub const NO_CONDITION: u8 = 0;
 
     /// The quote that stands in a page at `at`.
     pub fn get(page: &[u8], at: usize) -> Quote
@@ -135,6 +137,13 @@ impl Quote {
         let new = self.over(standing);
         new.put(page, at);
     }
+}
+
+/// Whether a condition is that of a quote: a letter whose condition is another has none since Start of Day.
+pub fn is_quoted(condition: u8) -> bool
+    ensures { λ r. ⌜ r ≡ isQuoted condition ⌝ }
+{
+    condition != Quote::NO_CONDITION
 }
 
 /// Whether a condition admits a side: A, B, H, O, R, W both, E the offer, F the bid, every other byte neither.

@@ -10,10 +10,8 @@ use lib.ListN.{length}
 use Rattle.lists.specs.Lists.{isSome}
 use Rattle.lists.proofs.Tests.{Cut, equal, apart, cut}
 use Rattle.message.specs.Message.{Part}
-use Rattle.ranking.specs.declared.Side.{Side}
-use Rattle.ranking.specs.declared.Candidate.{Candidate}
 use Rattle.quote.specs.declared.Quote.{Quote}
-use Rattle.entries.specs.Entries.{letterCandidate, candidates, entriesOf, entriesBy, finraBest, oddBest}
+use Rattle.entries.specs.Entries.{letterCandidate, candidates, entriesOf, entriesBy, finraBest}
 use Rattle.entries.specs.Publication.{publication}
 use Rattle.page.specs.Page.{occupied}
 use Rattle.makers.specs.Makers.{findMaker}
@@ -21,7 +19,7 @@ use Rattle.update.specs.Parts.{Reading, knownBy, knownOf}
 use Rattle.work.specs.Work.{Listed, isListed, lotOf, findReading, listedOf}
 use Rattle.review.specs.Reviewer.{roundsOf, quoteOf, makerOf, makersOf, levelsOf, reviewedBy, knownTo}
 use Rattle.review.proofs.CellLaws.{Sole}
-use Rattle.review.proofs.TimeLaws.{held, held-letter, held-national}
+use Rattle.review.proofs.TimeLaws.{held, held-letter, held-entries}
 use Rattle.review.proofs.HistoryLaws.{same-count, same-finra}
 use Rattle.review.proofs.SilentLaws.{Silent, silent-maker, silent-makers, silent-levels}
 use Rattle.page.specs.Layout.{makerCount}
@@ -37,14 +35,13 @@ pub record Good (h : List Part) (r : Reading) : Type 0 where
 
 -- then its entries are the 96 bytes that the reviewer works out
 pub good-reviewed : (h : List Part) (r : Reading) → Good h r → r .entries ≡ reviewedBy h (r .symbol)
-unfolding reviewedBy entriesOf entriesBy quoteOf
+unfolding reviewedBy entriesOf quoteOf
 good-reviewed h r g =
     let rounds : ℕ → List Quote = roundsOf h (r .symbol) in
     let q : r .quotes ≡ (λ l. held (rounds l)) = fun-ext (g .quotes) in
     let v : r .levels ≡ levelsOf h (r .symbol) = fun-ext (g .levels) in
     let b : finraBest (occupied (r .cells)) ≡ finraBest (makersOf h (r .symbol)) = same-finra h (r .symbol) (r .cells) (g .sole) (g .makers) in
-    let by : (Side → Option Candidate) → List ℕ = λ n. publication (record { national = n; finra = finraBest (makersOf h (r .symbol)); odd = oddBest (levelsOf h (r .symbol)) n }) in
-    g .entries ∙ (λ i. publication (entriesBy (q i) (b i) (v i))) ∙ ap by (held-national rounds (finraBest (makersOf h (r .symbol))))
+    g .entries ∙ (λ i. publication (entriesBy (q i) (b i) (v i))) ∙ ap publication (held-entries rounds (finraBest (makersOf h (r .symbol))) (levelsOf h (r .symbol)))
 
 -- and its national candidates are those that the reviewer works out
 pub good-candidates : (h : List Part) (r : Reading) → Good h r → candidates (r .quotes) (occupied (r .cells)) ≡ candidates (quoteOf h (r .symbol)) (makersOf h (r .symbol))

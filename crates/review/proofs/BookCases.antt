@@ -18,6 +18,7 @@ use Rattle.review.proofs.Bounds as Bounds
 use Rattle.review.proofs.Times as Times
 use Rattle.review.proofs.FinraOddLots as FinraOddLots
 use Rattle.review.proofs.Protected as Protected
+use Rattle.review.proofs.Closed as Closed
 
 abbrev pub OnBook : List Row → Type 0
 OnBook [] = Unit {0}
@@ -63,3 +64,7 @@ finraOddLots = on-book FinraOddLots.table refl FinraOddLots.cases
 pub protected : OnBook Protected.table
 unfolding Protected.table blocksAreBytes every beBytes
 protected = on-book Protected.table refl Protected.cases
+
+pub closed : OnBook Closed.table
+unfolding Closed.table blocksAreBytes every beBytes
+closed = on-book Closed.table refl Closed.cases

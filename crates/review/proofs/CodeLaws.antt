@@ -1,18 +1,23 @@
 -- What the code of a message says: which checks it has passed.
 -- Assumes nothing.
 use Prim.Native.Nat.{ℕ, _≤_, _<_}
-use mathlib.Core.Path.{_≡_, refl}
+use mathlib.Core.Path.{_≡_, refl, sym, ap, _∙_}
 use mathlib.Core.Bool.{Bool, true, false, cond}
 use mathlib.Core.List.{List}
 use native.Mathlib.Omega.{arith}
 use lib.Dec.{eqb, lit<, lit≤}
+use lib.ListN.{length}
 use Rattle.lists.specs.Lists.{member}
 use Rattle.quote.specs.declared.Quote.{Quote}
 use Rattle.levels.specs.Levels.{oddCode}
 use Rattle.text.specs.Form.{makerGood}
+use Rattle.message.specs.declared.Kind.{Kind}
+use Rattle.message.specs.declared.Kind.the-variants as kind
+use Rattle.message.specs.declared.Message.{Message}
 use Rattle.message.specs.declared.Message.the-variants as says
 use Rattle.message.specs.declared.OddPart.{OddPart}
-use Rattle.message.specs.Message.{quoteAt, makerName, oddOf, sideBad, roundConditions, makerConditions, priceFault, quoteFault, Known, makerCode, codeBy, makerText}
+use Rattle.message.specs.Message.{kindOf, quoteAt, makerName, oddAt, oddOf, sideBad, roundConditions, makerConditions, priceFault, quoteFault, messageOf, Known, makerCode, codeBy, codeOf, Part, wholeBy, makerText, roundLotItems}
+use Rattle.message.proofs.SpokenLaws.{Spoken, refused, idle, finra, round, odd, maker, spoken}
 
 -- ---- checks that were passed
 
@@ -63,6 +68,9 @@ module _ (e : Known) (letter : ℕ) (m : List ℕ) (c : ℕ) (t : Takes c) where
       let a = listed (e .listed) _ q in
       record { known = a .0; odd = fault roundConditions (quoteAt m) true _ (a .1) .1 }
 
+  pub round-condition : (o : OddPart) → codeBy e letter m (says.RoundLot (quoteFault roundConditions (quoteAt m) 0) (quoteAt m) o) ≡ c → member roundConditions (quoteAt m .condition) ≡ true
+  round-condition o q = fault roundConditions (quoteAt m) true _ (listed (e .listed) _ q .1) .0
+
   pub odd-taken : (o : OddPart) → codeBy e letter m (says.OddLot o) ≡ c → OddTaken o
   odd-taken o q = let a = listed (e .listed) _ q in record { known = a .0; odd = a .1 }
 
@@ -77,3 +85,19 @@ module _ (e : Known) (letter : ℕ) (m : List ℕ) (c : ℕ) (t : Takes c) where
       let a = listed (e .listed) _ q in
       let b = fault makerConditions (quoteAt m) (makerGood (makerText m)) _ (a .1) in
       record { known = a .0; condition = b .0; room = b .1 }
+
+  -- a Q K that is taken has 60 bytes or more; it alone has two parts
+  pub long : codeOf e letter m ≡ c → kindOf m ≡ kind.RoundLot → roundLotItems ≤ length m
+  unfolding codeOf oddAt Takes
+  long x r = go (messageOf letter m) x (spoken letter m)
+    where
+      count : (k : Kind) → kindOf m ≡ k → length (wholeBy m k) ≡ 2
+      count k i = ap (λ (j : Kind). length (wholeBy m j)) (sym i ∙ r)
+
+      go : (y : Message) → codeBy e letter m y ≡ c → Spoken letter m y → roundLotItems ≤ length m
+      go y q (refused k lo hi) = absurd (omega (arith, t (omega arith)))
+      go y q (idle w) = absurd (omega (arith, count (kindOf m) refl, ap (λ (ps : List Part). length ps) w))
+      go y q (finra k d w) = absurd (omega (arith, count (kindOf m) refl, ap (λ (ps : List Part). length ps) w))
+      go y q (round l k n) = omega (arith, n)
+      go y q (odd l k n) = absurd (omega (arith, count (kind.OddLot _) k))
+      go y q (maker k n) = absurd (omega (arith, count kind.Maker k))

@@ -14,6 +14,7 @@ pub mod CallLaws
 pub mod AnswerLaws
 pub mod RunLaws
 pub mod Demand3
+pub mod QuotedLaws
 pub mod FrameLaws
 pub mod PlaceLaws
 pub mod Protected
@@ -29,6 +30,7 @@ pub mod Checks
 pub mod Bounds
 pub mod Times
 pub mod FinraOddLots
+pub mod Closed
 pub mod Openings
 pub mod Statements
 pub mod BookCases

@@ -50,7 +50,7 @@ table =
     ∷ inDay
     (onN 1 (levels 32 1 1 (item 10000000 5 ++ item 10020000 5) ∷ []) ∷ bidAt 1 ∷ offerAt 10020000
     ∷ under 2 67 (under 3 69 (under 4 70 (onN 5 (roundOf 78 7 82 10000000 0 10020000 0 noOdd ∷ []) ∷ bidAt 10000000 ∷ offerAt 10020000 ∷ []))))
-    (accepted 2 1 48 ∷ no ∷ no ∷ accepted 3 2 0 ∷ no ∷ no ∷ accepted 4 3 34 ∷ no ∷ yes 14 ∷ accepted 5 4 51 ∷ yes 14 ∷ no ∷ accepted 6 5 17 ∷ no ∷ no ∷ [])
+    (accepted 2 1 48 ∷ no ∷ no ∷ accepted 3 2 48 ∷ no ∷ no ∷ accepted 4 3 2 ∷ no ∷ yes 14 ∷ accepted 5 4 3 ∷ yes 14 ∷ no ∷ accepted 6 5 49 ∷ no ∷ no ∷ [])
     -- a quote that is replaced answers no more
     ∷ inDay
     (onN 1 (plain 78 7 3 noOdd ∷ []) ∷ bidAt 10000000 ∷ onN 2 (roundOf 78 8 82 9990000 3 0 0 noOdd ∷ []) ∷ bidAt 10000000 ∷ bidAt 9990000 ∷ offerAt 10020000 ∷ [])

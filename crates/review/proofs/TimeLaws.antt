@@ -8,7 +8,7 @@ use mathlib.Core.Option.{Option, none, some}
 use native.Mathlib.Omega.{arith}
 use lib.Dec.{eqb, leb, ltb}
 use borrow.Author.Tests.{le-ltb, lt-ltb, leb-true, leb-false, ne-eqb}
-use Rattle.lists.specs.Lists.{mapOption, orElse, collect}
+use Rattle.lists.specs.Lists.{mapOption, orElse, collect, gather}
 use Rattle.lists.proofs.Tests.{Cut, equal, apart, cut}
 use Rattle.field.specs.Ascii.{D, S}
 use Rattle.ranking.specs.declared.Side.{Side}
@@ -18,9 +18,10 @@ use Rattle.ranking.specs.Ranking.{better, best}
 use Rattle.quote.specs.declared.Level.{Level}
 use Rattle.quote.specs.declared.Quote.{Quote}
 use Rattle.quote.specs.Quote.{noQuote, sideOf, admits, counts, withCondition, withTime, withTimes, timeKept, quoteOver, levelCandidate, candidateOf}
-use Rattle.entries.specs.Entries.{letters, asD, letterCandidate, nationalBest}
+use Rattle.levels.specs.Levels.{Standing, sideLevels}
+use Rattle.entries.specs.Entries.{letters, asD, letterCandidate, nationalBest, oddCandidate, ranks, letterLevels, oddBest, entriesBy}
 use Rattle.makers.specs.Makers.{makerOver}
-use Rattle.review.specs.Runs.{goesOn, latestRun, firstTime, runTime, latest}
+use Rattle.review.specs.Runs.{latestRun, firstTime, runTime, latest}
 use Rattle.review.specs.Reviewer.{standingMaker}
 
 -- ---- one quote more
@@ -141,6 +142,34 @@ pub held-letter : (rounds : ℕ → List Quote) (s : Side) (fb : Option Candidat
 unfolding letterCandidate
 held-letter rounds s fb l = ap (λ (o : Option Candidate). cond (eqb l D) (mapOption asD fb) (cond (eqb l S) none o)) (held-candidate s l (rounds l))
 
-pub held-national : (rounds : ℕ → List Quote) (fb : Side → Option Candidate) → nationalBest (λ l. held (rounds l)) fb ≡ nationalBest (λ l. orElse (latest (rounds l)) noQuote) fb
+held-national : (rounds : ℕ → List Quote) (fb : Side → Option Candidate) → nationalBest (λ l. held (rounds l)) fb ≡ nationalBest (λ l. orElse (latest (rounds l)) noQuote) fb
 unfolding nationalBest
 held-national rounds fb = fun-ext (λ s. ap (λ (f : ℕ → Option Candidate). best (better s) (collect f letters)) (fun-ext (held-letter rounds s (fb s))))
+
+-- the condition is that of the newest quote, so the same levels rank (T-07)
+held-condition : (qs : List Quote) → held qs .condition ≡ orElse (latest qs) noQuote .condition
+unfolding held quoteOver withTimes
+held-condition [] = refl
+held-condition (q ∷ qs) = refl
+
+held-ranks : (rounds : ℕ → List Quote) (s : Side) (o : Option Candidate) (l : ℕ) → ranks s (λ l. held (rounds l)) o l ≡ ranks s (λ l. orElse (latest (rounds l)) noQuote) o l
+unfolding ranks
+held-ranks rounds s o l = rw (held-condition (rounds l))
+
+held-odd : (rounds : ℕ → List Quote) (fb : Side → Option Candidate) (levels : ℕ → Standing) (nb : Side → Option Candidate)
+    → oddBest (λ l. held (rounds l)) fb levels nb ≡ oddBest (λ l. orElse (latest (rounds l)) noQuote) fb levels nb
+unfolding oddBest letterLevels
+held-odd rounds fb levels nb = fun-ext (λ s.
+    ap (λ (f : ℕ → Bool). best (better s) (gather (λ l. collect (oddCandidate s (nb s) l) (cond (eqb l S) [] (cond (f l) (sideLevels s (levels l)) []))) letters))
+    (fun-ext (λ l. held-ranks rounds s (fb s) l)))
+
+-- and so the entries are
+pub held-entries : (rounds : ℕ → List Quote) (fb : Side → Option Candidate) (levels : ℕ → Standing)
+    → entriesBy (λ l. held (rounds l)) fb levels ≡ entriesBy (λ l. orElse (latest (rounds l)) noQuote) fb levels
+unfolding entriesBy
+held-entries rounds fb levels =
+    let n : nationalBest (λ l. held (rounds l)) fb ≡ nationalBest (λ l. orElse (latest (rounds l)) noQuote) fb = held-national rounds fb in
+    let o : oddBest (λ l. held (rounds l)) fb levels (nationalBest (λ l. held (rounds l)) fb)
+    ≡ oddBest (λ l. orElse (latest (rounds l)) noQuote) fb levels (nationalBest (λ l. orElse (latest (rounds l)) noQuote) fb) =
+    ap (oddBest (λ l. held (rounds l)) fb levels) n ∙ held-odd rounds fb levels (nationalBest (λ l. orElse (latest (rounds l)) noQuote) fb) in
+    λ i. record { national = n i; finra = fb; odd = o i }

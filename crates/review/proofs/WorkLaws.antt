@@ -1,6 +1,6 @@
 -- The messages of a block, on readings: they stay as the history has them, and codes and flags are the reviewer's.
 -- Assumes nothing.
-use Prim.Native.Nat.{ℕ, _≤_, _<_}
+use Prim.Native.Nat.{ℕ, _<_}
 use mathlib.Core.Path.{_≡_, refl, sym, ap, _∙_}
 use mathlib.Core.Bool.{Bool, true, false, cond}
 use mathlib.Core.Logic.{_⊎_, inl, inr}
@@ -10,13 +10,11 @@ use lib.Dec.{ltb, leb, eqb}
 use lib.ListN.{length}
 use borrow.Author.Tests.{ltb-true, leb-true, ne-eqb}
 use Rattle.quote.specs.declared.Quote.{Quote}
-use Rattle.quote.specs.Quote.{emptyQuote}
 use Rattle.lists.specs.Lists.{isSome}
 use Rattle.lists.proofs.Tests.{clash, Cut, equal, apart, cut}
-use Rattle.message.specs.declared.Kind.{Kind}
 use Rattle.message.specs.declared.Kind.the-variants as kind
 use Rattle.message.specs.declared.Message.{Message}
-use Rattle.message.specs.Message.{quoteAt, kindOf, symbolOf, makerName, oddAt, messageOf, Known, makerCode, codeBy, codeOf, Part, roundPartOf, oddPartOf, makerPartOf, wholeBy, partlyTaken, partsOf, roundLotOdd, oddLotOdd, roundLotItems}
+use Rattle.message.specs.Message.{quoteAt, symbolOf, makerName, messageOf, Known, makerCode, codeBy, codeOf, Part, roundPartOf, oddPartOf, makerPartOf, partlyTaken, partsOf, roundLotOdd, oddLotOdd}
 use Rattle.message.proofs.SpokenLaws.{Spoken, refused, idle, finra, round, odd, maker, spoken, parts-refused, parts-whole, parts-round, parts-odd, parts-maker}
 use Rattle.page.specs.Page.{occupied}
 use Rattle.makers.specs.Makers.{findMaker}
@@ -29,7 +27,7 @@ use Rattle.review.proofs.CellLaws.{Room}
 use Rattle.review.proofs.SilentLaws.{names}
 use Rattle.review.proofs.Agree.{Good, good-reviewed, AllGood, Core, ReadingOf, missing, found, reading-of, known-same}
 use Rattle.review.proofs.PartLaws.{RoomFor, cellsIn, core-part, part-listed}
-use Rattle.review.proofs.CodeLaws.{Takes, takes-whole, takes-partly, round-taken, odd-taken, MakerTaken, maker-taken}
+use Rattle.review.proofs.CodeLaws.{Takes, takes-whole, takes-partly, round-taken, odd-taken, MakerTaken, maker-taken, long}
 use Rattle.review.proofs.KeptLaws.{onto, kept-parts}
 use Rattle.page.specs.Layout.{makerCount}
 
@@ -152,22 +150,6 @@ module _ (letter : ℕ) (m : List ℕ) (h : List Part) (rs : List Reading) (g : 
   unfolding codeOf
   message-ready = ready-by (messageOf letter m) x (spoken letter m)
 
-  -- a Q K that is taken has 60 bytes or more; it alone has two parts
-  long : Takes c → kindOf m ≡ kind.RoundLot → roundLotItems ≤ length m
-  unfolding codeOf oddAt Takes
-  long t r = go (messageOf letter m) x (spoken letter m)
-    where
-      count : (k : Kind) → kindOf m ≡ k → length (wholeBy m k) ≡ 2
-      count k i = ap (λ (j : Kind). length (wholeBy m j)) (sym i ∙ r)
-
-      go : (y : Message) → codeBy e letter m y ≡ c → Spoken letter m y → roundLotItems ≤ length m
-      go y q (refused k lo hi) = absurd (omega (arith, t (omega arith)))
-      go y q (idle w) = absurd (omega (arith, count (kindOf m) refl, ap (λ (ps : List Part). length ps) w))
-      go y q (finra k d w) = absurd (omega (arith, count (kindOf m) refl, ap (λ (ps : List Part). length ps) w))
-      go y q (round l k n) = omega (arith, n)
-      go y q (odd l k n) = absurd (omega (arith, count (kind.OddLot _) k))
-      go y q (maker k n) = absurd (omega (arith, count kind.Maker k))
-
 module _ (letter : ℕ) (m : List ℕ) (hist : List (List ℕ)) (rs : List Reading) (co : Core (parts hist) rs) where
   pub code-same : codeIn letter m rs ≡ codeR (listedOf rs) letter m hist
   code-same = ap (λ (z : Known). codeOf z letter m) (known-same (parts hist) rs co (symbolOf m))
@@ -177,7 +159,7 @@ module _ (letter : ℕ) (m : List ℕ) (hist : List (List ℕ)) (rs : List Readi
 
   pub message-core : Core (parts (messageR (listedOf rs) letter m hist)) (messageReading letter m rs)
   message-core =
-      rw (sym code-same, kept-parts (codeIn letter m rs) m hist (long letter m (parts hist) rs (co .good) (codeIn letter m rs) refl))
+      rw (sym code-same, kept-parts (codeIn letter m rs) m hist (λ t k. long (knownOf (findReading (symbolOf m) rs)) letter m (codeIn letter m rs) t refl k))
       (parts-core (partsOf (codeIn letter m rs) m) (parts hist) rs co (message-ready letter m (parts hist) rs (co .good) (codeIn letter m rs) refl))
 
 -- ---- a block

@@ -22,8 +22,8 @@ use Rattle.ranking.proofs.Bridge.{OrCounting, rank-ahead}
 use Rattle.quote.specs.declared.Level.{Level}
 use Rattle.quote.specs.Quote.{levelCandidate, quoteLength}
 use Rattle.levels.specs.Levels.{sideLevels, noLevels, emptyCell, behind, ranked, cellsIn, sideIn, levelsIn, sideLength, levelsLength}
-use Rattle.entries.specs.Entries.{beyond, oddCandidate, letterLevels}
-use Rattle.page.specs.Page.{levelsFor}
+use Rattle.entries.specs.Entries.{beyond, oddCandidate, ranks, letterLevels}
+use Rattle.page.specs.Page.{quotesIn, levelsFor}
 use Rattle.walk.specs.code.Walk.{firstOf}
 use Rattle.field.specs.Field.{part}
 use Rattle.field.specs.Ascii.{S}
@@ -68,18 +68,19 @@ unfolding levelsIn sideIn
 levels-fall b Bid = ranked-falls Bid none (cellsIn 4 (part b 0 sideLength))
 levels-fall b Offer = ranked-falls Offer none (cellsIn 4 (part b sideLength sideLength))
 
-pub page-falls : (p : List ℕ) (s : Side) (l : ℕ) → Falling s (letterLevels s (levelsFor p) l)
+pub page-falls : (p : List ℕ) (s : Side) (fb : Option Candidate) (l : ℕ) → Falling s (letterLevels s (quotesIn p) fb (levelsFor p) l)
 unfolding letterLevels levelsFor
-page-falls p s l = go (eqb l S) (upper l)
+page-falls p s fb l = go (eqb l S) (ranks s (quotesIn p) fb l) (upper l)
   where
     none-falls : (s : Side) → Falling s (sideLevels s noLevels)
     none-falls Bid = tt
     none-falls Offer = tt
 
-    go : (t u : Bool) → Falling s (cond t [] (sideLevels s (cond u (levelsIn (part p (slotAt l + quoteLength) levelsLength)) noLevels)))
-    go true u = tt
-    go false true = levels-fall (part p (slotAt l + quoteLength) levelsLength) s
-    go false false = none-falls s
+    go : (t r u : Bool) → Falling s (cond t [] (cond r (sideLevels s (cond u (levelsIn (part p (slotAt l + quoteLength) levelsLength)) noLevels)) []))
+    go true r u = tt
+    go false false u = tt
+    go false true true = levels-fall (part p (slotAt l + quoteLength) levelsLength) s
+    go false true false = none-falls s
 
 -- ---- the first level stands for its letter
 

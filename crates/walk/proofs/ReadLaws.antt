@@ -4,7 +4,7 @@ use Prim.Native.Nat.{ℕ, _+_, _≤_}
 use mathlib.Core.Path.{_≡_, refl, sym, ap, _∙_}
 use mathlib.Core.Bool.{Bool, true, false, cond}
 use mathlib.Core.List.{List, [], _∷_}
-use mathlib.Core.Option.{none, some}
+use mathlib.Core.Option.{Option, none, some}
 use native.Mathlib.Omega.{arith}
 use lib.Dec.{eqb, lit≤}
 use native.Mathlib.Nat.{add-zero}
@@ -16,13 +16,14 @@ use Rattle.field.specs.Field.{part, field}
 use Rattle.field.proofs.Laws.{part-part, field-part, field-part-0}
 use Rattle.ranking.specs.declared.Side.{Side}
 use Rattle.ranking.specs.declared.Side.the-variants.{Bid, Offer}
+use Rattle.ranking.specs.declared.Candidate.{Candidate}
 use Rattle.quote.specs.declared.Level.{Level}
 use Rattle.ranking.specs.code.Choice.{live}
 use Rattle.quote.specs.Quote.{levelCandidate, sideOf, levelIn, quoteIn, quoteLength, levelLength, bidAt, offerAt}
 use Rattle.levels.specs.Levels.{sideLevels, emptyCell, ranked, cellsIn, sideIn, levelsIn, sideLength, levelsLength}
-use Rattle.entries.specs.Entries.{letterLevels}
+use Rattle.entries.specs.Entries.{ranks, letterLevels}
 use Rattle.page.specs.Page.{quotesIn, levelsFor, makerIn}
-use Rattle.walk.specs.code.Walk.{firstOf, firstAt}
+use Rattle.walk.specs.code.Walk.{firstOf, firstBy}
 use Rattle.page.specs.Layout.{cellLength, slotAt, inQuote, inLevels}
 use Rattle.field.specs.Ascii.{A, S, Z}
 use Rattle.text.specs.Form.{nameLength}
@@ -86,6 +87,13 @@ module _ (p : List ℕ) (l : ℕ) (h : A ≤ l) (k : l ≤ Z) where
   unfolding quotesIn
   quotes-at = rw letter
 
-  pub first-at : (s : Side) → (l ≡ S → ⊥) → firstAt p s l ≡ live (levelCandidate l 32 (levelIn (part p (slotAt l + quoteLength + inLevels s) levelLength)))
-  unfolding firstAt letterLevels levelsFor
-  first-at s n = rw (ne-eqb l S n, letter) (ap (mapOption (levelCandidate l 32)) (first-level p (slotAt l + quoteLength) s) ∙ cell-live l (levelIn (part p (slotAt l + quoteLength + inLevels s) levelLength)))
+  -- its first level, if its levels rank
+  pub first-at : (s : Side) (o : Option Candidate) → (l ≡ S → ⊥)
+      → firstBy p s o l ≡ cond (ranks s (quotesIn p) o l) (live (levelCandidate l 32 (levelIn (part p (slotAt l + quoteLength + inLevels s) levelLength)))) none
+  unfolding firstBy letterLevels levelsFor
+  first-at s o n = rw (ne-eqb l S n, letter) (go (ranks s (quotesIn p) o l))
+    where
+      go : (t : Bool) → mapOption (levelCandidate l 32) (firstOf (cond t (sideLevels s (levelsIn (part p (slotAt l + quoteLength) levelsLength))) []))
+          ≡ cond t (live (levelCandidate l 32 (levelIn (part p (slotAt l + quoteLength + inLevels s) levelLength)))) none
+      go true = ap (mapOption (levelCandidate l 32)) (first-level p (slotAt l + quoteLength) s) ∙ cell-live l (levelIn (part p (slotAt l + quoteLength + inLevels s) levelLength))
+      go false = refl

@@ -2,13 +2,13 @@
 -- Assumes nothing.
 use Prim.Native.Nat.{ℕ, _+_, _-_, _≤_, _<_}
 use mathlib.Core.Path.{_≡_, refl, sym, ap, _∙_}
-use mathlib.Core.Bool.{Bool, true, false, _&&_, cond}
+use mathlib.Core.Bool.{Bool, true, false, not, _&&_, cond}
 use mathlib.Core.List.{List}
 use mathlib.Core.Option.{Option, none, some}
 use native.Mathlib.Omega.{arith}
 use lib.Dec.{eqb, ltb}
 use borrow.Author.Tests.{eqb-true, eq-eqb, ne-eqb, ltb-false}
-use Rattle.lists.specs.Lists.{member, bindOption, mapOption}
+use Rattle.lists.specs.Lists.{member, bindOption, mapOption, isSome}
 use Rattle.lists.proofs.Searches.{less-one}
 use Rattle.lists.proofs.Tests.{clash}
 use Rattle.field.specs.Field.{part, field}
@@ -21,12 +21,12 @@ use Rattle.ranking.specs.Held.{noCandidate, orNone}
 use Rattle.ranking.specs.code.Choice.{rankOf, live, choose, stepSides, sidesFrom, bestFrom}
 use Rattle.ranking.proofs.ChoiceLaws.{choose-none, choose-live, choose-behind, choose-priceless, choose-sizeless}
 use Rattle.quote.specs.declared.Quote.{Quote}
-use Rattle.quote.specs.Quote.{sideOf, admits, counts, levelCandidate, candidateOf, levelIn, quoteIn, quoteLength, levelLength}
+use Rattle.quote.specs.Quote.{isQuoted, sideOf, admits, counts, levelCandidate, candidateOf, levelIn, quoteIn, quoteLength, levelLength}
 use Rattle.quote.proofs.QuoteLaws.{level-at}
 use Rattle.walk.specs.declared.Tops.{Tops}
-use Rattle.entries.specs.Entries.{asD, makerCandidate, letterCandidate, letterLevels}
+use Rattle.entries.specs.Entries.{asD, makerCandidate, letterCandidate, ranks, letterLevels}
 use Rattle.page.specs.Page.{quotesIn, makerIn}
-use Rattle.walk.specs.code.Walk.{asked, makerAt, quotedAt, withD, nationalAt, firstAt, stepTops, topsFrom}
+use Rattle.walk.specs.code.Walk.{asked, makerAt, quotedAt, withD, nationalAt, firstBy, firstAt, stepTops, topsFrom}
 use Rattle.walk.proofs.ReadLaws.{quote-side, quote-condition, maker-at, quotes-at, first-at}
 use Rattle.page.specs.Layout.{cellLength, slotAt, cellAt, inQuote, inLevels}
 use Rattle.field.specs.Ascii.{A, D, S, Z}
@@ -188,25 +188,80 @@ module _ (p : List ℕ) (l : ℕ) (t : Sides) where
 
 -- ---- a letter's first levels
 
-pub first-read : (p : List ℕ) (l : ℕ) (s : Side) (b : Candidate) (a o : ℕ) (r : Candidate) → A ≤ l → l ≤ Z → (l ≡ S → ⊥) → a ≡ slotAt l → o ≡ inLevels s
-    → r ≡ choose s b (levelCandidate l 32 (levelIn (part p (a + quoteLength + o) levelLength))) → r ≡ choose s b (orNone (firstAt p s l))
-first-read p l s b a o r h k n ea eo e =
-    let x : live (levelCandidate l 32 (levelIn (part p (a + quoteLength + o) levelLength))) ≡ firstAt p s l = rw (ea, eo) (sym (first-at p l h k s n)) in
-    e ∙ choose-live s b (levelCandidate l 32 (levelIn (part p (a + quoteLength + o) levelLength))) ∙ ap (λ (y : Option Candidate). choose s b (orNone y)) x
+-- whether a candidate is one
+pub stands-not : (c : Candidate) → c .price ≡ 0 → false ≡ isSome (live c)
+unfolding live
+stands-not c e = rw (eq-eqb (c .price) 0 e)
+
+pub stands-by : (c : Candidate) → (c .price ≡ 0 → ⊥) → not (eqb (c .size) 0) ≡ isSome (live c)
+unfolding live
+stands-by c n = rw (ne-eqb (c .price) 0 n) (go (eqb (c .size) 0))
+  where
+    go : (t : Bool) → not t ≡ isSome (cond t none (some c))
+    go true = refl
+    go false = refl
+
+-- whether a letter's levels rank: D's by its FINRA best, any other's by its condition
+module _ (p : List ℕ) (l : ℕ) (s : Side) (fb : Option Candidate) where
+  pub ranks-d : (t : Bool) → l ≡ D → t ≡ isSome fb → t ≡ ranks s (quotesIn p) fb l
+  unfolding ranks
+  ranks-d t e h = rw (eq-eqb l D e) h
+
+  module _ (h : A ≤ l) (k : l ≤ Z) (n : l ≡ D → ⊥) (a : ℕ) (ea : a ≡ slotAt l) (q : ℕ) (eq : q ≡ field p a 1) where
+    condition-is : q ≡ quotesIn p l .condition
+    condition-is = eq ∙ quote-condition p a ∙ ap (λ (i : ℕ). quoteIn (part p i quoteLength) .condition) ea ∙ ap (λ (x : Quote). x .condition) (sym (quotes-at p l h k))
+
+    ranks-by : (v : Bool) → isQuoted q ≡ v → cond v (admits s q) true ≡ ranks s (quotesIn p) fb l
+    unfolding ranks
+    ranks-by v e = rw (ne-eqb l D n, ← condition-is, e)
+
+    pub ranks-quoted : (u t : Bool) → u ≡ isQuoted q → u ≡ true → t ≡ admits s q → t ≡ ranks s (quotesIn p) fb l
+    ranks-quoted u t eu e et = et ∙ ranks-by true (sym eu ∙ e)
+
+    pub ranks-unquoted : (u : Bool) → u ≡ isQuoted q → u ≡ false → true ≡ ranks s (quotesIn p) fb l
+    ranks-unquoted u eu e = ranks-by false (sym eu ∙ e)
+
+-- the first level, if it is ahead by price and the letter's levels rank
+module _ (p : List ℕ) (l : ℕ) (s : Side) (fb : Option Candidate) (b : Candidate) (a o : ℕ) (h : A ≤ l) (k : l ≤ Z) (n : l ≡ S → ⊥) (ea : a ≡ slotAt l) (eo : o ≡ inLevels s) where
+  abbrev first : Candidate
+  first = levelCandidate l 32 (levelIn (part p (a + quoteLength + o) levelLength))
+
+  first-by : (v : Bool) → ranks s (quotesIn p) fb l ≡ v → cond v (choose s b first) b ≡ choose s b (orNone (firstBy p s fb l))
+  first-by v e = rw (first-at p l h k s fb n, e, ← ea, ← eo) (go v)
+    where
+      go : (v : Bool) → cond v (choose s b first) b ≡ choose s b (orNone (cond v (live first) none))
+      go true = choose-live s b first
+      go false = choose-none s b
+
+  pub first-yes : (t : Bool) (r : Candidate) → t ≡ ranks s (quotesIn p) fb l → t ≡ true → r ≡ choose s b first → r ≡ choose s b (orNone (firstBy p s fb l))
+  first-yes t r et e er = er ∙ first-by true (sym et ∙ e)
+
+  pub first-no : (t : Bool) → t ≡ ranks s (quotesIn p) fb l → t ≡ false → b ≡ choose s b (orNone (firstBy p s fb l))
+  first-no t et e = first-by false (sym et ∙ e)
+
+  pub first-behind : (v : ℕ) (t : Bool) → v ≡ low p (a + quoteLength + o) 8 → t ≡ ltb (rankOf s v) (rankOf s (b .price)) → t ≡ true → b ≡ choose s b (orNone (firstBy p s fb l))
+  first-behind v t ev et e = go (ranks s (quotesIn p) fb l) refl
+    where
+      behind : b ≡ choose s b first
+      behind = level-behind s b p (a + quoteLength + o) l 32 v t ev et e
+
+      go : (u : Bool) → ranks s (quotesIn p) fb l ≡ u → b ≡ choose s b (orNone (firstBy p s fb l))
+      go true q = behind ∙ first-by true q
+      go false q = first-by false q
 
 -- ---- one letter more, and all of them
 
 module _ (p : List ℕ) (f : Sides) where
   pub letter-none : (l : ℕ) (t : Tops) → l ≡ S → t ≡ stepTops p f l t
-  unfolding stepTops nationalAt letterCandidate firstAt letterLevels
+  unfolding stepTops nationalAt letterCandidate firstBy letterLevels
   letter-none l t e =
-      λ i. record { national = sides-none (nationalAt p f) l (t .national) (λ s. rw e) i; odd = sides-none (firstAt p) l (t .odd) (λ s. rw e) i }
+      λ i. record { national = sides-none (nationalAt p f) l (t .national) (λ s. rw e) i; odd = sides-none (firstAt p f) l (t .odd) (λ s. rw e) i }
 
   pub letter-read : (l : ℕ) (t : Tops) (n : Sides) (ob oa : Candidate) → n ≡ stepSides (asked (nationalAt p f)) l (t .national)
-      → ob ≡ choose Bid (t .odd .bid) (orNone (firstAt p Bid l)) → oa ≡ choose Offer (t .odd .offer) (orNone (firstAt p Offer l))
+      → ob ≡ choose Bid (t .odd .bid) (orNone (firstBy p Bid (live (f .bid)) l)) → oa ≡ choose Offer (t .odd .offer) (orNone (firstBy p Offer (live (f .offer)) l))
       → _≡_ {A = Tops} (record { national = n; odd = record { bid = ob; offer = oa } }) (stepTops p f l t)
   unfolding stepTops
-  letter-read l t n ob oa en eb ea = λ i. record { national = en i; odd = sides-read (asked (firstAt p)) l (t .odd) ob oa eb ea i }
+  letter-read l t n ob oa en eb ea = λ i. record { national = en i; odd = sides-read (asked (firstAt p f)) l (t .odd) ob oa eb ea i }
 
   module _ (n : ℕ) (w : Tops) where
     tops-step : (i : ℕ) (t : Tops) → i < n → topsFrom p f i (n - i) t ≡ topsFrom p f (i + 1) (n - (i + 1)) (stepTops p f i t)

@@ -31,11 +31,11 @@ use Rattle.levels.specs.Levels.{emptyCell, sideLevels, noLevels, levelsIn, leve
 use Rattle.quote.proofs.QuoteLaws.{level-at}
 use Rattle.walk.specs.declared.Tops.{Tops}
 use Rattle.walk.specs.declared.BestEntries.{BestEntries}
-use Rattle.entries.specs.Entries.{Maker, Entries, letters, asD, makerCandidate, finraBest, letterCandidate, nationalBest, oddCandidate, letterLevels, oddBest, entriesBy, entriesOf}
+use Rattle.entries.specs.Entries.{Maker, Entries, letters, asD, makerCandidate, finraBest, letterCandidate, nationalBest, oddCandidate, ranks, letterLevels, oddBest, entriesBy, entriesOf}
 use Rattle.page.specs.Page.{quotesIn, levelsFor, makerIn, makersIn, same, occupied, pageEntries}
 use Rattle.page.specs.Cut.{cut}
 use Rattle.walk.specs.Bests.{bestsOf}
-use Rattle.walk.specs.code.Walk.{asked, makerAt, finraSides, nationalAt, firstOf, firstAt, noTops, topsFrom}
+use Rattle.walk.specs.code.Walk.{asked, makerAt, finraSides, nationalAt, firstOf, firstBy, firstAt, noTops, topsFrom}
 use Rattle.walk.proofs.ReadLaws.{quote-side, maker-at, first-level, cell-live}
 use Rattle.walk.proofs.OddLaws.{collect-bind, page-falls, far, odd-once, beyond-is}
 use Rattle.entries.proofs.NoneLaws.{no-candidate}
@@ -111,18 +111,19 @@ module _ (p : List ℕ) (b : Bytes p) where
   level-counts : (l at : ℕ) → OrCounting (mapOption (levelCandidate l 32) (cond (emptyCell (levelIn (part p at levelLength))) none (some (levelIn (part p at levelLength)))))
   level-counts l at = rw (cell-live l (levelIn (part p at levelLength))) (live-counts (levelCandidate l 32 (levelIn (part p at levelLength))) (price-below p at b))
 
-  pub first-counts : (s : Side) (l : ℕ) → OrCounting (firstAt p s l)
-  unfolding firstAt letterLevels levelsFor
-  first-counts s l = go (eqb l S) (upper l)
+  pub first-counts : (s : Side) (o : Option Candidate) (l : ℕ) → OrCounting (firstBy p s o l)
+  unfolding firstBy letterLevels levelsFor
+  first-counts s o l = go (eqb l S) (ranks s (quotesIn p) o l) (upper l)
     where
       no-levels : (s : Side) → OrCounting (mapOption (levelCandidate l 32) (firstOf (sideLevels s noLevels)))
       no-levels Bid = tt
       no-levels Offer = tt
 
-      go : (t u : Bool) → OrCounting (mapOption (levelCandidate l 32) (firstOf (cond t [] (sideLevels s (cond u (levelsIn (part p (slotAt l + quoteLength) levelsLength)) noLevels)))))
-      go true u = tt
-      go false true = rw (first-level p (slotAt l + quoteLength) s) (level-counts l (slotAt l + quoteLength + inLevels s))
-      go false false = no-levels s
+      go : (t r u : Bool) → OrCounting (mapOption (levelCandidate l 32) (firstOf (cond t [] (cond r (sideLevels s (cond u (levelsIn (part p (slotAt l + quoteLength) levelsLength)) noLevels)) []))))
+      go true r u = tt
+      go false false u = tt
+      go false true true = rw (first-level p (slotAt l + quoteLength) s) (level-counts l (slotAt l + quoteLength + inLevels s))
+      go false true false = no-levels s
 
   -- ---- the makers
 
@@ -146,13 +147,13 @@ module _ (p : List ℕ) (b : Bytes p) where
   finra-counts s = rw (← maker-list s) (best-counts s (makerAt p s) (maker-counts s) (range makerCount 0))
 
   -- the best first level, if it is beyond a national best
-  pub odd-is : (s : Side) (nb : Option Candidate) (k : ℕ) → OrCounting nb
-      → beyondOf s (orNone nb) (orNone (best (better s) (collect (firstAt p s) (range k A))))
-      ≡ orNone (best (better s) (gather (λ l. collect (oddCandidate s nb l) (letterLevels s (levelsFor p) l)) (range k A)))
-  unfolding firstAt
-  odd-is s nb k h =
-      beyond-is s nb (best (better s) (collect (firstAt p s) (range k A))) h (best-counts s (firstAt p s) (first-counts s) (range k A))
-      ∙ ap orNone (sym (odd-once s nb (letterLevels s (levelsFor p)) (page-falls p s) (range k A)))
+  pub odd-is : (s : Side) (o nb : Option Candidate) (k : ℕ) → OrCounting nb
+      → beyondOf s (orNone nb) (orNone (best (better s) (collect (firstBy p s o) (range k A))))
+      ≡ orNone (best (better s) (gather (λ l. collect (oddCandidate s nb l) (letterLevels s (quotesIn p) o (levelsFor p) l)) (range k A)))
+  unfolding firstBy
+  odd-is s o nb k h =
+      beyond-is s nb (best (better s) (collect (firstBy p s o) (range k A))) h (best-counts s (firstBy p s o) (first-counts s o) (range k A))
+      ∙ ap orNone (sym (odd-once s nb (letterLevels s (quotesIn p) o (levelsFor p)) (page-falls p s o) (range k A)))
 
   -- ---- the six entries are none or count
 
@@ -163,11 +164,11 @@ module _ (p : List ℕ) (b : Bytes p) where
   unfolding nationalBest
   national-best-counts s = best-counts s (letterCandidate s (quotesIn p) (fb s)) (λ l. letter-counts s (fb s) l (finra-counts s)) letters
 
-  odd-best-counts : (s : Side) → OrCounting (oddBest (levelsFor p) nb s)
-  unfolding oddBest firstAt
+  odd-best-counts : (s : Side) → OrCounting (oddBest (quotesIn p) fb (levelsFor p) nb s)
+  unfolding oddBest firstBy
   odd-best-counts s =
-      rw (odd-once s (nb s) (letterLevels s (levelsFor p)) (page-falls p s) letters)
-      (kept (best (better s) (collect (λ l. mapOption (levelCandidate l 32) (firstOf (letterLevels s (levelsFor p) l))) letters)) (best-counts s (firstAt p s) (first-counts s) letters))
+      rw (odd-once s (nb s) (letterLevels s (quotesIn p) (fb s) (levelsFor p)) (page-falls p s (fb s)) letters)
+      (kept (best (better s) (collect (λ l. mapOption (levelCandidate l 32) (firstOf (letterLevels s (quotesIn p) (fb s) (levelsFor p) l))) letters)) (best-counts s (firstBy p s (fb s)) (first-counts s (fb s)) letters))
     where
       kept : (o : Option Candidate) → OrCounting o → OrCounting (bindOption o (keep (far s (nb s))))
       kept none h = tt
@@ -224,18 +225,19 @@ module _ (p : List ℕ) (w : length p ≡ pageLength) (b : Bytes p) (l : ℕ) (l
       go false e true = refl
       go false e false = refl
 
-  first-here : (j : ℕ) → A ≤ j → j ≤ l → firstAt p s j ≡ firstAt c s j
-  unfolding firstAt letterLevels
-  first-here j a z = rw (cut-levels p w l lo hi j a z)
+  first-here : (o : Option Candidate) (j : ℕ) → A ≤ j → j ≤ l → firstBy p s o j ≡ firstBy c s o j
+  unfolding firstBy letterLevels ranks
+  first-here o j a z = rw (cut-levels p w l lo hi j a z, cut-quote p w l lo hi j a z)
 
-  first-behind : (j : ℕ) → l < j → j ≤ Z → firstAt c s j ≡ none
-  unfolding firstAt letterLevels
-  first-behind j a z = rw (cut-no-levels p w l lo hi j a z) (go (eqb j S) s)
+  first-behind : (o : Option Candidate) (j : ℕ) → l < j → j ≤ Z → firstBy c s o j ≡ none
+  unfolding firstBy letterLevels
+  first-behind o j a z = rw (cut-no-levels p w l lo hi j a z) (go (eqb j S) (ranks s (quotesIn c) o j) s)
     where
-      go : (t : Bool) (s : Side) → mapOption (levelCandidate j 32) (firstOf (cond t [] (sideLevels s noLevels))) ≡ none
-      go true s = refl
-      go false Bid = refl
-      go false Offer = refl
+      go : (t r : Bool) (s : Side) → mapOption (levelCandidate j 32) (firstOf (cond t [] (cond r (sideLevels s noLevels) []))) ≡ none
+      go true r s = refl
+      go false false s = refl
+      go false true Bid = refl
+      go false true Offer = refl
 
   -- a walk that stops at l finds the best of the cut page
   stops : (f g : ℕ → Option Candidate) → ((j : ℕ) → OrCounting (g j)) → ((j : ℕ) → A ≤ j → j ≤ l → f j ≡ g j) → ((j : ℕ) → l < j → j ≤ Z → g j ≡ none)
@@ -255,19 +257,26 @@ module _ (p : List ℕ) (w : length p ≡ pageLength) (b : Bytes p) (l : ℕ) (l
         go Bid = refl
         go Offer = refl
 
+    finra-live : live (ofSide s f) ≡ fb c cb s
+    finra-live = ap live finra-side ∙ live-back (fb c cb s) (finra-counts c cb s)
+
     national-side : (n : Candidate) → n ≡ bestFrom s (asked (nationalAt p f) s) A (l + 1 - A) noCandidate → n ≡ orNone (nb c cb s)
     unfolding nationalAt nationalBest
     national-side n e =
         e
-        ∙ ap (λ (o : Option Candidate). bestFrom s (λ j. orNone (letterCandidate s (quotesIn p) o j)) A (l + 1 - A) noCandidate) (ap live finra-side ∙ live-back (fb c cb s) (finra-counts c cb s))
+        ∙ ap (λ (o : Option Candidate). bestFrom s (λ j. orNone (letterCandidate s (quotesIn p) o j)) A (l + 1 - A) noCandidate) finra-live
         ∙ stops (letterCandidate s (quotesIn p) (fb c cb s)) (letterCandidate s (quotesIn c) (fb c cb s)) (λ j. letter-counts c cb s (fb c cb s) j (finra-counts c cb s)) national-here national-behind
 
-    odd-side : (n t o : Candidate) → n ≡ orNone (nb c cb s) → t ≡ bestFrom s (asked (firstAt p) s) A (l + 1 - A) noCandidate → o ≡ beyondOf s n t
-        → o ≡ orNone (oddBest (levelsFor c) (nb c cb) s)
+    first-side : (t : Candidate) → t ≡ bestFrom s (asked (firstAt p f) s) A (l + 1 - A) noCandidate → t ≡ orNone (best (better s) (collect (firstBy c s (fb c cb s)) letters))
+    first-side t e =
+        e
+        ∙ ap (λ (o : Option Candidate). bestFrom s (λ j. orNone (firstBy p s o j)) A (l + 1 - A) noCandidate) finra-live
+        ∙ stops (firstBy p s (fb c cb s)) (firstBy c s (fb c cb s)) (first-counts c cb s (fb c cb s)) (first-here (fb c cb s)) (first-behind (fb c cb s))
+
+    odd-side : (n t o : Candidate) → n ≡ orNone (nb c cb s) → t ≡ bestFrom s (asked (firstAt p f) s) A (l + 1 - A) noCandidate → o ≡ beyondOf s n t
+        → o ≡ orNone (oddBest (quotesIn c) (fb c cb) (levelsFor c) (nb c cb) s)
     unfolding oddBest letters
-    odd-side n t o en et eo =
-        eo ∙ (λ i. beyondOf s (en i) ((et ∙ stops (firstAt p s) (firstAt c s) (first-counts c cb s) first-here first-behind) i))
-        ∙ odd-is c cb s (nb c cb s) 26 (national-best-counts c cb s)
+    odd-side n t o en et eo = eo ∙ (λ i. beyondOf s (en i) (first-side t et i)) ∙ odd-is c cb s (fb c cb s) (nb c cb s) 26 (national-best-counts c cb s)
 
 -- ---- the whole
 
@@ -295,6 +304,6 @@ module _ (p : List ℕ) (w : length p ≡ pageLength) (b : Bytes p) (l : ℕ) (l
       national Bid = national-side p w b l lo hi Bid f ef (t .national .bid) (ap (λ (t : Tops). t .national .bid) et)
       national Offer = national-side p w b l lo hi Offer f ef (t .national .offer) (ap (λ (t : Tops). t .national .offer) et)
 
-      odd : (s : Side) → ofSide s (six .odd) ≡ orNone (oddBest (levelsFor (cut l p)) (nb (cut l p) cc′) s)
+      odd : (s : Side) → ofSide s (six .odd) ≡ orNone (oddBest (quotesIn (cut l p)) (fb (cut l p) cc′) (levelsFor (cut l p)) (nb (cut l p) cc′) s)
       odd Bid = odd-side p w b l lo hi Bid f ef (t .national .bid) (t .odd .bid) ob (national Bid) (ap (λ (t : Tops). t .odd .bid) et) eob
       odd Offer = odd-side p w b l lo hi Offer f ef (t .national .offer) (t .odd .offer) oa (national Offer) (ap (λ (t : Tops). t .odd .offer) et) eoa

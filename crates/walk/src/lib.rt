@@ -5,13 +5,14 @@ ghost use lib.ListN.{length};
 ghost use Rattle.field.specs.Field.{part};
 ghost use Rattle.field.specs.Ascii as ascii;
 ghost use Rattle.ranking.specs.Held.{orNone, noSides};
-ghost use Rattle.ranking.specs.code.Choice.{choose, stepSides, sidesFrom};
+ghost use Rattle.lists.specs.Lists.{isSome};
+ghost use Rattle.ranking.specs.code.Choice.{live, choose, stepSides, sidesFrom};
 ghost use Rattle.quote.specs.Quote.{levelIn, quoteIn, levelCandidate, candidateOf, quoteLength, levelLength};
-ghost use Rattle.entries.specs.Entries.{asD};
-ghost use Rattle.page.specs.Page.{pageEntries};
+ghost use Rattle.entries.specs.Entries.{asD, ranks};
+ghost use Rattle.page.specs.Page.{quotesIn, pageEntries};
 ghost use Rattle.page.specs.Cut.{cut};
 ghost use Rattle.walk.specs.Bests.{bestsOf};
-ghost use Rattle.walk.specs.code.Walk.{asked, makerAt, finraSides, quotedAt, withD, nationalAt, firstAt, noTops, stepTops, topsFrom};
+ghost use Rattle.walk.specs.code.Walk.{asked, makerAt, finraSides, quotedAt, withD, nationalAt, firstBy, noTops, stepTops, topsFrom};
 ghost use Rattle.page.specs.Layout.{pageLength, makerCount};
 use page::Cell;
 use page::Letter;
@@ -169,14 +170,52 @@ fn with_national(page: &[u8], letter: usize, finra: Sides, best: Sides) -> Sides
     with_slot(page, letter, best)
 }
 
-// A side of one letter's odd-lot levels more. They are read best first, so the first one is enough.
-fn with_first(page: &[u8], letter: usize, side: Side, best: Candidate) -> Candidate
+// Whether a candidate is one: price and size are above zero.
+fn stands(c: Candidate) -> bool
+    ensures { λ r. ⌜ r ≡ isSome (live c) ⌝ }
+{
+    if c.price == 0 {
+        return false;
+    }
+    c.size != 0
+}
+
+// Whether a letter's levels rank: D's while its FINRA best has that side, another letter's while its round quote admits it or it has none.
+fn ranks(page: &[u8], letter: usize, side: Side, finra: Candidate) -> bool
+    requires { ⌜ length (now page) ≡ pageLength ⌝ }
+    requires { ⌜ (ascii.A ≤ letter) × (letter ≤ ascii.Z) ⌝ }
+    ensures { λ r. ⌜ r ≡ ranks side (quotesIn (now (page .entry))) (live finra) letter ⌝ }
+{
+    if letter == Letter::D {
+        return stands(finra);
+    }
+    let condition = field::get8(page, page::slot_at(letter));
+    if quote::is_quoted(condition) {
+        return quote::admits(side, condition);
+    }
+    true
+}
+
+// A side of one letter's odd-lot levels more. They are read best first, so the first one is enough. Its price is looked at before the condition.
+fn with_first(
+    page: &[u8],
+    letter: usize,
+    side: Side,
+    finra: Candidate,
+    best: Candidate,
+) -> Candidate
     requires { ⌜ length (now page) ≡ pageLength ⌝ }
     requires { ⌜ ((ascii.A ≤ letter) × (letter ≤ ascii.Z)) × (letter ≡ ascii.S → ⊥) ⌝ }
-    ensures { λ r. ⌜ r ≡ choose side best (orNone (firstAt (now (page .entry)) side letter)) ⌝ }
+    ensures { λ r. ⌜ r ≡ choose side best (orNone (firstBy (now (page .entry)) side (live finra) letter)) ⌝ }
 {
     let at = page::slot_at(letter) + Slot::LEVELS + page::in_levels(side);
-    with_level(page, at, side, letter as u32, b' ', best)
+    if ranking::is_behind(side, field::low64(page, at), best) {
+        return best;
+    }
+    if ranks(page, letter, side, finra) {
+        return with_level(page, at, side, letter as u32, b' ', best);
+    }
+    best
 }
 
 // One letter more: its quote and its levels, both sides. S, the processor, has neither.
@@ -189,8 +228,8 @@ fn with_letter(page: &[u8], letter: usize, finra: Sides, tops: Tops) -> Tops
         return tops;
     }
     let national = with_national(page, letter, finra, tops.national);
-    let odd_bid = with_first(page, letter, Side::Bid, tops.odd.bid);
-    let odd_offer = with_first(page, letter, Side::Offer, tops.odd.offer);
+    let odd_bid = with_first(page, letter, Side::Bid, finra.bid, tops.odd.bid);
+    let odd_offer = with_first(page, letter, Side::Offer, finra.offer, tops.odd.offer);
     Tops {
         national,
         odd: Sides {

@@ -9,6 +9,8 @@ mod support;
 mod accident;
 #[path = "../../second/tests/hand/cases.rs"]
 mod cases;
+#[path = "../../second/tests/hand/closed.rs"]
+mod closed;
 #[path = "../../second/tests/hand/entries.rs"]
 mod entries;
 #[path = "../../second/tests/hand/finra_odd_lots.rs"]

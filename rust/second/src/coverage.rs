@@ -1,6 +1,9 @@
-//! Counting which numbers, codes, flags, answers to queries and cases of resent quotes a run of lists
-//! has reached.
+//! Counting which numbers, codes, flags, answers to queries, cases of resent quotes and of closed
+//! venues a run of lists has reached.
 
+mod closed;
+mod finra;
+mod prices;
 mod resent;
 
 use std::collections::BTreeMap;
@@ -10,7 +13,8 @@ use crate::build;
 use crate::call::{Call, List};
 use crate::compare::{lent_part, Observed};
 use crate::quote_book::Protected;
-use crate::terms::ENTRY_LEN;
+use closed::Closed;
+use finra::Finra;
 use resent::Resent;
 
 /// The numbers that each call can answer in a list.
@@ -63,37 +67,32 @@ const FLAGS: [(&str, &[u8]); 6] = [
     ("Q U", &[1, 2, 4, 8, 16, 32]),
 ];
 
-/// The letters that must have led an odd entry, with and without a FINRA entry on that side.
-const LEADERS: [(&str, &[u8]); 4] = [
-    (ODD_BID[0], b"D"),
-    (ODD_BID[1], b"D"),
-    (ODD_OFFER[0], b"D"),
-    (ODD_OFFER[1], b"D"),
-];
-
-const ODD_BID: [&str; 2] = ["odd bid", "odd bid without a FINRA bid"];
-const ODD_OFFER: [&str; 2] = ["odd offer", "odd offer without a FINRA offer"];
-
-/// How often each number, code, flag, leader of an odd entry, answer and case of a resent quote was
-/// reached.
+/// How often each number, code, flag, answer and case was reached.
 #[derive(Default)]
 pub struct Coverage {
     calls: u64,
     numbers: Counts,
     codes: Counts,
     flags: Counts,
-    leaders: Counts,
     answers: Counts,
     resent: Resent,
+    closed: Closed,
+    finra: Finra,
 }
 
 impl Coverage {
     /// Notes a list and what was observed at each of its calls.
     pub fn note(&mut self, list: &List, observed: &[Observed]) {
-        self.resent.start_list();
+        self.start_list();
         for (call, observed) in list.calls.iter().zip(observed) {
             self.note_call(call, observed);
         }
+    }
+
+    fn start_list(&mut self) {
+        self.resent.start_list();
+        self.closed.start_list();
+        self.finra.start();
     }
 
     fn note_call(&mut self, call: &Call, observed: &Observed) {
@@ -101,8 +100,12 @@ impl Coverage {
         let name = call_name(call);
         *self.numbers.entry((name, observed.number)).or_default() += 1;
         match (call, observed.number) {
-            (Call::Make { .. }, 0) => self.resent.start_list(),
-            (Call::StartDay, 0) => self.resent.start_day(),
+            (Call::Make { .. }, 0) => self.start_list(),
+            (Call::StartDay, 0) => {
+                self.resent.start_day();
+                self.closed.start_day();
+                self.finra.start();
+            }
             _ => {}
         }
         if let (Call::TakeBlock { block, .. }, 0 | 70) = (call, observed.number) {
@@ -111,29 +114,16 @@ impl Coverage {
             for (message, answer) in messages.iter().zip(answers) {
                 let name = type_name(message);
                 self.note_message(name, answer[1], answer[2]);
+                self.closed.note(message, answer[1], answer[2]);
+                self.finra.note(message, answer[1], answer[2]);
                 if answer[1] == 0 || name == "Q K" && answer[1] >= 60 {
                     self.resent.note(message);
                 }
             }
         }
-        for (number, publication) in &observed.publications {
-            if *number == 0 {
-                self.note_leaders(lent_part(publication));
-            }
-        }
         if let (Call::IsProtected { side, price, .. }, Some(answer)) = (call, observed.protected) {
             if answer.number == 0 {
                 self.note_answer(*side, *price, answer);
-            }
-        }
-    }
-
-    fn note_leaders(&mut self, publication: &[u8]) {
-        for (side, names) in [ODD_BID, ODD_OFFER].into_iter().enumerate() {
-            let [finra, odd] = [2, 4].map(|entry| publication[(entry + side) * ENTRY_LEN]);
-            if odd != b' ' {
-                let name = names[usize::from(finra == b' ')];
-                *self.leaders.entry((name, odd)).or_default() += 1;
             }
         }
     }
@@ -177,8 +167,9 @@ impl Coverage {
         missing.extend(missing_in("code", &CODES, &self.codes));
         missing.extend(missing_in("flag", &FLAGS, &self.flags));
         missing.extend(self.resent.missing());
-        missing.extend(missing_in("leader", &LEADERS, &self.leaders));
         missing.extend(missing_in("answer", &ANSWERS, &self.answers));
+        missing.extend(self.closed.missing());
+        missing.extend(self.finra.missing());
         missing
     }
 
@@ -253,7 +244,6 @@ impl Display for Coverage {
             ("numbers", &self.numbers),
             ("codes", &self.codes),
             ("flags", &self.flags),
-            ("leaders", &self.leaders),
             ("answers", &self.answers),
         ];
         for (what, counts) in tables {
@@ -266,6 +256,6 @@ impl Display for Coverage {
                 write!(f, " {value} x{count}")?;
             }
         }
-        writeln!(f, "{}", self.resent)
+        writeln!(f, "{}{}{}", self.resent, self.closed, self.finra)
     }
 }

@@ -1,5 +1,6 @@
 //! Random lists of calls on the engine, the incremental engine and the reviewer: after every call
-//! all that can be seen of them is equal, and every number, code, flag and case of a resent quote is reached.
+//! all that can be seen of them is equal, and every number, code, flag, case of a resent quote and case
+//! of a closed venue is reached.
 //!
 //! The variables FIRST_SEED and LISTS of the environment choose other lists or more of them.
 

@@ -1,13 +1,28 @@
 -- `walk::with_first` meets its contract.
-use Rattle.walk.proofs.StepLaws.{first-read}
+use Rattle.walk.proofs.StepLaws.{first-behind, first-yes, first-no}
 use borrow.Author.Needs.{needs}
 use Rattle.walk.proofs.with_first.Statement.{statement}
 use Rattle.walk.proofs.with_first.Tie as tie
 
 returns : tie.Need-returns
 returns c =
-    let s = c .before .before .before .before in
-    first-read _ _ _ _ _ _ _ (s .pre .1 .0 .0) (s .pre .1 .0 .1) (s .pre .1 .1) (c .before .before .slot-at .ensures) (c .before .in-levels .ensures .0) (c .with-level .ensures)
+    let o = c .before .before .before in
+    let s = o .before .before .before in
+    first-behind _ _ _ _ _ _ _ (s .pre .1 .0 .0) (s .pre .1 .0 .1) (s .pre .1 .1) (o .before .slot-at .ensures) (o .in-levels .ensures .0) _ _ (c .before .before .low64 .ensures) (c .before .is-behind .ensures) (c .if1 .taken)
+
+returns-2 : tie.Need-returns-2
+returns-2 c =
+    let r = c .before .before in
+    let o = r .before .before .before .before in
+    let s = o .before .before .before in
+    first-yes _ _ _ _ _ _ _ (s .pre .1 .0 .0) (s .pre .1 .0 .1) (s .pre .1 .1) (o .before .slot-at .ensures) (o .in-levels .ensures .0) _ _ (r .ranks .ensures) (c .before .if2 .taken) (c .with-level .ensures)
+
+returns-3 : tie.Need-returns-3
+returns-3 c =
+    let r = c .before in
+    let o = r .before .before .before .before in
+    let s = o .before .before .before in
+    first-no _ _ _ _ _ _ _ (s .pre .1 .0 .0) (s .pre .1 .0 .1) (s .pre .1 .1) (o .before .slot-at .ensures) (o .in-levels .ensures .0) _ (r .ranks .ensures) (c .if2 .left)
 
 pub with-first-spec : {M : Type 1} → statement M
 with-first-spec =
@@ -17,6 +32,11 @@ with-first-spec =
     (λ c. search needs)
     (λ c κs. search needs)
     (λ c. search needs)
+    (λ c κs. search needs)
+    (λ c κs. search needs)
+    returns
+    (λ c κs. search needs)
     (λ c. search needs)
     (λ c κs. search needs)
-    returns)
+    returns-2
+    returns-3)

@@ -46,16 +46,19 @@ abbrev pub firstOf : List Level → Option Level
 firstOf [] = none
 firstOf (x ∷ xs) = some x
 
--- a letter's first level: its best
-unfoldable pub firstAt : List ℕ → Side → ℕ → Option Candidate
-firstAt p s l = mapOption (levelCandidate l space) (firstOf (letterLevels s (levelsFor p) l))
+-- a letter's first level: its best, if the letter's levels rank, D's by its FINRA best
+unfoldable pub firstBy : List ℕ → Side → Option Candidate → ℕ → Option Candidate
+firstBy p s fb l = mapOption (levelCandidate l space) (firstOf (letterLevels s (quotesIn p) fb (levelsFor p) l))
+
+abbrev pub firstAt : List ℕ → Sides → Side → ℕ → Option Candidate
+firstAt p f s l = firstBy p s (live (ofSide s f)) l
 
 abbrev pub noTops : Tops
 noTops = record { national = noSides; odd = noSides }
 
 -- one letter more, and the k letters from letter l on
 unfoldable pub stepTops : List ℕ → Sides → ℕ → Tops → Tops
-stepTops p f l t = record { national = stepSides (asked (nationalAt p f)) l (t .national); odd = stepSides (asked (firstAt p)) l (t .odd) }
+stepTops p f l t = record { national = stepSides (asked (nationalAt p f)) l (t .national); odd = stepSides (asked (firstAt p f)) l (t .odd) }
 
 unfoldable pub topsFrom : List ℕ → Sides → ℕ → ℕ → Tops → Tops
-topsFrom p f l k t = record { national = sidesFrom (asked (nationalAt p f)) l k (t .national); odd = sidesFrom (asked (firstAt p)) l k (t .odd) }
+topsFrom p f l k t = record { national = sidesFrom (asked (nationalAt p f)) l k (t .national); odd = sidesFrom (asked (firstAt p f)) l k (t .odd) }

@@ -277,8 +277,15 @@ impl Reading {
             let inside = |level: &Shown| {
                 national.is_none_or(|(best, _)| rank(side, level.price) > rank(side, best.price))
             };
+            // T-07: D's levels rank by its FINRA best, another letter's by its condition; 0 is no quote.
+            let ranks = |letter: u8, quote: &Quote| match (letter, quote.condition) {
+                (b'D', _) => finra.is_some(),
+                (_, 0) => true,
+                (_, condition) => admits(side, condition),
+            };
             let odd = (b'A'..)
                 .zip(&self.letters)
+                .filter(|(letter, (quote, _))| ranks(*letter, quote))
                 .flat_map(|(letter, (_, levels))| {
                     let levels = levels[side].iter().filter(|level| inside(level));
                     levels.map(move |level| (*level, [letter, b' ', b' ', b' ']))
@@ -324,15 +331,19 @@ fn over(standing: &Quote, mut new: Quote) -> Quote {
 
 type Candidate = (Shown, [u8; 4]);
 
-fn counting(side: usize, quote: &Quote, name: [u8; 4]) -> Option<Candidate> {
-    let admits = match quote.condition {
+fn admits(side: usize, condition: u8) -> bool {
+    match condition {
         b'A' | b'B' | b'H' | b'O' | b'R' | b'W' => true,
         b'E' => side == 1,
         b'F' => side == 0,
         _ => false,
-    };
+    }
+}
+
+fn counting(side: usize, quote: &Quote, name: [u8; 4]) -> Option<Candidate> {
     let shown = quote.sides[side];
-    (admits && shown.price > 0 && shown.size > 0).then_some((shown, name))
+    let counts = admits(side, quote.condition) && shown.price > 0 && shown.size > 0;
+    counts.then_some((shown, name))
 }
 
 /// The better price, then larger size, earlier time, lower name.

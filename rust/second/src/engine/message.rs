@@ -101,11 +101,9 @@ impl<U: Update, const M: u8> Book<U, M> {
         };
 
         let before = page.entries;
-        let (touched, odd_part) = if part.is_idle() {
-            (Touched::Quote(letter), Ok(()))
-        } else {
-            let taken = take_odd_part::<M>(page, letter, &part);
-            (Touched::QuoteAndLevels(letter), taken)
+        let odd_part = match part.is_idle() {
+            true => Ok(()),
+            false => take_odd_part::<M>(page, letter, &part),
         };
         let code = odd_part.err().unwrap_or(code::ACCEPTED);
         let lost = M == mistake::ROUND_PART_LOST && code != code::ACCEPTED
@@ -116,7 +114,7 @@ impl<U: Update, const M: u8> Book<U, M> {
         if M == mistake::EMPTY_QUOTE_CLEARS && quote.is_empty::<M>() {
             page.set_levels::<M>(letter, [Levels::EMPTY; 2]);
         }
-        U::update::<M>(page, touched);
+        U::update::<M>(page, Touched::Quote(letter));
         let flags = page.changes::<M>(&before);
         Ok(Worked { code, flags })
     }

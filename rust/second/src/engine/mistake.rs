@@ -79,7 +79,7 @@ mistakes! {
     61 ODD_LOT_ON_D "Q M is taken on D's line too.";
     62 FINRA_ODD_PARTLY "A Q T with 60 to 64 is counted as partly accepted.";
     63 FINRA_ODD_UNRANKED "D's levels are in no odd best.";
-    64 FINRA_ODD_NEEDS_MAKER "D's levels rank only while the FINRA best has that side.";
+    64 FINRA_ODD_WITHOUT_MAKER "D's levels rank without a maker.";
     65 CLOSE_CLEARS_LEVELS "FINRA Open and Close remove D's levels.";
     66 EMPTY_MAKER_CLEARS "An empty quote of a maker removes D's levels.";
     67 LEADER_ASKED "A query asks the national leader, not the letters from A on.";
@@ -94,4 +94,14 @@ mistakes! {
     76 MARK_BEFORE_SYMBOL "74 is checked before 10.";
     77 SMALL_MARK_TAKEN "The side mark b is taken as B.";
     78 REFUSED_LOOKS "A query refused with 10 reports 26 letters.";
+    79 CLOSED_RANKS "Levels rank whatever their letter's latest round quote.";
+    80 ONE_SIDE_HIDES_BOTH "E and F hide their letter's levels on both sides.";
+    81 EMPTY_SIDE_HIDES "A side without price or size hides its letter's levels.";
+    82 CLOSED_CLEARS "A quote that hides its letter's levels removes them.";
+    83 HIDDEN_LEADER_STAYS "The incremental engine keeps an odd leader that a quote hides.";
+    84 UNQUOTED_HIDDEN "Levels of a letter without a round quote don't rank.";
+    85 START_KEEPS_HIDDEN "Start of Day keeps levels from ranking.";
+    86 FINRA_ODD_BY_NATIONAL "D's levels rank while any letter has a national entry on that side.";
+    87 FINRA_ODD_BY_ANY_MAKER "D's levels rank beside a maker that doesn't count.";
+    88 FINRA_LEADER_STAYS "The incremental engine keeps an odd leader of D that a Q U hides.";
 }

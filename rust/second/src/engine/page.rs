@@ -4,7 +4,7 @@ use super::candidate::{national_name, Candidate, Entry, Side};
 use super::mistake;
 use super::odd_part::Levels;
 use super::page_side::{Leaders, PageSide};
-use super::quote::{counts, Quote};
+use super::quote::{counts, ranks_levels, Quote};
 use crate::terms::{ENTRY_LEN, FINRA, MAKERS_MAX, PROCESSOR, PUBLICATION_LEN};
 
 /// No maker's name has a zero byte, so these two are no names.
@@ -41,6 +41,11 @@ impl Page {
                 self.set_levels::<M>(letter, old.levels(letter));
             }
         }
+        if M == mistake::START_KEEPS_HIDDEN {
+            for (now, old) in self.sides.iter_mut().zip(&old.sides) {
+                now.levels_rank = old.levels_rank;
+            }
+        }
         if M == mistake::START_KEEPS_TIMES {
             for (now, old) in self.sides.iter_mut().zip(&old.sides) {
                 for letter in b'A'..=b'Z' {
@@ -58,6 +63,9 @@ impl Page {
         let over = over::<M>(quote, name, standing);
         for (side, (candidate, counts)) in self.sides.iter_mut().zip(over) {
             side.set_quote(letter, candidate, counts);
+        }
+        for side in Side::BOTH {
+            self.sides[side as usize].rank_levels::<M>(letter, ranks_levels::<M>(quote, side));
         }
     }
 
@@ -171,7 +179,7 @@ impl Page {
                 return false;
             }
             let quote = match M {
-                mistake::INDICATION_PROTECTS => page_side.standing_quote(letter),
+                mistake::INDICATION_PROTECTS => page_side.quote(letter),
                 _ => page_side.counting_quote(letter),
             };
             if M == mistake::ZERO_BY_RANK {

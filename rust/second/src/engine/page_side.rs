@@ -28,7 +28,10 @@ pub struct PageSide {
     pub makers: Ranking<MAKERS_MAX>,
     /// Each letter's levels.
     levels: [Levels; LETTERS],
-    /// The best of each letter's levels.
+    /// Whether a letter's levels rank: while its latest round quote admits the side by its
+    /// condition, or it has none; D's while its FINRA best has that side.
+    pub levels_rank: [bool; LETTERS],
+    /// The best of each letter's levels, counting if they rank.
     odd: Ranking<LETTERS>,
     pub leaders: Leaders,
 }
@@ -38,6 +41,11 @@ impl PageSide {
         quotes: Ranking::EMPTY,
         makers: Ranking::EMPTY,
         levels: [Levels::EMPTY; LETTERS],
+        levels_rank: {
+            let mut ranks = [true; LETTERS];
+            ranks[(FINRA - b'A') as usize] = false;
+            ranks
+        },
         odd: Ranking::EMPTY,
         leaders: Leaders {
             national: Candidate::NONE,
@@ -64,11 +72,33 @@ impl PageSide {
 
     #[inline]
     pub fn set_levels<const M: u8>(&mut self, letter: u8, levels: Levels) {
-        let best = levels.best::<M>();
-        let unranked = M == mistake::FINRA_ODD_UNRANKED && letter == FINRA;
         self.levels[place(letter)] = levels;
-        self.odd
-            .set(place(letter), best, best.stands() && !unranked);
+        self.place_level::<M>(letter);
+    }
+
+    /// From now on a letter's levels rank, or they don't. They stay stored.
+    #[inline]
+    pub fn rank_levels<const M: u8>(&mut self, letter: u8, rank: bool) {
+        if self.levels_rank[place(letter)] != rank || M == mistake::UNQUOTED_HIDDEN {
+            self.levels_rank[place(letter)] = rank;
+            if M == mistake::CLOSED_CLEARS && !rank {
+                self.levels[place(letter)] = Levels::EMPTY;
+            }
+            self.place_level::<M>(letter);
+        }
+    }
+
+    #[inline]
+    fn place_level<const M: u8>(&mut self, letter: u8) {
+        let best = self.levels[place(letter)].best::<M>();
+        let mut ranks = self.levels_rank[place(letter)];
+        if M == mistake::UNQUOTED_HIDDEN {
+            ranks &= self.quote(letter) != Candidate::NONE;
+        }
+        if M == mistake::FINRA_ODD_UNRANKED {
+            ranks &= letter != FINRA;
+        }
+        self.odd.set(place(letter), best, best.stands() && ranks);
     }
 
     /// A letter's quote if it counts, else none.
@@ -77,13 +107,7 @@ impl PageSide {
         self.quotes.counting(place(letter))
     }
 
-    /// A letter's quote, whether it counts or not.
-    #[inline]
-    pub fn standing_quote(&self, letter: u8) -> Candidate {
-        self.quotes.standing(place(letter))
-    }
-
-    /// The best of one letter's levels.
+    /// The best of one letter's levels if they rank, else none.
     #[inline]
     pub fn best_level_of(&self, letter: u8) -> Candidate {
         self.odd.counting(place(letter))
@@ -101,22 +125,14 @@ impl PageSide {
         self.quotes.best::<M>()
     }
 
-    /// The best of all letters' levels.
+    /// The best of all letters' levels that rank.
     #[inline]
     pub fn best_level<const M: u8>(&self) -> Candidate {
         self.odd.best::<M>()
     }
 
-    /// The mistake of letting D's levels rank by the FINRA best alone.
-    #[inline]
-    pub fn rank_finra_levels<const M: u8>(&mut self) {
-        let best = self.levels(FINRA).best::<M>();
-        let counts = best.stands() && self.leaders.finra.stands();
-        self.odd.set(place(FINRA), best, counts);
-    }
-
     /// D stands nationally with its FINRA best and that maker's condition. This condition is R: L
-    /// admits neither side, and makers have no other.
+    /// admits neither side, and makers have no other. D's levels rank while it stands.
     #[inline]
     pub fn place_finra<const M: u8>(&mut self) {
         let mut finra = self.leaders.finra;
@@ -126,5 +142,16 @@ impl PageSide {
             finra.time = 0;
         }
         self.set_quote(FINRA, finra, counts);
+        let rank = match M {
+            mistake::FINRA_ODD_WITHOUT_MAKER => true,
+            mistake::FINRA_ODD_BY_ANY_MAKER => self.any_maker(),
+            _ => counts,
+        };
+        self.rank_levels::<M>(FINRA, rank);
+    }
+
+    /// Whether a maker stands that shows a price on this side, counting or not.
+    fn any_maker(&self) -> bool {
+        (0..MAKERS_MAX).any(|cell| self.makers.standing(cell).stands())
     }
 }

@@ -60,6 +60,19 @@ impl Quote {
     }
 }
 
+/// Whether this quote lets its letter's levels rank on a side: by its condition alone, "whatever price
+/// and size it shows".
+#[inline]
+pub fn ranks_levels<const M: u8>(quote: &Quote, side: Side) -> bool {
+    let [bid, offer] = Side::BOTH.map(|side| admits::<M>(quote.condition, side));
+    match M {
+        mistake::CLOSED_RANKS => true,
+        mistake::ONE_SIDE_HIDES_BOTH => bid && offer,
+        mistake::EMPTY_SIDE_HIDES => quote.side::<M>(side, 0).1,
+        _ => [bid, offer][side as usize],
+    }
+}
+
 /// A side counts if price and size are above zero and the condition admits it. A price with size 0
 /// is an indication and does not count.
 #[inline]

@@ -9,12 +9,10 @@ use crate::terms::FINRA;
 /// What an accepted message replaced in a page.
 #[derive(Clone, Copy)]
 pub enum Touched {
-    /// The letter's quote.
+    /// The letter's quote, and so whether its levels rank; its levels too, if it had an odd part.
     Quote(u8),
     /// The letter's levels.
     Levels(u8),
-    /// The letter's quote and its levels.
-    QuoteAndLevels(u8),
     /// The quote in a cell, of the maker with this name.
     Maker(usize, u32),
     /// The conditions of all makers' quotes.
@@ -47,8 +45,8 @@ fn rank_side<const M: u8>(side: &mut PageSide) {
     side.leaders.finra = side.best_maker::<M>();
     side.place_finra::<M>();
     side.leaders.national = side.best_quote::<M>();
-    if M == mistake::FINRA_ODD_NEEDS_MAKER {
-        side.rank_finra_levels::<M>();
+    if M == mistake::FINRA_ODD_BY_NATIONAL {
+        side.rank_levels::<M>(FINRA, side.leaders.national.stands());
     }
     side.leaders.odd = side.best_level::<M>();
 }
@@ -62,12 +60,13 @@ impl Update for FollowLeader {
         for side in Side::BOTH {
             let page_side = &mut page.sides[side as usize];
             match touched {
-                Touched::Quote(letter) => follow_quote::<M>(page_side, letter),
-                Touched::Levels(letter) => follow_levels::<M>(page_side, letter),
-                Touched::QuoteAndLevels(letter) => {
+                Touched::Quote(letter) => {
                     follow_quote::<M>(page_side, letter);
-                    follow_levels::<M>(page_side, letter);
+                    if M != mistake::HIDDEN_LEADER_STAYS {
+                        follow_levels::<M>(page_side, letter);
+                    }
                 }
+                Touched::Levels(letter) => follow_levels::<M>(page_side, letter),
                 Touched::Maker(cell, name) => follow_maker::<M>(page_side, cell, name),
                 Touched::Makers => rank_side::<M>(page_side),
             }
@@ -111,5 +110,8 @@ fn follow_maker<const M: u8>(side: &mut PageSide, cell: usize, name: u32) {
     if side.leaders.finra != leader {
         side.place_finra::<M>();
         follow_quote::<M>(side, FINRA);
+        if M != mistake::FINRA_LEADER_STAYS {
+            follow_levels::<M>(side, FINRA);
+        }
     }
 }

@@ -96,6 +96,20 @@ pub fn protection(account: &Account, side: Side, price: u64) -> (bool, u8) {
     (false, looked)
 }
 
+/// "A level now ranks only while its letter's latest round quote admits that side by its condition,
+/// whatever price and size it shows. A letter other than D with no round quote since Start of Day
+/// ranks as before. D ranks only while its FINRA best has that side, whatever quotes it had." The
+/// history has nothing from before Start of Day.
+fn ranks(account: &Account, letter: u8, side: Side) -> bool {
+    if letter == b'D' {
+        return finra_best(account, side).is_some();
+    }
+    match account.quote(letter) {
+        Some(standing) => standing.quote.admits(side),
+        None => true,
+    }
+}
+
 /// "Odd best: over all letters' levels priced above the national bid (below the national offer;
 /// any level if that side has none)."
 fn odd_best(account: &Account, side: Side) -> Option<Candidate> {
@@ -106,7 +120,7 @@ fn odd_best(account: &Account, side: Side) -> Option<Candidate> {
         (Some(national), Side::Offer) => price < national.price,
     };
     let mut candidates = Vec::new();
-    for letter in b'A'..=b'Z' {
+    for letter in (b'A'..=b'Z').filter(|&letter| ranks(account, letter, side)) {
         for level in account.levels(letter, side) {
             if is_inside(level.price) {
                 candidates.push(Candidate {

@@ -106,14 +106,19 @@ impl Quote {
         self.bid == nothing && self.offer == nothing
     }
 
-    /// "A side counts if price and size are above zero and the condition admits it."
-    pub fn counts(&self, side: Side) -> bool {
-        let shown = self.side(side);
+    /// "A, B, H, O, R, W admit both sides, E the offer, F the bid, C, L, N, U neither."
+    pub fn admits(&self, side: Side) -> bool {
         let admitting: &[u8] = match side {
             Side::Bid => b"ABHORWF",
             Side::Offer => b"ABHORWE",
         };
-        shown.price > 0 && shown.size > 0 && admitting.contains(&self.condition)
+        admitting.contains(&self.condition)
+    }
+
+    /// "A side counts if price and size are above zero and the condition admits it."
+    pub fn counts(&self, side: Side) -> bool {
+        let shown = self.side(side);
+        shown.price > 0 && shown.size > 0 && self.admits(side)
     }
 }
 

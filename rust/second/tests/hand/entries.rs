@@ -147,7 +147,7 @@ fn odd_levels_follow_the_national_price() {
         desk.code(N, odd_lot(N, &odd(b' ', &levels, &[(TEN, 5)])));
         assert_eq!(desk.odd_bid(), entry("N", TEN + 2 * CENT, 7));
         assert_eq!(desk.odd_offer(), entry("N", TEN, 5));
-        // The letter's own quote plays no part, nor does a quote of the other side.
+        // The letter's own quote is like any other's; a quote of the other side plays no part.
         let high = quote(&round(N, (TEN + 2 * CENT, 1), NOTHING));
         assert_eq!(desk.message(N, high), (0, 1 | 16));
         assert_eq!(desk.odd_bid(), none());

@@ -8,6 +8,11 @@ fn of_d(clear: u8, bids: &[Shown], offers: &[Shown]) -> Vec<u8> {
     finra_odd_lot(D, &odd(clear, bids, offers))
 }
 
+/// A maker's quote of ZT far from every level, so that those of D rank (T-07).
+fn far() -> Vec<u8> {
+    maker("ZZ", (CENT, 1), (9 * TEN, 1))
+}
+
 /// A message with another time.
 fn at(message: Vec<u8>, time: u64) -> Vec<u8> {
     with(message, 4, &time.to_be_bytes())
@@ -16,13 +21,14 @@ fn at(message: Vec<u8>, time: u64) -> Vec<u8> {
 #[test]
 fn they_stand_as_levels_of_d() {
     each_desk(|desk| {
+        assert_eq!(desk.message(D, far()), (0, 15));
+        let before = desk.entries("ZT");
         let message = of_d(b' ', &[(TEN, 30)], &[(TEN + CENT, 40)]);
         assert_eq!(desk.message(D, message), (0, 16 | 32));
         assert_eq!(desk.odd_bid(), entry("D", TEN, 30));
         assert_eq!(desk.odd_offer(), entry("D", TEN + CENT, 40));
         assert_eq!(&desk.publication("ZT")[64..68], b"D   ");
-        // Without a maker D has no FINRA and no national entry.
-        assert_eq!(desk.entries("ZT")[..4], vec![none(); 4]);
+        assert_eq!(desk.entries("ZT")[..4], before[..4]);
         assert_eq!(desk.entries("YY"), vec![none(); 6]);
     });
 }
@@ -30,6 +36,7 @@ fn they_stand_as_levels_of_d() {
 #[test]
 fn faults_in_their_order() {
     each_desk(|desk| {
+        desk.code(D, far());
         let mut message = of_d(b'?', &[(TEN, 1)], &[]);
         message[1] = b't';
         message[3] = 1;
@@ -90,6 +97,7 @@ fn the_line_decides() {
         // On N's line the letter D is 41, whichever of the two it is.
         assert_eq!(desk.code(N, finra_odd_lot(D, &part)), 41);
         assert_eq!(desk.code(N, odd_lot(D, &part)), 41);
+        desk.code(D, far());
         assert_eq!(desk.message(N, odd_lot(N, &part)), (0, 16));
         assert_eq!(desk.message(D, finra_odd_lot(D, &part)), (0, 16));
         assert_eq!(desk.odd_bid(), entry("D", TEN, 5));
@@ -100,6 +108,7 @@ fn the_line_decides() {
 fn every_line_of_d_is_ds_line() {
     each_desk(|desk| {
         let second = 40;
+        desk.code(D, far());
         assert_eq!(desk.book.open_line(second, b'D'), 0);
         assert_eq!(desk.code(D, of_d(b' ', &four_bids(), &[])), 0);
         let fifth = of_d(b' ', &[(TEN, 1)], &[]);
@@ -127,6 +136,7 @@ fn refused_parts() -> Vec<(u8, Odd)> {
 fn a_refused_one_is_rejected_and_does_nothing() {
     for (code, part) in refused_parts() {
         each_desk(|desk| {
+            desk.code(D, far());
             let standing = of_d(b' ', &four_bids(), &[(TEN + 8 * CENT, 1)]);
             assert_eq!(desk.code(D, standing), 0);
             let before = desk.entries("ZT");
@@ -147,6 +157,7 @@ fn a_refused_one_is_rejected_and_does_nothing() {
 #[test]
 fn four_levels_a_side_beside_those_of_others() {
     each_desk(|desk| {
+        desk.code(D, far());
         assert_eq!(desk.code(N, odd_lot(N, &odd(b' ', &four_bids(), &[]))), 0);
         assert_eq!(desk.code(D, of_d(b' ', &four_bids(), &four_bids())), 0);
         assert_eq!(desk.code(D, of_d(b' ', &[(TEN, 1)], &[])), 64);
@@ -170,6 +181,7 @@ fn four_levels_a_side_beside_those_of_others() {
 #[test]
 fn they_are_ranked_with_the_letter_d() {
     each_desk(|desk| {
+        desk.code(D, far());
         let mut send = |line: u32, time, price, shares, name: &str| {
             let part = odd(b' ', &[(price, shares)], &[]);
             let message = match line {
@@ -195,6 +207,7 @@ fn they_are_ranked_with_the_letter_d() {
 #[test]
 fn they_are_judged_against_the_national_price() {
     each_desk(|desk| {
+        desk.code(D, far());
         let levels = of_d(b' ', &[(TEN, 9), (TEN + CENT, 8)], &[(TEN + 2 * CENT, 7)]);
         assert_eq!(desk.message(D, levels), (0, 16 | 32));
         // D's own FINRA best is a national price like any other.
@@ -219,20 +232,27 @@ fn makers_and_days_leave_them() {
     each_desk(|desk| {
         let bid = entry("D", TEN, 9);
         assert_eq!(desk.code(D, of_d(b' ', &[(TEN, 9)], &[])), 0);
-        for message in [
-            control(b'C', D),
-            control(b'O', D),
-            maker("AA", NOTHING, NOTHING),
-            maker("AA", (TEN - CENT, 1), NOTHING),
-            control(b'C', D),
-            maker("AA", NOTHING, NOTHING),
+        let quote = maker("AA", (TEN - CENT, 1), NOTHING);
+        let empty = maker("AA", NOTHING, NOTHING);
+        // They are seen whenever the FINRA best has a bid.
+        for (message, seen) in [
+            (control(b'C', D), none()),
+            (control(b'O', D), none()),
+            (empty.clone(), none()),
+            (quote.clone(), bid.clone()),
+            (control(b'C', D), none()),
+            (control(b'O', D), bid.clone()),
+            (empty, none()),
+            (quote.clone(), bid.clone()),
         ] {
             assert_eq!(desk.code(D, message), 0);
-            assert_eq!(desk.odd_bid(), bid);
+            assert_eq!(desk.odd_bid(), seen);
         }
         assert_eq!(desk.book.end_day(), 0);
         assert_eq!(desk.odd_bid(), bid);
         assert_eq!(desk.book.start_day(), 0);
+        assert_eq!(desk.odd_bid(), none());
+        assert_eq!(desk.code(D, quote), 0);
         assert_eq!(desk.odd_bid(), none());
         // None of the old levels stands: there is room for four.
         assert_eq!(desk.code(D, of_d(b' ', &four_bids(), &[])), 0);
@@ -242,6 +262,9 @@ fn makers_and_days_leave_them() {
 #[test]
 fn they_name_their_symbol() {
     each_desk(|desk| {
+        let in_yy = with(far(), 20, &build::symbol("YY"));
+        assert_eq!(desk.code(D, far()), 0);
+        assert_eq!(desk.code(D, in_yy), 0);
         assert_eq!(desk.code(D, of_d(b' ', &[(TEN, 9)], &[])), 0);
         let before = desk.publication("ZT");
         let other = |shares| {

@@ -8,6 +8,7 @@ mod desk;
 
 mod accident;
 mod cases;
+mod closed;
 mod entries;
 mod finra_odd_lots;
 mod line;

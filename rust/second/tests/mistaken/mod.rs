@@ -28,7 +28,10 @@ const BOOKS: &[(u8, Fresh)] = mistaken! {
     incremental: 49;
     engine:
         50 51 52 53 54 55 56 57 58 59 60 61 62 63 64 65 66 67 68 69
-        70 71 72 73 74 75 76 77 78;
+        70 71 72 73 74 75 76 77 78 79 80 81 82;
+    incremental: 83;
+    engine: 84 85 86 87;
+    incremental: 88;
 };
 
 const LISTS: u64 = 400;
