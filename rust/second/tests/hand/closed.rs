@@ -236,11 +236,7 @@ fn levels_of_d_beside_other_letters() {
 fn finra_close_and_open_in_every_symbol() {
     each_desk(|desk| {
         for symbol in ["ZT", "YY"] {
-            let best = with(
-                quote(&round(N, BID, OFFER)),
-                20,
-                &build::symbol(symbol),
-            );
+            let best = with(quote(&round(N, BID, OFFER)), 20, &build::symbol(symbol));
             assert_eq!(desk.message(N, best), (0, 1 | 2));
         }
         assert_eq!(desk.message(D, of_d()), (0, 0));
