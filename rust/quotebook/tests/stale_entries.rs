@@ -233,23 +233,32 @@ fn idle_odd_lots() {
     assert_eq!(book.bytes()[in_page(ZT, rest)], before);
 }
 
-/// FINRA's odd lots, one with a space and no items too.
+/// FINRA's odd lots, one with a space and no items too. Without a maker they are stored and not seen.
 #[test]
 fn finra_odd_lots() {
-    let odd = bids(b' ', &[(TEN + CENT, 5)]);
-    let mut entries = NOTHING;
-    entries[4] = "D 10.01 x 5";
-    check(book(), D, finra_odd_lot(b'D', &odd), (0, 3 + 16), entries);
+    let message = finra_odd_lot(b'D', &bids(b' ', &[(TEN + CENT, 5)]));
+    check(book(), D, message.clone(), (0, 3), NOTHING);
     check(book(), D, finra_odd_lot(b'D', &Odd::IDLE), (0, 3), NOTHING);
+    let mut entries = MADE;
+    entries[4] = "D 10.01 x 5";
     let standing = after(book(), D, maker());
-    entries[..4].copy_from_slice(&MADE[..4]);
-    check(
-        standing,
-        D,
-        finra_odd_lot(b'D', &odd),
-        (0, 15 + 16),
-        entries,
-    );
+    check(standing, D, message.clone(), (0, 15 + 16), entries);
+    let stored = after(book(), D, message);
+    check(stored, D, maker(), (0, 15 + 16), entries);
+}
+
+/// A closing quote hides its letter's odd lots, the next quote brings them back.
+#[test]
+fn quotes_that_hide_odd_lots() {
+    let levels = odd_lot(b'N', &bids(b' ', &[(TEN + CENT, 5)]));
+    let mut closing = quote(b'N', &Odd::IDLE);
+    closing[31] = b'C';
+    let standing = after(book(), N, levels.clone());
+    check(standing, N, closing.clone(), (0, 3), NOTHING);
+    let hidden = after(after(book(), N, levels), N, closing);
+    let mut entries = QUOTED;
+    entries[4] = "N 10.01 x 5";
+    check(hidden, N, quote(b'N', &Odd::IDLE), (0, 3 + 16), entries);
 }
 
 /// A clear of levels that do not stand, and a removal of an unknown price.

@@ -263,15 +263,22 @@ fn odd_lots() {
     }
 }
 
-/// An odd lot of FINRA leads under the letter D; off D's line it is 44.
+/// An odd lot of FINRA leads under the letter D once a maker quotes that side; off D's line it is 44.
 #[test]
 fn finra_odd_lots() {
     let part = odd(b' ', &[(TEN, 9)], &[]);
+    let bid = build::maker_quote(&round(b'D', (TEN - CENT, 1), (0, 0)), build::maker("KNLI"));
     let mut tape = desk();
-    tape.send(D, 1, &[finra_odd_lot(b'D', &part)]);
+    tape.send(D, 1, &[finra_odd_lot(b'D', &part), bid]);
     tape.send(N, 1, &[finra_odd_lot(b'N', &part), odd_lot(b'N', &part)]);
     let printed = agreed("FINRA's odd lots", &tape.bytes());
-    for line in ["msg 0 0 16", "msg 0 44 0", "msg 1 0 0", "OB D - 10000000 9"] {
+    for line in [
+        "msg 0 0 0",
+        "msg 1 0 21",
+        "msg 0 44 0",
+        "msg 1 0 0",
+        "OB D - 10000000 9",
+    ] {
         assert!(printed.contains(line), "{line} in\n{printed}");
     }
 }
