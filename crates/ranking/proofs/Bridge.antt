@@ -13,12 +13,14 @@ use Rattle.lists.specs.Lists.{collect, range}
 use Rattle.ranking.specs.declared.Side.{Side}
 use Rattle.ranking.specs.declared.Side.the-variants.{Bid, Offer}
 use Rattle.ranking.specs.declared.Candidate.{Candidate}
-use Rattle.ranking.specs.Ranking.{ahead, first, lex, lower, higher, byPrice, bySize, byTime, byName, better, best}
+use Rattle.ranking.specs.declared.Reason.the-variants.{Price}
+use Rattle.ranking.specs.declared.Compared.{Compared}
+use Rattle.ranking.specs.Ranking.{ahead, comparedBy, lower, higher, byPrice, compared, better, best}
 use Rattle.ranking.specs.Held.{noCandidate, orNone}
-use Rattle.ranking.specs.code.Choice.{rankOf, live, larger, byRest, beats, choose, bestFrom}
+use Rattle.ranking.specs.code.Choice.{rankOf, live, byRest, byRank, beats, choose, bestFrom}
 use Rattle.ranking.proofs.OrderLaws.{either, best-cons, either-either}
 use Rattle.ranking.proofs.RankingLaws.{better-weak}
-use Rattle.ranking.proofs.ChoiceLaws.{rank-zero, rank-some, choose-ahead, choose-none, choose-live}
+use Rattle.ranking.proofs.ChoiceLaws.{rank-zero, rank-some, rank-more, choose-by, choose-none, choose-live}
 
 -- ---- ranks and prices
 
@@ -37,35 +39,19 @@ rank-ahead Offer p q n m h k = rw (ne-eqb p 0 n, ne-eqb q 0 m) (ltb-flip 1844674
 
 -- ---- the comparison
 
-by-first : (u v r : Bool) → cond u true (cond v false r) ≡ first u v r
-by-first true v r = refl
-by-first false true r = refl
-by-first false false r = refl
+-- of two candidates with prices it is that of the rules
+module _ (s : Side) (x b : Candidate) (p : x .price ≡ 0 → ⊥) (q : b .price ≡ 0 → ⊥) (h : x .price < 2 ^ 64) (k : b .price < 2 ^ 64) where
+  pub rank-compared : byRank s x b ≡ compared s x b
+  unfolding byRank byRest compared comparedBy byPrice higher lower
+  rank-compared = rw (rank-ahead s (x .price) (b .price) p q h k, rank-ahead s (b .price) (x .price) q p k h)
 
-last-rule : (u v : Bool) → cond u true (cond v false false) ≡ u
-last-rule true v = refl
-last-rule false true = refl
-last-rule false false = refl
+  pub beats-better : (x .size ≡ 0 → ⊥) → beats s x b ≡ better s x b
+  unfolding beats better
+  beats-better z = rw (ne-eqb (x .price) 0 p, ne-eqb (x .size) 0 z) (ap (λ (c : Compared). c .ahead) rank-compared)
 
-rest-is : (x b : Candidate) → byRest x b ≡ lex bySize (lex byTime byName) x b
-unfolding byRest lex higher lower
-rest-is x b =
-    by-first (ltb (b .size) (x .size)) (ltb (x .size) (b .size)) (larger (b .time) (x .time) (larger (b .name) (x .name) false))
-    ∙ ap (first (ltb (b .size) (x .size)) (ltb (x .size) (b .size)))
-    (by-first (ltb (x .time) (b .time)) (ltb (b .time) (x .time)) (larger (b .name) (x .name) false)
-    ∙ ap (first (ltb (x .time) (b .time)) (ltb (b .time) (x .time))) (last-rule (ltb (x .name) (b .name)) (ltb (b .name) (x .name))))
-
-module _ (s : Side) (x b : Candidate) (p : x .price ≡ 0 → ⊥) (z : x .size ≡ 0 → ⊥) (q : b .price ≡ 0 → ⊥) (h : x .price < 2 ^ 64) (k : b .price < 2 ^ 64) where
-  pub beats-better : beats s x b ≡ better s x b
-  unfolding beats better lex byPrice
-  beats-better =
-      rw (ne-eqb (x .price) 0 p, ne-eqb (x .size) 0 z, rank-ahead s (x .price) (b .price) p q h k, rank-ahead s (b .price) (x .price) q p k h)
-      (by-first (ahead s (x .price) (b .price)) (ahead s (b .price) (x .price)) (byRest x b)
-      ∙ ap (first (ahead s (x .price) (b .price)) (ahead s (b .price) (x .price))) (rest-is x b))
-
-  choose-better : choose s b x ≡ cond (better s x b) x b
+  choose-better : (x .size ≡ 0 → ⊥) → choose s b x ≡ cond (better s x b) x b
   unfolding choose
-  choose-better = ap (λ (t : Bool). cond t x b) beats-better
+  choose-better z = ap (λ (t : Bool). cond t x b) (beats-better z)
 
 -- ---- one candidate more
 
@@ -104,8 +90,13 @@ either-counts s (some x) (some y) h k = go (better s y x)
 
 choose-counting : (s : Side) (o : Option Candidate) (x : Candidate) → OrCounting o → Counting x → choose s (orNone o) x ≡ orNone (either (better s) o (some x))
 choose-counting s none x h k =
-    sym (choose-ahead s noCandidate x (ltb (rankOf s 0) (rankOf s (x .price))) refl (k .size) (rw (rank-zero s) (lt-ltb 0 (rankOf s (x .price)) (rank-some s (x .price) (k .price) (k .fits)))))
-choose-counting s (some c) x h k = choose-better s x c (k .price) (k .size) (h .price) (k .fits) (h .fits)
+    sym (choose-by s noCandidate x (record { ahead = true; by = Price }) (k .price) (k .size) first-ahead true refl)
+  where
+    first-ahead : record { ahead = true; by = Price } ≡ byRank s x noCandidate
+    first-ahead =
+        rank-more s x noCandidate (ltb (rankOf s (x .price)) (rankOf s 0)) refl (ltb (rankOf s 0) (rankOf s (x .price))) refl
+        (rw (rank-zero s) (lt-ltb 0 (rankOf s (x .price)) (rank-some s (x .price) (k .price) (k .fits))))
+choose-counting s (some c) x h k = choose-better s x c (k .price) (h .price) (k .fits) (h .fits) (k .size)
 
 pub choose-either : (s : Side) (o : Option Candidate) (x : Candidate) → OrCounting o → x .price < 2 ^ 64 → choose s (orNone o) x ≡ orNone (either (better s) o (live x))
 choose-either s o x h k = choose-live s (orNone o) x ∙ go o h (live x) (live-counts x k)

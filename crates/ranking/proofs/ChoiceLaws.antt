@@ -13,21 +13,59 @@ use Rattle.ranking.specs.declared.Side.{Side}
 use Rattle.ranking.specs.declared.Side.the-variants.{Bid, Offer}
 use Rattle.ranking.specs.declared.Candidate.{Candidate}
 use Rattle.ranking.specs.declared.Sides.{Sides}
-use Rattle.ranking.specs.Held.{noCandidate, orNone}
-use Rattle.ranking.specs.code.Choice.{rankOf, live, larger, byRest, beats, choose, bestFrom, beyondOf, sidesFrom, stepSides}
+use Rattle.ranking.specs.declared.Reason.{Reason}
+use Rattle.ranking.specs.declared.Reason.the-variants.{Price, Size, Time, Name}
+use Rattle.ranking.specs.declared.Compared.{Compared}
+use Rattle.ranking.specs.declared.Lead.{Lead}
+use Rattle.ranking.specs.Ranking.{decide}
+use Rattle.ranking.specs.Held.{noCandidate, orNone, lateness}
+use Rattle.ranking.specs.code.Choice.{rankOf, live, larger, byRest, byRank, beats, choose, bestFrom, beyondOf, later, leadBy, leadWith, leadFrom, sidesFrom, stepSides}
 
-pub larger-more : (a b : ℕ) (r : Bool) → b < a → true ≡ larger a b r
-larger-more a b r h = rw (lt-ltb b a h)
+-- ---- the comparison
 
-pub larger-less : (a b : ℕ) (r : Bool) → a < b → false ≡ larger a b r
-larger-less a b r h = rw (le-ltb b a (le-of-lt h), lt-ltb a b h)
+-- x ahead of the other, or behind it, by a step
+abbrev by : Bool → Reason → Compared
+by t r = record { ahead = t; by = r }
 
-pub larger-tie : (a b : ℕ) (r : Bool) → a ≤ b → b ≤ a → r ≡ larger a b r
-larger-tie a b r h k = rw (le-ltb b a h, le-ltb a b k)
+larger-more : (r : Reason) (a b : ℕ) (z : Compared) → b < a → by true r ≡ larger r a b z
+larger-more r a b z h = rw (lt-ltb b a h)
 
-pub rest-by : (x b : Candidate) (n t z : Bool) → n ≡ larger (b .name) (x .name) false → t ≡ larger (b .time) (x .time) n → z ≡ larger (x .size) (b .size) t → z ≡ byRest x b
-unfolding byRest
-rest-by x b n t z en et ez = ez ∙ ap (larger (x .size) (b .size)) (et ∙ ap (larger (b .time) (x .time)) en)
+larger-less : (r : Reason) (a b : ℕ) (z : Compared) → a < b → by false r ≡ larger r a b z
+larger-less r a b z h = rw (le-ltb b a (le-of-lt h), lt-ltb a b h)
+
+larger-tie : (r : Reason) (a b : ℕ) (z : Compared) → a ≤ b → b ≤ a → z ≡ larger r a b z
+larger-tie r a b z h k = rw (le-ltb b a h, le-ltb a b k)
+
+module _ (x b : Candidate) where
+  abbrev bySize : Compared → Compared
+  bySize z = larger Size (x .size) (b .size) z
+
+  abbrev byTime : Compared → Compared
+  byTime z = larger Time (b .time) (x .time) z
+
+  abbrev byName : Compared
+  byName = by (ltb (x .name) (b .name)) Name
+
+  pub rest-larger : b .size < x .size → by true Size ≡ byRest x b
+  unfolding byRest
+  rest-larger h = larger-more Size (x .size) (b .size) (byTime byName) h
+
+  pub rest-smaller : x .size < b .size → by false Size ≡ byRest x b
+  unfolding byRest
+  rest-smaller h = larger-less Size (x .size) (b .size) (byTime byName) h
+
+  module _ (h : x .size ≤ b .size) (k : b .size ≤ x .size) where
+    pub rest-earlier : x .time < b .time → by true Time ≡ byRest x b
+    unfolding byRest
+    rest-earlier l = larger-more Time (b .time) (x .time) byName l ∙ larger-tie Size (x .size) (b .size) (byTime byName) h k
+
+    pub rest-later : b .time < x .time → by false Time ≡ byRest x b
+    unfolding byRest
+    rest-later l = larger-less Time (b .time) (x .time) byName l ∙ larger-tie Size (x .size) (b .size) (byTime byName) h k
+
+    pub rest-name : x .time ≤ b .time → b .time ≤ x .time → by (ltb (x .name) (b .name)) Name ≡ byRest x b
+    unfolding byRest
+    rest-name l m = larger-tie Time (b .time) (x .time) byName m l ∙ larger-tie Size (x .size) (b .size) (byTime byName) h k
 
 -- ---- ranks
 
@@ -56,20 +94,26 @@ unfolding rankOf
 rank-some Bid p n h = omega (arith, n)
 rank-some Offer p n h = rw (ne-eqb p 0 n) (omega arith)
 
+-- ---- by ranks
+
+module _ (s : Side) (x b : Candidate) where
+  module _ (t : Bool) (e : t ≡ ltb (rankOf s (x .price)) (rankOf s (b .price))) where
+    pub rank-behind : t ≡ true → by false Price ≡ byRank s x b
+    unfolding byRank
+    rank-behind h = larger-less Price (rankOf s (x .price)) (rankOf s (b .price)) (byRest x b) (ltb-true _ _ (sym e ∙ h))
+
+    module _ (u : Bool) (f : u ≡ ltb (rankOf s (b .price)) (rankOf s (x .price))) where
+      pub rank-more : u ≡ true → by true Price ≡ byRank s x b
+      unfolding byRank
+      rank-more h = larger-more Price (rankOf s (x .price)) (rankOf s (b .price)) (byRest x b) (ltb-true _ _ (sym f ∙ h))
+
+      pub rank-tie : (r : Compared) → t ≡ false → u ≡ false → r ≡ byRest x b → r ≡ byRank s x b
+      unfolding byRank
+      rank-tie r h k z = z ∙ larger-tie Price (rankOf s (x .price)) (rankOf s (b .price)) (byRest x b) (ltb-false _ _ (sym f ∙ k)) (ltb-false _ _ (sym e ∙ h))
+
 -- ---- the choice
 
 module _ (s : Side) (b x : Candidate) where
-  pub choose-behind : (t : Bool) → t ≡ ltb (rankOf s (x .price)) (rankOf s (b .price)) → t ≡ true → b ≡ choose s b x
-  unfolding choose beats
-  choose-behind t e h =
-      let l : rankOf s (x .price) < rankOf s (b .price) = ltb-true _ _ (sym e ∙ h) in
-      rw (← e, h, le-ltb (rankOf s (b .price)) (rankOf s (x .price)) (le-of-lt l)) (go (eqb (x .price) 0) (eqb (x .size) 0))
-    where
-      go : (t u : Bool) → b ≡ cond (cond t false (cond u false false)) x b
-      go true u = refl
-      go false true = refl
-      go false false = refl
-
   pub choose-priceless : x .price ≡ 0 → b ≡ choose s b x
   unfolding choose beats
   choose-priceless e = rw (eq-eqb _ _ e)
@@ -82,39 +126,18 @@ module _ (s : Side) (b x : Candidate) where
       go true = refl
       go false = refl
 
-  module _ (u : Bool) (f : u ≡ ltb (rankOf s (b .price)) (rankOf s (x .price))) where
-    pub choose-ahead : (x .size ≡ 0 → ⊥) → u ≡ true → x ≡ choose s b x
-    unfolding choose beats
-    choose-ahead z h = rw (ne-eqb _ _ priced, ne-eqb _ _ z, ← f, h)
-      where
-        priced : x .price ≡ 0 → ⊥
-        priced e =
-            let l : rankOf s (b .price) < rankOf s (x .price) = ltb-true _ _ (sym f ∙ h) in
-            let n : rankOf s (x .price) ≡ 0 = ap (rankOf s) e ∙ rank-zero s in
-            omega arith
+  pub choose-by : (c : Compared) → (x .price ≡ 0 → ⊥) → (x .size ≡ 0 → ⊥) → c ≡ byRank s x b → (v : Bool) → c .ahead ≡ v → cond v x b ≡ choose s b x
+  unfolding choose beats
+  choose-by c p z e v h = rw (ne-eqb _ _ p, ne-eqb _ _ z, ← e, h)
 
-    -- the same price: none, or decided by the rest
-    pub choose-still : u ≡ false → x .price < 2 ^ 64 → b .price ≡ 0 → b ≡ choose s b x
-    choose-still k h e = go (eqb (x .price) 0) refl
-      where
-        go : (t : Bool) → eqb (x .price) 0 ≡ t → b ≡ choose s b x
-        go true q = choose-priceless (eqb-true (x .price) 0 q)
-        go false q =
-            let l : rankOf s (x .price) ≤ rankOf s (b .price) = ltb-false _ _ (sym f ∙ k) in
-            let n : rankOf s (b .price) ≡ 0 = ap (rankOf s) e ∙ rank-zero s in
-            let o : 0 < rankOf s (x .price) = rank-some s (x .price) (eqb-false (x .price) 0 q) h in
-            absurd (omega arith)
-
-    pub choose-tie : (t w : Bool) → t ≡ ltb (rankOf s (x .price)) (rankOf s (b .price)) → t ≡ false → (x .size ≡ 0 → ⊥) → u ≡ false
-        → (b .price ≡ 0 → ⊥) → b .price < 2 ^ 64 → w ≡ byRest x b → (v : Bool) → w ≡ v → cond v x b ≡ choose s b x
-    unfolding choose beats
-    choose-tie t w e h z k p l r v q = rw (ne-eqb _ _ priced, ne-eqb _ _ z, ← f, k, ← e, h, ← r, q)
-      where
-        priced : x .price ≡ 0 → ⊥
-        priced o =
-            let m : rankOf s (b .price) ≤ rankOf s (x .price) = ltb-false _ _ (sym e ∙ h) in
-            let n : rankOf s (x .price) ≡ 0 = ap (rankOf s) o ∙ rank-zero s in
-            omega (arith, rank-some s (b .price) p l)
+  pub choose-behind : (t : Bool) → t ≡ ltb (rankOf s (x .price)) (rankOf s (b .price)) → t ≡ true → b ≡ choose s b x
+  unfolding choose beats
+  choose-behind t e h = rw (← rank-behind s x b t e h) (go (eqb (x .price) 0) (eqb (x .size) 0))
+    where
+      go : (t u : Bool) → b ≡ cond (cond t false (cond u false false)) x b
+      go true u = refl
+      go false true = refl
+      go false false = refl
 
 pub choose-none : (s : Side) (b : Candidate) → b ≡ choose s b noCandidate
 unfolding choose beats
@@ -134,27 +157,90 @@ pub beyond-by : (s : Side) (nat x : Candidate) (t : Bool) → t ≡ ltb (rankOf 
 unfolding beyondOf
 beyond-by s nat x t e v q = rw (← e, q)
 
+-- ---- the leader
+
+module _ (s : Side) (l : Lead) (x : Candidate) where
+  pub lead-priceless : x .price ≡ 0 → l ≡ leadWith s l x
+  unfolding leadWith
+  lead-priceless e = rw (eq-eqb _ _ e)
+
+  pub lead-sizeless : x .size ≡ 0 → l ≡ leadWith s l x
+  unfolding leadWith
+  lead-sizeless e = rw (eq-eqb (x .size) 0 e) (go (eqb (x .price) 0))
+    where
+      go : (t : Bool) → l ≡ cond t l l
+      go true = refl
+      go false = refl
+
+  module _ (p : x .price ≡ 0 → ⊥) (z : x .size ≡ 0 → ⊥) where
+    pub lead-alone : l .best .price ≡ 0 → record { best = x; decided = 0 } ≡ leadWith s l x
+    unfolding leadWith
+    lead-alone e = rw (ne-eqb _ _ p, ne-eqb _ _ z, eq-eqb _ _ e)
+
+    pub lead-compared : (c : Compared) (r : Lead) → (l .best .price ≡ 0 → ⊥) → c ≡ byRank s x (l .best) → r ≡ leadBy c l x → r ≡ leadWith s l x
+    unfolding leadWith
+    lead-compared c r n e h = rw (ne-eqb _ _ p, ne-eqb _ _ z, ne-eqb _ _ n, ← e) h
+
+-- a new leader; a loser that is decided later than all before it; another
+pub lead-ahead : (c : Compared) (l : Lead) (x : Candidate) (d : ℕ) → d ≡ lateness (c .by) → c .ahead ≡ true → record { best = x; decided = d } ≡ leadBy c l x
+unfolding leadBy
+lead-ahead c l x d e h = rw (h, e)
+
+module _ (c : Compared) (l : Lead) (x : Candidate) (d : ℕ) (e : d ≡ lateness (c .by)) (h : c .ahead ≡ false) where
+  pub lead-later : l .decided < d → record { best = l .best; decided = d } ≡ leadBy c l x
+  unfolding leadBy
+  lead-later k = rw (h, ← e, lt-ltb (l .decided) d k)
+
+  pub lead-stays : d ≤ l .decided → l ≡ leadBy c l x
+  unfolding leadBy
+  lead-stays k = rw (h, ← e, le-ltb (l .decided) d k)
+
+pub lead-none : (s : Side) (l : Lead) → l ≡ leadWith s l noCandidate
+unfolding leadWith
+lead-none s l = refl
+
+pub lead-live : (s : Side) (l : Lead) (x : Candidate) → leadWith s l x ≡ leadWith s l (orNone (live x))
+unfolding live
+lead-live s l x = go (eqb (x .price) 0) refl (eqb (x .size) 0) refl
+  where
+    go : (t : Bool) → eqb (x .price) 0 ≡ t → (u : Bool) → eqb (x .size) 0 ≡ u → leadWith s l x ≡ leadWith s l (orNone (cond t none (cond u none (some x))))
+    go true e u f = sym (lead-priceless s l x (eqb-true (x .price) 0 e)) ∙ lead-none s l
+    go false e true f = sym (lead-sizeless s l x (eqb-true (x .size) 0 f)) ∙ lead-none s l
+    go false e false f = refl
+
 -- ---- a loop that stops early
 
-module _ (s : Side) where
-  -- none changes nothing
-  best-quiet : (c : ℕ → Candidate) (i k : ℕ) (b : Candidate) → ((j : ℕ) → i ≤ j → j < i + k → c j ≡ noCandidate) → bestFrom s c i k b ≡ b
-  unfolding bestFrom
-  best-quiet c i zero b q = refl
-  best-quiet c i (suc k) b q =
-      let x : c i ≡ noCandidate = q i (omega arith) (omega arith) in
-      ap (bestFrom s c (i + 1) k) (ap (choose s b) x ∙ sym (choose-none s b)) ∙ best-quiet c (i + 1) k b (λ j l h. q j (omega arith) (omega arith))
+-- any loop over candidates in which none changes nothing
+module _ {T : Type 0} (step : T → Candidate → T) (run : (ℕ → Candidate) → ℕ → ℕ → T → T)
+    (stop : (c : ℕ → Candidate) (i : ℕ) (b : T) → run c i zero b ≡ b)
+    (more : (c : ℕ → Candidate) (i k : ℕ) (b : T) → run c i (suc k) b ≡ run c (i + 1) k (step b (c i)))
+    (none-stays : (b : T) → b ≡ step b noCandidate)
+  where
+    run-quiet : (c : ℕ → Candidate) (i k : ℕ) (b : T) → ((j : ℕ) → i ≤ j → j < i + k → c j ≡ noCandidate) → run c i k b ≡ b
+    run-quiet c i zero b q = stop c i b
+    run-quiet c i (suc k) b q =
+        let x : c i ≡ noCandidate = q i (omega arith) (omega arith) in
+        more c i k b ∙ ap (run c (i + 1) k) (ap (step b) x ∙ sym (none-stays b)) ∙ run-quiet c (i + 1) k b (λ j l h. q j (omega arith) (omega arith))
 
-  -- the first m of c are those of d, and the others of the n of d are none
-  pub best-stops : (c d : ℕ → Candidate) (i m n : ℕ) (b : Candidate) → m ≤ n → ((j : ℕ) → i ≤ j → j < i + m → c j ≡ d j)
-      → ((j : ℕ) → i + m ≤ j → j < i + n → d j ≡ noCandidate) → bestFrom s c i m b ≡ bestFrom s d i n b
+    -- the first m of c are those of d, and the others of the n of d are none
+    run-stops : (c d : ℕ → Candidate) (i m n : ℕ) (b : T) → m ≤ n → ((j : ℕ) → i ≤ j → j < i + m → c j ≡ d j)
+        → ((j : ℕ) → i + m ≤ j → j < i + n → d j ≡ noCandidate) → run c i m b ≡ run d i n b
+    run-stops c d i zero n b h e q = stop c i b ∙ sym (run-quiet d i n b (λ j l k. q j (omega arith) k))
+    run-stops c d i (suc m) zero b h e q = absurd (omega arith)
+    run-stops c d i (suc m) (suc n) b h e q =
+        let x : c i ≡ d i = e i (omega arith) (omega arith) in
+        more c i m b ∙ ap (run c (i + 1) m) (ap (step b) x)
+        ∙ run-stops c d (i + 1) m n (step b (d i)) (omega arith) (λ j l k. e j (omega arith) (omega arith)) (λ j l k. q j (omega arith) (omega arith))
+        ∙ sym (more d i n b)
+
+module _ (s : Side) (c d : ℕ → Candidate) (i m n : ℕ) where
+  pub best-stops : (b : Candidate) → m ≤ n → ((j : ℕ) → i ≤ j → j < i + m → c j ≡ d j) → ((j : ℕ) → i + m ≤ j → j < i + n → d j ≡ noCandidate) → bestFrom s c i m b ≡ bestFrom s d i n b
   unfolding bestFrom
-  best-stops c d i zero n b h e q = sym (best-quiet d i n b (λ j l k. q j (omega arith) k))
-  best-stops c d i (suc m) zero b h e q = absurd (omega arith)
-  best-stops c d i (suc m) (suc n) b h e q =
-      let x : c i ≡ d i = e i (omega arith) (omega arith) in
-      ap (bestFrom s c (i + 1) m) (ap (choose s b) x)
-      ∙ best-stops c d (i + 1) m n (choose s b (d i)) (omega arith) (λ j l k. e j (omega arith) (omega arith)) (λ j l k. q j (omega arith) (omega arith))
+  best-stops b h e q = run-stops (choose s) (bestFrom s) (λ c i b. refl) (λ c i k b. refl) (choose-none s) c d i m n b h e q
+
+  pub lead-stops : (l : Lead) → m ≤ n → ((j : ℕ) → i ≤ j → j < i + m → c j ≡ d j) → ((j : ℕ) → i + m ≤ j → j < i + n → d j ≡ noCandidate) → leadFrom s c i m l ≡ leadFrom s d i n l
+  unfolding leadFrom
+  lead-stops l h e q = run-stops (leadWith s) (leadFrom s) (λ c i b. refl) (λ c i k b. refl) (lead-none s) c d i m n l h e q
 
 -- ---- loops over both sides: what remains gives what the whole gives
 

@@ -2,3 +2,4 @@ pub mod OrderLaws
 pub mod RankingLaws
 pub mod ChoiceLaws
 pub mod Bridge
+pub mod LeadLaws

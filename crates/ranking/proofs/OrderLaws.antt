@@ -1,6 +1,6 @@
--- Orders, and the best of a list: it depends on the members only, and may be found in parts.
+-- Orders made of steps, and the best of a list: it depends on the members only, and may be found in parts.
 -- Assumes nothing.
-use Prim.Native.Nat.{ℕ}
+use Prim.Native.Nat.{ℕ, _≤_}
 use mathlib.Core.Path.{_≡_, refl, sym, ap, _∙_}
 use mathlib.Core.Bool.{Bool, true, false, cond}
 use mathlib.Core.Logic.{inl, inr}
@@ -11,14 +11,25 @@ use borrow.Author.Tests.{ltb-true, ltb-false, le-ltb}
 use Rattle.lists.specs.Lists.{bindOption, consOption, collect}
 use Rattle.lists.proofs.Tests.{clash}
 use Rattle.lists.proofs.Members.{In}
-use Rattle.ranking.specs.Ranking.{first, lex, lower, higher, pick, best}
+use Rattle.ranking.specs.declared.Reason.{Reason}
+use Rattle.ranking.specs.declared.Compared.{Compared}
+use Rattle.ranking.specs.Ranking.{Step, decide, comparedBy, lower, higher, pick, best}
+use Rattle.ranking.specs.Held.{lateness}
 
 -- a comparison that is a strict weak order
 pub record Weak {A : Type 0} (R : A → A → Bool) : Type 0 where
   pub asym : (a b : A) → R a b ≡ true → R b a ≡ false
   pub steps : (a b c : A) → R a b ≡ false → R b c ≡ false → R a c ≡ false
 
--- ---- orders by several rules
+-- ---- orders by two rules: the first decides; where it sees no difference, the second does
+
+abbrev first : Bool → Bool → Bool → Bool
+first true y z = true
+first false true z = false
+first false false z = z
+
+unfoldable pub lex : {A : Type 0} → (A → A → Bool) → (A → A → Bool) → A → A → Bool
+lex P Q a b = first (P a b) (P b a) (Q a b)
 
 first-left : (x y z : Bool) → first x y z ≡ false → x ≡ false
 first-left true y z e = e
@@ -62,6 +73,10 @@ module _ {A : Type 0} (P Q : A → A → Bool) where
   unfolding lex
   lex-left a b e = first-left (P a b) (P b a) (Q a b) e
 
+  lex-second : (a b : A) → lex P Q a b ≡ false → P b a ≡ false → Q a b ≡ false
+  unfolding lex
+  lex-second a b e f = first-right (P a b) (P b a) (Q a b) e f
+
   pub lex-right : (a b : A) → lex P Q a b ≡ false → lex P Q b a ≡ false → Q a b ≡ false
   unfolding lex
   lex-right a b e f = first-right (P a b) (P b a) (Q a b) e (lex-left b a f)
@@ -69,6 +84,99 @@ module _ {A : Type 0} (P Q : A → A → Bool) where
   pub lex-ahead : (a b : A) → P a b ≡ true → lex P Q a b ≡ true
   unfolding lex
   lex-ahead a b e = rw e
+
+-- ---- orders by steps
+
+decide-ahead : (r : Reason) (x y : Bool) (z : Compared) → decide r x y z .ahead ≡ first x y (z .ahead)
+decide-ahead r true y z = refl
+decide-ahead r false true z = refl
+decide-ahead r false false z = refl
+
+module _ {A : Type 0} where
+  abbrev pub aheadBy : Step A → List (Step A) → A → A → Bool
+  aheadBy p qs a b = comparedBy p qs a b .ahead
+
+  -- each step is a strict weak order
+  abbrev pub AllWeak : Step A → List (Step A) → Type 0
+  AllWeak p [] = Weak (p .rule)
+  AllWeak p (q ∷ qs) = Weak (p .rule) × AllWeak q qs
+
+  pub ahead-lex : (p q : Step A) (qs : List (Step A)) (a b : A) → aheadBy p (q ∷ qs) a b ≡ lex (p .rule) (aheadBy q qs) a b
+  unfolding comparedBy lex
+  ahead-lex p q qs a b = decide-ahead (p .by) (p .rule a b) (p .rule b a) (comparedBy q qs a b)
+
+  -- a step that sees no difference leaves it to those behind it
+  pub peel : (p q : Step A) (qs : List (Step A)) (a b : A) → aheadBy p (q ∷ qs) a b ≡ false → aheadBy p (q ∷ qs) b a ≡ false → aheadBy q qs a b ≡ false
+  peel p q qs a b e f = lex-right (p .rule) (aheadBy q qs) a b (sym (ahead-lex p q qs a b) ∙ e) (sym (ahead-lex p q qs b a) ∙ f)
+
+  weak-same : (R S : A → A → Bool) → ((a b : A) → R a b ≡ S a b) → Weak S → Weak R
+  weak-same R S e w =
+      record {
+        asym = λ a b h. e b a ∙ w .asym a b (sym (e a b) ∙ h);
+        steps = λ a b c h k. e a c ∙ w .steps a b c (sym (e a b) ∙ h) (sym (e b c) ∙ k);
+      }
+
+  -- then so is the whole
+  pub steps-weak : (p : Step A) (qs : List (Step A)) → AllWeak p qs → Weak (aheadBy p qs)
+  unfolding comparedBy
+  steps-weak p [] w = w
+  steps-weak p (q ∷ qs) w = weak-same (aheadBy p (q ∷ qs)) (lex (p .rule) (aheadBy q qs)) (ahead-lex p q qs) (lex-weak (p .rule) (aheadBy q qs) (w .0) (steps-weak q qs (w .1)))
+
+  -- both ways round the same step decides
+  pub same-step : (p : Step A) (qs : List (Step A)) → AllWeak p qs → (a b : A) → comparedBy p qs a b .by ≡ comparedBy p qs b a .by
+  unfolding comparedBy
+  same-step p [] w a b = refl
+  same-step p (q ∷ qs) w a b = go (p .rule a b) refl (p .rule b a) refl (same-step q qs (w .1) a b)
+    where
+      go : (s : Bool) → p .rule a b ≡ s → (t : Bool) → p .rule b a ≡ t → comparedBy q qs a b .by ≡ comparedBy q qs b a .by
+          → decide (p .by) s t (comparedBy q qs a b) .by ≡ decide (p .by) t s (comparedBy q qs b a) .by
+      go true e true f h = refl
+      go true e false f h = refl
+      go false e true f h = refl
+      go false e false f h = h
+
+  -- the steps are called in order: later ones have later names
+  abbrev pub Rising : Step A → List (Step A) → Type 0
+  Rising p [] = Unit {0}
+  Rising p (q ∷ qs) = (lateness (p .by) ≤ lateness (q .by)) × Rising q qs
+
+  not-before : (p : Step A) (qs : List (Step A)) → Rising p qs → (a b : A) → lateness (p .by) ≤ lateness (comparedBy p qs a b .by)
+  unfolding comparedBy
+  not-before p [] r a b = omega arith
+  not-before p (q ∷ qs) r a b = go (p .rule a b) (p .rule b a) (not-before q qs (r .1) a b)
+    where
+      go : (s t : Bool) → lateness (q .by) ≤ lateness (comparedBy q qs a b .by) → lateness (p .by) ≤ lateness (decide (p .by) s t (comparedBy q qs a b) .by)
+      go true t h = omega arith
+      go false true h = omega arith
+      go false false h = omega (arith, r .0)
+
+  -- of two that lose to b, the better one is decided no earlier: whatever the steps
+  pub closer : (p : Step A) (qs : List (Step A)) → AllWeak p qs → Rising p qs → (b x y : A) → aheadBy p qs x b ≡ false → aheadBy p qs y x ≡ false
+      → lateness (comparedBy p qs b y .by) ≤ lateness (comparedBy p qs b x .by)
+  unfolding comparedBy
+  closer p [] w r b x y e f = omega arith
+  closer p (q ∷ qs) w r b x y e f =
+      go (p .rule b x) refl (p .rule x b) refl (p .rule b y) refl (p .rule y b) (λ s t. closer q qs (w .1) (r .1) b x y s t)
+    where
+      xb : lex (p .rule) (aheadBy q qs) x b ≡ false
+      xb = sym (ahead-lex p q qs x b) ∙ e
+
+      yx : lex (p .rule) (aheadBy q qs) y x ≡ false
+      yx = sym (ahead-lex p q qs y x) ∙ f
+
+      rest : lateness (p .by) ≤ lateness (comparedBy q qs b x .by)
+      rest = omega (arith, r .0, not-before q qs (r .1) b x)
+
+      go : (s : Bool) → p .rule b x ≡ s → (t : Bool) → p .rule x b ≡ t → (u : Bool) → p .rule b y ≡ u → (v : Bool)
+          → (aheadBy q qs x b ≡ false → aheadBy q qs y x ≡ false → lateness (comparedBy q qs b y .by) ≤ lateness (comparedBy q qs b x .by))
+          → lateness (decide (p .by) u v (comparedBy q qs b y) .by) ≤ lateness (decide (p .by) s t (comparedBy q qs b x) .by)
+      go true bx t bt true by v down = omega arith
+      go true bx t bt false by v down = clash (sym bx ∙ w .0 .steps b y x by (lex-left (p .rule) (aheadBy q qs) y x yx))
+      go false bx true bt u by v down = clash (sym bt ∙ lex-left (p .rule) (aheadBy q qs) x b xb)
+      go false bx false bt true by v down = rest
+      go false bx false bt false by true down = rest
+      go false bx false bt false by false down =
+          down (lex-second (p .rule) (aheadBy q qs) x b xb bx) (lex-second (p .rule) (aheadBy q qs) y x yx (w .0 .steps x b y bt by))
 
 module _ {A : Type 0} (k : A → ℕ) where
   pub low-weak : Weak (lower k)
