@@ -9,7 +9,7 @@ use lib.Dec.{eqb}
 use Rattle.lists.specs.Lists.{member}
 use Rattle.ranking.specs.declared.Side.the-variants.{Bid, Offer}
 use Rattle.ranking.specs.declared.Candidate.{Candidate}
-use Rattle.ranking.specs.Ranking.{lex, lower, higher, byPrice, better}
+use Rattle.ranking.specs.Ranking.{comparedBy, lower, higher, byPrice, compared, better}
 use Rattle.quote.specs.declared.Level.{Level}
 use Rattle.quote.specs.declared.Quote.{Quote}
 use Rattle.quote.specs.Quote.{noLevel, noQuote, admits, counts, candidateOf}
@@ -107,7 +107,7 @@ pub record Closed : Type 0 where
   pub nowhere : two 67 [] ≡ neither
 
 pub closed : Closed
-unfolding letters makerCandidate finraBest asD letterCandidate nationalBest oddCandidate ranks letterLevels oddBest entriesBy entriesOf member lex lower higher byPrice better admits counts candidateOf
+unfolding letters makerCandidate finraBest asD letterCandidate nationalBest oddCandidate ranks letterLevels oddBest entriesBy entriesOf member comparedBy lower higher byPrice compared better admits counts candidateOf
 closed =
     record {
       both-sides = refl;

@@ -10,17 +10,17 @@ use Rattle.lists.specs.Lists.{collect, gather}
 use Rattle.ranking.specs.declared.Side.{Side}
 use Rattle.ranking.specs.declared.Side.the-variants.{Bid, Offer}
 use Rattle.ranking.specs.declared.Candidate.{Candidate}
-use Rattle.ranking.specs.Ranking.{better, best}
+use Rattle.ranking.specs.Ranking.{better, best, whyAhead}
 use Rattle.quote.specs.declared.Quote.{Quote}
 use Rattle.quote.specs.Quote.{noQuote, counts, candidateOf}
 use Rattle.levels.specs.Levels.{noLevels, sideLevels}
-use Rattle.entries.specs.Entries.{Entries, letters, finraBest, letterCandidate, nationalBest, oddCandidate, ranks, letterLevels, oddBest, entriesBy, entriesOf}
+use Rattle.entries.specs.Entries.{Entries, letters, finraBest, letterCandidate, nationalBest, nationalReason, oddCandidate, ranks, letterLevels, oddBest, entriesBy, entriesOf}
 use Rattle.entries.specs.Publication.{noEntries, publication}
 use Rattle.field.specs.Ascii.{D, S}
 
 -- six entries of none
 abbrev pub noBest : Entries
-noBest = record { national = λ s. none; finra = λ s. none; odd = λ s. none }
+noBest = record { national = λ s. none; reason = λ s. none; finra = λ s. none; odd = λ s. none }
 
 pub none-published : publication noBest ≡ noEntries
 unfolding publication noEntries
@@ -61,11 +61,12 @@ no-levels s quotes fb l = go (eqb l S) (ranks s quotes fb l) s
     go false false s = refl
 
 pub none-entries : entriesOf (λ l. noQuote) [] (λ l. noLevels) ≡ noBest
-unfolding entriesOf entriesBy finraBest nationalBest oddBest
+unfolding entriesOf entriesBy finraBest nationalBest nationalReason whyAhead oddBest
 none-entries =
     λ i.
     record {
       national = fun-ext (λ s. ap (best (better s)) (collect-none (letterCandidate s (λ l. noQuote) none) (no-letter s) letters)) i;
+      reason = fun-ext (λ s. ap (whyAhead s) (collect-none (letterCandidate s (λ l. noQuote) none) (no-letter s) letters)) i;
       finra = λ s. none;
       odd =
           fun-ext (λ s.

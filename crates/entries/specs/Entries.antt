@@ -9,7 +9,8 @@ use Rattle.field.specs.Ascii.{A, D, S, space}
 use Rattle.lists.specs.Lists.{mapOption, isSome, collect, gather, range}
 use Rattle.ranking.specs.declared.Side.{Side}
 use Rattle.ranking.specs.declared.Candidate.{Candidate}
-use Rattle.ranking.specs.Ranking.{ahead, better, best}
+use Rattle.ranking.specs.declared.Reason.{Reason}
+use Rattle.ranking.specs.Ranking.{ahead, better, best, whyAhead}
 use Rattle.quote.specs.declared.Level.{Level}
 use Rattle.quote.specs.declared.Quote.{Quote}
 use Rattle.quote.specs.Quote.{admits, isQuoted, candidateOf, levelCandidate}
@@ -20,9 +21,10 @@ pub record Maker : Type 0 where
   pub name : ℕ
   pub quote : Quote
 
--- each entry a candidate or none
+-- each entry a candidate or none; which of the four put the national one ahead of the second best, none if there is no second
 pub record Entries : Type 0 where
   pub national : Side → Option Candidate
+  pub reason : Side → Option Reason
   pub finra : Side → Option Candidate
   pub odd : Side → Option Candidate
 
@@ -49,9 +51,17 @@ letterCandidate s quotes fb l = cond (eqb l D) (mapOption asD fb) (cond (eqb l S
 unfoldable pub candidates : (ℕ → Quote) → List Maker → Side → ℕ → Option Candidate
 candidates quotes makers s l = letterCandidate s quotes (finraBest makers s) l
 
+-- the national candidates: each letter has at most one
+abbrev pub nationals : (ℕ → Quote) → (Side → Option Candidate) → Side → List Candidate
+nationals quotes fb s = collect (letterCandidate s quotes (fb s)) letters
+
 -- "National best: the same over letters"
 unfoldable pub nationalBest : (ℕ → Quote) → (Side → Option Candidate) → Side → Option Candidate
-nationalBest quotes fb s = best (better s) (collect (letterCandidate s quotes (fb s)) letters)
+nationalBest quotes fb s = best (better s) (nationals quotes fb s)
+
+-- "whether the national leader won by price, size, time or letter", "by the comparison with the second best" (document 02, T-08)
+unfoldable pub nationalReason : (ℕ → Quote) → (Side → Option Candidate) → Side → Option Reason
+nationalReason quotes fb s = whyAhead s (nationals quotes fb s)
 
 -- "priced above the national bid (below the national offer; any level if that side has none)"
 abbrev pub beyond : Side → Option Candidate → ℕ → Bool
@@ -76,7 +86,8 @@ unfoldable pub oddBest : (ℕ → Quote) → (Side → Option Candidate) → (�
 oddBest quotes fb levels nb s = best (better s) (gather (λ l. collect (oddCandidate s (nb s) l) (letterLevels s quotes (fb s) levels l)) letters)
 
 unfoldable pub entriesBy : (ℕ → Quote) → (Side → Option Candidate) → (ℕ → Standing) → Entries
-entriesBy quotes fb levels = record { national = nationalBest quotes fb; finra = fb; odd = oddBest quotes fb levels (nationalBest quotes fb) }
+entriesBy quotes fb levels =
+    record { national = nationalBest quotes fb; reason = nationalReason quotes fb; finra = fb; odd = oddBest quotes fb levels (nationalBest quotes fb) }
 
 unfoldable pub entriesOf : (ℕ → Quote) → List Maker → (ℕ → Standing) → Entries
 entriesOf quotes makers levels = entriesBy quotes (finraBest makers) levels

@@ -7,9 +7,11 @@ use mathlib.Core.Option.{Option, none, some}
 use lib.Dec.{eqb}
 use lib.ListN.{replicate}
 use Rattle.field.specs.Field.{field, beBytes}
-use Rattle.field.specs.Ascii.{space}
+use Rattle.field.specs.Ascii.{L, P, S, T, space}
 use Rattle.ranking.specs.declared.Side.the-variants.{Bid, Offer}
 use Rattle.ranking.specs.declared.Candidate.{Candidate}
+use Rattle.ranking.specs.declared.Reason.{Reason}
+use Rattle.ranking.specs.declared.Reason.the-variants.{Price, Size, Time, Name}
 use Rattle.entries.specs.Entries.{Entries}
 
 -- "six entries of 16 bytes: 4 bytes of name, price 8, size 4"
@@ -28,9 +30,17 @@ abbrev pub entryBytes : (Candidate → List ℕ) → Option Candidate → List �
 entryBytes name none = noEntry
 entryBytes name (some c) = name c ++ (beBytes 8 (c .price) ++ beBytes 4 (c .size))
 
--- "national: letter, condition, two spaces"
-abbrev pub nationalName : Candidate → List ℕ
-nationalName c = beBytes 1 (c .name) ++ beBytes 1 (c .condition) ++ (space ∷ space ∷ [])
+-- "P, S, T or L by the comparison with the second best, or a space if there is no second" (document 02, T-08)
+abbrev pub reasonByte : Option Reason → ℕ
+reasonByte none = space
+reasonByte (some Price) = P
+reasonByte (some Size) = S
+reasonByte (some Time) = T
+reasonByte (some Name) = L
+
+-- "national: letter, condition", what put it ahead, a space
+abbrev pub nationalName : Option Reason → Candidate → List ℕ
+nationalName r c = beBytes 1 (c .name) ++ beBytes 1 (c .condition) ++ (reasonByte r ∷ space ∷ [])
 
 -- "FINRA: maker"
 abbrev pub finraName : Candidate → List ℕ
@@ -43,8 +53,8 @@ oddName c = beBytes 1 (c .name) ++ (space ∷ space ∷ space ∷ [])
 -- "national bid, offer, FINRA bid, offer, odd bid, offer"
 unfoldable pub publication : Entries → List ℕ
 publication e =
-    entryBytes nationalName (e .national Bid)
-    ++ (entryBytes nationalName (e .national Offer)
+    entryBytes (nationalName (e .reason Bid)) (e .national Bid)
+    ++ (entryBytes (nationalName (e .reason Offer)) (e .national Offer)
     ++ (entryBytes finraName (e .finra Bid)
     ++ (entryBytes finraName (e .finra Offer)
     ++ (entryBytes oddName (e .odd Bid)

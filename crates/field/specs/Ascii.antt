@@ -47,6 +47,9 @@ N = 78
 abbrev pub O : ℕ
 O = 79
 
+abbrev pub P : ℕ
+P = 80
+
 abbrev pub Q : ℕ
 Q = 81
 

@@ -7,11 +7,11 @@ use lib.ListN.{replicate}
 use Rattle.lists.specs.Lists.{member}
 use Rattle.field.specs.Field.{be, beBytes, part, field, splice}
 use Rattle.field.specs.Low.{le, leBytes, low}
-use Rattle.ranking.specs.Ranking.{lex, lower, higher, byPrice, better}
+use Rattle.ranking.specs.Ranking.{comparedBy, lower, higher, byPrice, compared, better, whyAhead}
 use Rattle.quote.specs.declared.Quote.{Quote}
 use Rattle.quote.specs.Quote.{noLevel, admits, counts, candidateOf, levelIn, levelBytes, quoteIn, quoteBytes}
 use Rattle.levels.specs.Levels.{ranked, cellsIn, sideIn, levelsIn}
-use Rattle.entries.specs.Entries.{letters, makerCandidate, finraBest, asD, letterCandidate, nationalBest, oddCandidate, ranks, letterLevels, oddBest, entriesBy, entriesOf}
+use Rattle.entries.specs.Entries.{letters, makerCandidate, finraBest, asD, letterCandidate, nationalBest, nationalReason, oddCandidate, ranks, letterLevels, oddBest, entriesBy, entriesOf}
 use Rattle.entries.specs.Publication.{noEntry, publication}
 use Rattle.page.specs.Page.{quotesIn, levelsFor, makerIn, makerBytes, makersIn, pageEntries}
 use Rattle.page.specs.Cut.{noneBehind, noMakers, cut}
@@ -40,9 +40,15 @@ page =
     (slotAt 90) (quoteBytes (bid 24 4)))
     (cellAt 3) (makerBytes (record { name = 1296900128; quote = bid 21 2 }))
 
--- an entry of a letter under R, of maker MM, of a letter's odd lot
-abbrev national : ℕ → ℕ → ℕ → List ℕ
-national l p z = l ∷ 82 ∷ 32 ∷ 32 ∷ beBytes 8 p ++ beBytes 4 z
+-- an entry of a letter under R that is alone, of one that is ahead by price; of maker MM; of a letter's odd lot
+abbrev national : ℕ → ℕ → ℕ → ℕ → List ℕ
+national reason l p z = l ∷ 82 ∷ reason ∷ 32 ∷ beBytes 8 p ++ beBytes 4 z
+
+abbrev alone : ℕ → ℕ → ℕ → List ℕ
+alone = national 32
+
+abbrev dearer : ℕ → ℕ → ℕ → List ℕ
+dearer = national 80
 
 abbrev maker : ℕ → ℕ → List ℕ
 maker p z = 77 ∷ 77 ∷ 32 ∷ 32 ∷ beBytes 8 p ++ beBytes 4 z
@@ -58,21 +64,21 @@ abbrev stopped : ℕ → List ℕ
 stopped l = publication (pageEntries (cut l page))
 
 pub record Cases : Type 0 where
-  -- behind A and behind C: D's makers and its odd lot are not there yet
-  pub behind-a : stopped 65 ≡ shown (national 65 20 1) noEntry noEntry
-  pub behind-c : stopped 67 ≡ shown (national 65 20 1) noEntry noEntry
+  -- behind A and behind C: D's makers and its odd lot are not there yet, and A has no second
+  pub behind-a : stopped 65 ≡ shown (alone 65 20 1) noEntry noEntry
+  pub behind-c : stopped 67 ≡ shown (alone 65 20 1) noEntry noEntry
   -- behind D: its maker leads, and its odd lot is beyond it
-  pub behind-d : stopped 68 ≡ shown (national 68 21 2) (maker 21 2) (odd 68 22 6)
+  pub behind-d : stopped 68 ≡ shown (dearer 68 21 2) (maker 21 2) (odd 68 22 6)
   -- behind M, before N
-  pub behind-m : stopped 77 ≡ shown (national 68 21 2) (maker 21 2) (odd 68 22 6)
+  pub behind-m : stopped 77 ≡ shown (dearer 68 21 2) (maker 21 2) (odd 68 22 6)
   -- behind N: its odd lot is judged against the national bid of the cut page
-  pub behind-n : stopped 78 ≡ shown (national 78 22 3) (maker 21 2) (odd 78 23 5)
+  pub behind-n : stopped 78 ≡ shown (dearer 78 22 3) (maker 21 2) (odd 78 23 5)
   -- S has nothing
-  pub behind-s : stopped 83 ≡ shown (national 78 22 3) (maker 21 2) (odd 78 23 5)
+  pub behind-s : stopped 83 ≡ shown (dearer 78 22 3) (maker 21 2) (odd 78 23 5)
   -- Z is the whole page; its bid is beyond N's odd lot
-  pub behind-z : stopped 90 ≡ shown (national 90 24 4) (maker 21 2) noEntry
+  pub behind-z : stopped 90 ≡ shown (dearer 90 24 4) (maker 21 2) noEntry
 
 pub cases : Cases
-unfolding letters makerCandidate finraBest asD letterCandidate nationalBest oddCandidate ranks letterLevels oddBest entriesBy entriesOf noEntry publication quotesIn levelsFor makerIn makerBytes makersIn pageEntries noneBehind noMakers cut member be beBytes part field splice le leBytes low lex lower higher byPrice better admits counts candidateOf levelIn levelBytes quoteIn quoteBytes ranked cellsIn sideIn levelsIn
+unfolding letters makerCandidate finraBest asD letterCandidate nationalBest nationalReason oddCandidate ranks letterLevels oddBest entriesBy entriesOf noEntry publication quotesIn levelsFor makerIn makerBytes makersIn pageEntries noneBehind noMakers cut member be beBytes part field splice le leBytes low comparedBy lower higher byPrice compared better whyAhead admits counts candidateOf levelIn levelBytes quoteIn quoteBytes ranked cellsIn sideIn levelsIn
 cases =
     record { behind-a = refl; behind-c = refl; behind-d = refl; behind-m = refl; behind-n = refl; behind-s = refl; behind-z = refl }

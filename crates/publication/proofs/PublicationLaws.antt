@@ -12,16 +12,18 @@ use Rattle.field.specs.Field.{Bytes, field, splice, beBytes}
 use Rattle.field.proofs.Laws.{be-beBytes, field-part, splice-join}
 use Rattle.ranking.specs.declared.Side.the-variants.{Bid, Offer}
 use Rattle.ranking.specs.declared.Candidate.{Candidate}
-use Rattle.ranking.specs.Held.{orNone}
+use Rattle.ranking.specs.declared.Reason.{Reason}
+use Rattle.ranking.specs.declared.Reason.the-variants.{Price, Size, Time, Name}
+use Rattle.ranking.specs.Held.{orNone, decidedAt}
 use Rattle.ranking.proofs.Bridge.{OrCounting}
 use Rattle.publication.specs.declared.Entry.{Entry}
 use Rattle.publication.specs.declared.Published.{Published}
 use Rattle.walk.specs.declared.BestEntries.{BestEntries}
 use Rattle.entries.specs.Entries.{Entries}
-use Rattle.entries.specs.Publication.{noEntry, entryBytes, nationalName, finraName, oddName, publication, sameEntry, flag, changeFlags, publicationLength, entryLength}
+use Rattle.entries.specs.Publication.{noEntry, entryBytes, reasonByte, nationalName, finraName, oddName, publication, sameEntry, flag, changeFlags, publicationLength, entryLength}
 use Rattle.page.specs.Page.{pageEntries, refreshed}
 use Rattle.walk.specs.Bests.{bestsOf}
-use Rattle.publication.specs.code.Entry.{priced, asEntries, bytesOf, publishedBytes, holds}
+use Rattle.publication.specs.code.Entry.{priced, reasonOf, asEntries, bytesOf, publishedBytes, holds}
 use Rattle.walk.proofs.WalkLaws.{SixCount, six-count}
 use Rattle.page.specs.Layout.{entriesAt, keptEntries, entryAt}
 
@@ -44,15 +46,16 @@ module _ (c : Candidate) (n : ℕ) where
       go true = refl
       go false = ap (λ (b : List ℕ). b ++ (beBytes 8 (c .price) ++ beBytes 4 (c .size))) e
 
-pub national-name : (n c : ℕ) → c < 256 → beBytes 4 (n % 256 * 16777216 + c * 65536 + 8224) ≡ beBytes 1 n ++ beBytes 1 c ++ (32 ∷ 32 ∷ [])
+pub national-name : (n c r d : ℕ) → c < 256 → r < 256 → r ≡ reasonByte (reasonOf d)
+    → beBytes 4 (n % 256 * 16777216 + c * 65536 + r * 256 + 32) ≡ beBytes 1 n ++ beBytes 1 c ++ (reasonByte (reasonOf d) ∷ 32 ∷ [])
 unfolding beBytes
-national-name n c h =
-    let v = n % 256 * 16777216 + c * 65536 + 8224 in
+national-name n c r d h k er =
+    let v = n % 256 * 16777216 + c * 65536 + r * 256 + 32 in
     let a : v / 16777216 % 256 ≡ n / 1 % 256 = omega arith in
     let b : v / 65536 % 256 ≡ c / 1 % 256 = omega arith in
-    let d : v / 256 % 256 ≡ 32 = omega arith in
+    let x : v / 256 % 256 ≡ r = omega arith in
     let e : v / 1 % 256 ≡ 32 = omega arith in
-    λ i. a i ∷ b i ∷ d i ∷ e i ∷ []
+    λ i. a i ∷ b i ∷ (x ∙ er) i ∷ e i ∷ []
 
 pub odd-name : (n : ℕ) → beBytes 4 (n % 256 * 16777216 + 2105376) ≡ beBytes 1 n ++ (32 ∷ 32 ∷ 32 ∷ [])
 unfolding beBytes
@@ -67,7 +70,8 @@ odd-name n =
 -- ---- six
 
 pub six-bytes : (e : BestEntries) (p : Published)
-    → bytesOf (p .national .bid) ≡ entryBytes nationalName (priced (e .national .bid)) → bytesOf (p .national .offer) ≡ entryBytes nationalName (priced (e .national .offer))
+    → bytesOf (p .national .bid) ≡ entryBytes (nationalName (reasonOf (e .national .bid .decided))) (priced (e .national .bid .best))
+    → bytesOf (p .national .offer) ≡ entryBytes (nationalName (reasonOf (e .national .offer .decided))) (priced (e .national .offer .best))
     → bytesOf (p .finra .bid) ≡ entryBytes finraName (priced (e .finra .bid)) → bytesOf (p .finra .offer) ≡ entryBytes finraName (priced (e .finra .offer))
     → bytesOf (p .odd .bid) ≡ entryBytes oddName (priced (e .odd .bid)) → bytesOf (p .odd .offer) ≡ entryBytes oddName (priced (e .odd .offer))
     → publishedBytes p ≡ publication (asEntries e)
@@ -164,12 +168,20 @@ unfolding priced
 priced-back none k = refl
 priced-back (some c) k = rw (ne-eqb (c .price) 0 (k .price))
 
+reason-back : (r : Option Reason) → reasonOf (decidedAt r) ≡ r
+unfolding reasonOf
+reason-back none = refl
+reason-back (some Price) = refl
+reason-back (some Size) = refl
+reason-back (some Time) = refl
+reason-back (some Name) = refl
+
 publication-back : (v : Entries) → SixCount v → publication (asEntries (bestsOf v)) ≡ publication v
 unfolding publication asEntries bestsOf
 publication-back v h =
     λ i.
-    entryBytes nationalName (priced-back (v .national Bid) (h .national Bid) i)
-    ++ (entryBytes nationalName (priced-back (v .national Offer) (h .national Offer) i)
+    entryBytes (nationalName (reason-back (v .reason Bid) i)) (priced-back (v .national Bid) (h .national Bid) i)
+    ++ (entryBytes (nationalName (reason-back (v .reason Offer) i)) (priced-back (v .national Offer) (h .national Offer) i)
     ++ (entryBytes finraName (priced-back (v .finra Bid) (h .finra Bid) i)
     ++ (entryBytes finraName (priced-back (v .finra Offer) (h .finra Offer) i)
     ++ (entryBytes oddName (priced-back (v .odd Bid) (h .odd Bid) i)

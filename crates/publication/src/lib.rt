@@ -4,13 +4,14 @@ ghost use mathlib.Core.Bool.{cond};
 ghost use Prim.Native.Nat.{_+_, _≤_};
 ghost use lib.ListN.{length};
 ghost use Rattle.field.specs.Field.{splice, beBytes};
-ghost use Rattle.entries.specs.Publication.{entryBytes, nationalName, finraName, oddName, publication, changeFlags, noEntries, entryLength};
+ghost use Rattle.entries.specs.Publication.{entryBytes, reasonByte, nationalName, finraName, oddName, publication, changeFlags, noEntries, entryLength};
 ghost use Rattle.page.specs.Page.{pageEntries, refreshed};
-ghost use Rattle.publication.specs.code.Entry.{priced, asEntries, bytesOf, publishedBytes, holds};
+ghost use Rattle.publication.specs.code.Entry.{priced, reasonOf, asEntries, bytesOf, publishedBytes, holds};
 ghost use Rattle.page.specs.Layout.{pageLength, keptEntries, entriesAt};
 use page::Letter;
 use page::Page;
 use ranking::Candidate;
+use ranking::Lead;
 use walk::BestEntries;
 
 /// One published entry: its four bytes of name as one number, price and size.
@@ -77,12 +78,27 @@ fn named(name: u32, c: Candidate) -> Entry
     }
 }
 
-// Letter, condition, two spaces.
-fn national_entry(c: Candidate) -> Entry
-    ensures { λ r. ⌜ bytesOf r ≡ entryBytes nationalName (priced c) ⌝ }
+// The byte for what put a leader ahead: price, size, time or letter; a space if there is no second.
+fn reason_byte(decided: u8) -> u8
+    ensures { λ r. ⌜ r ≡ reasonByte (reasonOf decided) ⌝ }
 {
+    match decided {
+        1 => b'P',
+        2 => b'S',
+        3 => b'T',
+        4 => b'L',
+        _ => b' ',
+    }
+}
+
+// Letter, condition, what put it ahead, a space.
+fn national_entry(lead: Lead) -> Entry
+    ensures { λ r. ⌜ bytesOf r ≡ entryBytes (nationalName (reasonOf (lead .decided))) (priced (lead .best)) ⌝ }
+{
+    let c = lead.best;
+    let reason = reason_byte(lead.decided);
     named(
-        (c.name % 256) * 0x1000000 + (c.condition as u32) * 0x10000 + 0x2020,
+        (c.name % 256) * 0x1000000 + (c.condition as u32) * 0x10000 + (reason as u32) * 0x100 + 0x20,
         c,
     )
 }

@@ -7,7 +7,7 @@ use mathlib.Core.List.{List}
 use mathlib.Core.Option.{Option, none, some}
 use native.Mathlib.Omega.{arith}
 use lib.Dec.{eqb, ltb}
-use borrow.Author.Tests.{eqb-true, eq-eqb, ne-eqb, ltb-false}
+use borrow.Author.Tests.{eqb-true, eq-eqb, ne-eqb, lt-ltb}
 use Rattle.lists.specs.Lists.{member, bindOption, mapOption, isSome}
 use Rattle.lists.proofs.Searches.{less-one}
 use Rattle.lists.proofs.Tests.{clash}
@@ -17,9 +17,11 @@ use Rattle.ranking.specs.declared.Side.{Side}
 use Rattle.ranking.specs.declared.Side.the-variants.{Bid, Offer}
 use Rattle.ranking.specs.declared.Candidate.{Candidate}
 use Rattle.ranking.specs.declared.Sides.{Sides}
+use Rattle.ranking.specs.declared.Lead.{Lead}
+use Rattle.ranking.specs.declared.Leads.{Leads}
 use Rattle.ranking.specs.Held.{noCandidate, orNone}
-use Rattle.ranking.specs.code.Choice.{rankOf, live, choose, stepSides, sidesFrom, bestFrom}
-use Rattle.ranking.proofs.ChoiceLaws.{choose-none, choose-live, choose-behind, choose-priceless, choose-sizeless}
+use Rattle.ranking.specs.code.Choice.{rankOf, live, choose, stepSides, sidesFrom, bestFrom, leadWith, stepLeads, leadsFrom, leadFrom}
+use Rattle.ranking.proofs.ChoiceLaws.{choose-none, choose-live, choose-behind, lead-none, lead-live}
 use Rattle.quote.specs.declared.Quote.{Quote}
 use Rattle.quote.specs.Quote.{isQuoted, sideOf, admits, counts, levelCandidate, candidateOf, levelIn, quoteIn, quoteLength, levelLength}
 use Rattle.quote.proofs.QuoteLaws.{level-at}
@@ -45,48 +47,46 @@ module _ (s : Side) (b : Candidate) (p : List ℕ) (at n c : ℕ) where
 
 -- ---- a side of a quote
 
-module _ (s : Side) (b : Candidate) (n : ℕ) where
-  -- price and size are tested by the choice, so the condition alone is left
-  choose-quote : (q : Quote) → cond (admits s (q .condition)) (choose s b (levelCandidate n (q .condition) (sideOf s q))) b ≡ choose s b (orNone (candidateOf s n q))
-  unfolding candidateOf counts
-  choose-quote q = go (ltb 0 (sideOf s q .price)) refl (ltb 0 (sideOf s q .size)) refl (admits s (q .condition))
-    where
-      x : Candidate
-      x = levelCandidate n (q .condition) (sideOf s q)
+module _ (s : Side) (n : ℕ) (p : List ℕ) (at o : ℕ) (eo : o ≡ inQuote s) where
+  abbrev quote : Quote
+  quote = quoteIn (part p at quoteLength)
 
-      same : (t : Bool) → b ≡ choose s b x → cond t (choose s b x) b ≡ choose s b noCandidate
-      same true e = sym e ∙ choose-none s b
-      same false e = choose-none s b
+  side-at : sideOf s quote ≡ record { price = low p (at + o) 8; size = low p (at + o + 8) 4; time = low p (at + o + 12) 8 }
+  side-at = sym (quote-side p at s) ∙ ap (λ (i : ℕ). levelIn (part p (at + i) levelLength)) (sym eo) ∙ level-at p (at + o)
 
-      go : (u : Bool) → ltb 0 (sideOf s q .price) ≡ u → (v : Bool) → ltb 0 (sideOf s q .size) ≡ v → (t : Bool)
-          → cond t (choose s b x) b ≡ choose s b (orNone (cond (u && v && t) (some x) none))
-      go false e v f t = same t (choose-priceless s b x (omega (arith, ltb-false 0 (sideOf s q .price) e)))
-      go true e false f t = same t (choose-sizeless s b x (omega (arith, ltb-false 0 (sideOf s q .size) f)))
-      go true e true f true = refl
-      go true e true f false = choose-none s b
+  module _ (v : ℕ) (ev : v ≡ low p (at + o) 8) where
+    pub quoted-priceless : v ≡ 0 → noCandidate ≡ orNone (candidateOf s n quote)
+    unfolding candidateOf counts
+    quoted-priceless h = rw (side-at, ← ev, h)
 
-  module _ (p : List ℕ) (at o : ℕ) (eo : o ≡ inQuote s) where
-    module _ (c : ℕ) (ec : c ≡ field p at 1) (t : Bool) (et : t ≡ admits s c) where
-      quote-by : cond t (choose s b (levelCandidate n c (levelIn (part p (at + o) levelLength)))) b ≡ choose s b (orNone (candidateOf s n (quoteIn (part p at quoteLength))))
-      quote-by = rw (et, eo, quote-side p at s, ec, quote-condition p at) (choose-quote (quoteIn (part p at quoteLength)))
+    module _ (z : ℕ) (ez : z ≡ low p (at + o + 8) 4) where
+      pub quoted-sizeless : z ≡ 0 → noCandidate ≡ orNone (candidateOf s n quote)
+      unfolding candidateOf counts
+      quoted-sizeless h = rw (side-at, ← ez, h) (go (ltb 0 (low p (at + o) 8)) _)
+        where
+          go : (u : Bool) (x : Candidate) → noCandidate ≡ orNone (cond (u && false && admits s (quote .condition)) (some x) none)
+          go true x = refl
+          go false x = refl
 
-      pub quote-yes : (r : Candidate) → t ≡ true → r ≡ choose s b (levelCandidate n c (levelIn (part p (at + o) levelLength)))
-          → r ≡ choose s b (orNone (candidateOf s n (quoteIn (part p at quoteLength))))
-      quote-yes r h e = e ∙ ap (λ (v : Bool). cond v (choose s b (levelCandidate n c (levelIn (part p (at + o) levelLength)))) b) (sym h) ∙ quote-by
+      module _ (c : ℕ) (ec : c ≡ field p at 1) (t : Bool) (et : t ≡ admits s c) where
+        pub quoted-not : t ≡ false → noCandidate ≡ orNone (candidateOf s n quote)
+        unfolding candidateOf counts
+        quoted-not h =
+            go (ltb 0 (sideOf s quote .price)) (ltb 0 (sideOf s quote .size)) (admits s (quote .condition)) (ap (admits s) (sym (quote-condition p at) ∙ sym ec) ∙ sym et ∙ h)
+          where
+            go : (u w a : Bool) → a ≡ false → noCandidate ≡ orNone (cond (u && w && a) (some (levelCandidate n (quote .condition) (sideOf s quote))) none)
+            go true true true e = clash e
+            go true true false e = refl
+            go true false a e = refl
+            go false w a e = refl
 
-      pub quote-no : t ≡ false → b ≡ choose s b (orNone (candidateOf s n (quoteIn (part p at quoteLength))))
-      quote-no h = ap (λ (v : Bool). cond v (choose s b (levelCandidate n c (levelIn (part p (at + o) levelLength)))) b) (sym h) ∙ quote-by
-
-    pub quote-behind : (v : ℕ) (t : Bool) → v ≡ low p (at + o) 8 → t ≡ ltb (rankOf s v) (rankOf s (b .price)) → t ≡ true
-        → b ≡ choose s b (orNone (candidateOf s n (quoteIn (part p at quoteLength))))
-    quote-behind v t ev et h = go (admits s (quoteIn (part p at quoteLength) .condition)) ∙ choose-quote (quoteIn (part p at quoteLength))
-      where
-        behind : b ≡ choose s b (levelCandidate n (quoteIn (part p at quoteLength) .condition) (sideOf s (quoteIn (part p at quoteLength))))
-        behind = rw (← quote-side p at s, ← eo) (level-behind s b p (at + o) n (quoteIn (part p at quoteLength) .condition) v t ev et h)
-
-        go : (u : Bool) → b ≡ cond u (choose s b (levelCandidate n (quoteIn (part p at quoteLength) .condition) (sideOf s (quoteIn (part p at quoteLength))))) b
-        go true = behind
-        go false = refl
+        pub quoted-some : (w : ℕ) → w ≡ low p (at + o + 12) 8 → (v ≡ 0 → ⊥) → (z ≡ 0 → ⊥) → t ≡ true
+            → record { name = n; price = v; size = z; time = w; condition = c } ≡ orNone (candidateOf s n quote)
+        unfolding candidateOf counts
+        quoted-some w ew hv hz h =
+            let a : ltb 0 v ≡ true = lt-ltb 0 v (omega (arith, hv)) in
+            let b : ltb 0 z ≡ true = lt-ltb 0 z (omega (arith, hz)) in
+            rw (side-at, ← ev, ← ez, ← ew, ← quote-condition p at, ← ec, ← et, h, a, b)
 
 -- ---- a maker
 
@@ -128,19 +128,13 @@ sides-none f k t e = λ i. record { bid = one Bid (t .bid) i; offer = one Offer 
     one : (s : Side) (b : Candidate) → b ≡ choose s b (orNone (f s k))
     one s b = rw (e s) (choose-none s b)
 
--- steps over the same candidates
-sides-same : (f g : Side → ℕ → Option Candidate) (k : ℕ) (t r : Sides) → ((s : Side) → f s k ≡ g s k) → r ≡ stepSides (asked f) k t → r ≡ stepSides (asked g) k t
-unfolding stepSides
-sides-same f g k t r e h = h ∙ (λ i. record { bid = choose Bid (t .bid) (orNone (e Bid i)); offer = choose Offer (t .offer) (orNone (e Offer i)) })
-
 module _ (p : List ℕ) (k : ℕ) (t : Sides) (a : ℕ) (ea : a ≡ cellAt k) (c : ℕ) (ec : c ≡ field p (a + nameLength) 1) where
-  pub maker-read : (n : ℕ) (rb ro : Candidate) → c ≡ 82 → n ≡ field p a 4
-      → rb ≡ choose Bid (t .bid) (orNone (candidateOf Bid n (quoteIn (part p (a + nameLength) quoteLength))))
-      → ro ≡ choose Offer (t .offer) (orNone (candidateOf Offer n (quoteIn (part p (a + nameLength) quoteLength))))
-      → _≡_ {A = Sides} (record { bid = rb; offer = ro }) (stepSides (asked (makerAt p)) k t)
+  pub maker-read : (n : ℕ) (qb qo rb ro : Candidate) → c ≡ 82 → n ≡ field p a 4
+      → qb ≡ orNone (candidateOf Bid n (quoteIn (part p (a + nameLength) quoteLength))) → qo ≡ orNone (candidateOf Offer n (quoteIn (part p (a + nameLength) quoteLength)))
+      → rb ≡ choose Bid (t .bid) qb → ro ≡ choose Offer (t .offer) qo → _≡_ {A = Sides} (record { bid = rb; offer = ro }) (stepSides (asked (makerAt p)) k t)
   unfolding makerAt
-  maker-read n rb ro e en eb eo =
-      sides-read (asked (makerAt p)) k t rb ro (eb ∙ ap (λ (o : Option Candidate). choose Bid (t .bid) (orNone o)) (found Bid)) (eo ∙ ap (λ (o : Option Candidate). choose Offer (t .offer) (orNone o)) (found Offer))
+  maker-read n qb qo rb ro e en fb fo eb eo =
+      sides-read (asked (makerAt p)) k t rb ro (eb ∙ ap (choose Bid (t .bid)) (fb ∙ ap orNone (found Bid))) (eo ∙ ap (choose Offer (t .offer)) (fo ∙ ap orNone (found Offer)))
     where
       found : (s : Side) → candidateOf s n (quoteIn (part p (a + nameLength) quoteLength)) ≡ makerAt p s k
       found s = rw (en, ← ea) (sym (maker-r p a s (sym ec ∙ e)))
@@ -149,42 +143,62 @@ module _ (p : List ℕ) (k : ℕ) (t : Sides) (a : ℕ) (ea : a ≡ cellAt k) (c
   unfolding makerAt
   maker-free n = sides-none (makerAt p) k t (λ s. rw (← ea) (maker-other p a s (λ e. n (ec ∙ e))))
 
--- ---- a letter's national candidate
+-- ---- a letter's national candidate, beside the leader
+
+-- both sides of a step, each beside its leader
+leads-read : (f : Side → ℕ → Candidate) (k : ℕ) (t : Leads) (xb xo : Candidate) (rb ro : Lead) → xb ≡ f Bid k → xo ≡ f Offer k
+    → rb ≡ leadWith Bid (t .bid) xb → ro ≡ leadWith Offer (t .offer) xo → _≡_ {A = Leads} (record { bid = rb; offer = ro }) (stepLeads f k t)
+unfolding stepLeads
+leads-read f k t xb xo rb ro fb fo eb eo = λ i. record { bid = (eb ∙ ap (leadWith Bid (t .bid)) fb) i; offer = (eo ∙ ap (leadWith Offer (t .offer)) fo) i }
+
+-- a step in which neither side has a candidate
+leads-none : (f : Side → ℕ → Option Candidate) (k : ℕ) (t : Leads) → ((s : Side) → f s k ≡ none) → t ≡ stepLeads (asked f) k t
+unfolding stepLeads
+leads-none f k t e = λ i. record { bid = one Bid (t .bid) i; offer = one Offer (t .offer) i }
+  where
+    one : (s : Side) (l : Lead) → l ≡ leadWith s l (orNone (f s k))
+    one s l = rw (e s) (lead-none s l)
+
+-- steps over the same candidates
+leads-same : (f g : Side → ℕ → Option Candidate) (k : ℕ) (t r : Leads) → ((s : Side) → f s k ≡ g s k) → r ≡ stepLeads (asked f) k t → r ≡ stepLeads (asked g) k t
+unfolding stepLeads
+leads-same f g k t r e h = h ∙ (λ i. record { bid = leadWith Bid (t .bid) (orNone (e Bid i)); offer = leadWith Offer (t .offer) (orNone (e Offer i)) })
 
 -- D's candidate counts if its FINRA best does
-choose-d : (s : Side) (b c : Candidate) → choose s b (asD c) ≡ choose s b (orNone (mapOption asD (live c)))
+lead-d : (s : Side) (l : Lead) (c : Candidate) → leadWith s l (asD c) ≡ leadWith s l (orNone (mapOption asD (live c)))
 unfolding live asD
-choose-d s b c = choose-live s b (asD c) ∙ ap (λ (o : Option Candidate). choose s b (orNone o)) (go (eqb (c .price) 0) (eqb (c .size) 0))
+lead-d s l c = lead-live s l (asD c) ∙ ap (λ (o : Option Candidate). leadWith s l (orNone o)) (go (eqb (c .price) 0) (eqb (c .size) 0))
   where
     go : (t u : Bool) → cond t none (cond u none (some (asD c))) ≡ mapOption asD (cond t none (cond u none (some c)))
     go true u = refl
     go false true = refl
     go false false = refl
 
-pub d-read : (f t : Sides) (db da rb ro : Candidate) → db ≡ asD (f .bid) → da ≡ asD (f .offer) → rb ≡ choose Bid (t .bid) db → ro ≡ choose Offer (t .offer) da
-    → _≡_ {A = Sides} (record { bid = rb; offer = ro }) (withD f t)
+pub d-read : (f : Sides) (t : Leads) (db da : Candidate) (rb ro : Lead) → db ≡ asD (f .bid) → da ≡ asD (f .offer) → rb ≡ leadWith Bid (t .bid) db → ro ≡ leadWith Offer (t .offer) da
+    → _≡_ {A = Leads} (record { bid = rb; offer = ro }) (withD f t)
 unfolding withD
-d-read f t db da rb ro edb eda eb eo = λ i. record { bid = (eb ∙ ap (choose Bid (t .bid)) edb) i; offer = (eo ∙ ap (choose Offer (t .offer)) eda) i }
+d-read f t db da rb ro edb eda eb eo = λ i. record { bid = (eb ∙ ap (leadWith Bid (t .bid)) edb) i; offer = (eo ∙ ap (leadWith Offer (t .offer)) eda) i }
 
-module _ (p : List ℕ) (l : ℕ) (t : Sides) where
-  pub slot-read : (a : ℕ) (rb ro : Candidate) → A ≤ l → l ≤ Z → a ≡ slotAt l
-      → rb ≡ choose Bid (t .bid) (orNone (candidateOf Bid l (quoteIn (part p a quoteLength)))) → ro ≡ choose Offer (t .offer) (orNone (candidateOf Offer l (quoteIn (part p a quoteLength))))
-      → _≡_ {A = Sides} (record { bid = rb; offer = ro }) (stepSides (asked (quotedAt p)) l t)
+module _ (p : List ℕ) (l : ℕ) (t : Leads) where
+  pub slot-read : (a : ℕ) (qb qo : Candidate) (rb ro : Lead) → A ≤ l → l ≤ Z → a ≡ slotAt l
+      → qb ≡ orNone (candidateOf Bid l (quoteIn (part p a quoteLength))) → qo ≡ orNone (candidateOf Offer l (quoteIn (part p a quoteLength)))
+      → rb ≡ leadWith Bid (t .bid) qb → ro ≡ leadWith Offer (t .offer) qo → _≡_ {A = Leads} (record { bid = rb; offer = ro }) (stepLeads (asked (quotedAt p)) l t)
   unfolding quotedAt
-  slot-read a rb ro h k ea eb eo =
+  slot-read a qb qo rb ro h k ea fb fo eb eo =
       let q : quoteIn (part p a quoteLength) ≡ quotesIn p l = ap (λ (i : ℕ). quoteIn (part p i quoteLength)) ea ∙ sym (quotes-at p l h k) in
-      sides-read (asked (quotedAt p)) l t rb ro (eb ∙ ap (λ (x : Quote). choose Bid (t .bid) (orNone (candidateOf Bid l x))) q) (eo ∙ ap (λ (x : Quote). choose Offer (t .offer) (orNone (candidateOf Offer l x))) q)
+      leads-read (asked (quotedAt p)) l t qb qo rb ro (fb ∙ ap (λ (x : Quote). orNone (candidateOf Bid l x)) q) (fo ∙ ap (λ (x : Quote). orNone (candidateOf Offer l x)) q) eb eo
 
-  module _ (f r : Sides) where
-    pub national-d : l ≡ D → r ≡ withD f t → r ≡ stepSides (asked (nationalAt p f)) l t
-    unfolding withD nationalAt letterCandidate
-    national-d e h =
-        h ∙ sides-read (asked (nationalAt p f)) l t (choose Bid (t .bid) (asD (f .bid))) (choose Offer (t .offer) (asD (f .offer)))
-        (rw (eq-eqb l D e) (choose-d Bid (t .bid) (f .bid))) (rw (eq-eqb l D e) (choose-d Offer (t .offer) (f .offer)))
+  module _ (f : Sides) (r : Leads) where
+    pub national-d : l ≡ D → r ≡ withD f t → r ≡ stepLeads (asked (nationalAt p f)) l t
+    unfolding withD stepLeads nationalAt letterCandidate
+    national-d e h = h ∙ (λ i. record { bid = side Bid (t .bid) (f .bid) i; offer = side Offer (t .offer) (f .offer) i })
+      where
+        side : (s : Side) (x : Lead) (c : Candidate) → leadWith s x (asD c) ≡ leadWith s x (orNone (cond (eqb l D) (mapOption asD (live c)) (cond (eqb l S) none (candidateOf s l (quotesIn p l)))))
+        side s x c = rw (eq-eqb l D e) (lead-d s x c)
 
-    pub national-other : (l ≡ D → ⊥) → (l ≡ S → ⊥) → r ≡ stepSides (asked (quotedAt p)) l t → r ≡ stepSides (asked (nationalAt p f)) l t
+    pub national-other : (l ≡ D → ⊥) → (l ≡ S → ⊥) → r ≡ stepLeads (asked (quotedAt p)) l t → r ≡ stepLeads (asked (nationalAt p f)) l t
     unfolding nationalAt letterCandidate quotedAt
-    national-other n m h = sides-same (quotedAt p) (nationalAt p f) l t r (λ s. rw (ne-eqb l D n, ne-eqb l S m)) h
+    national-other n m h = leads-same (quotedAt p) (nationalAt p f) l t r (λ s. rw (ne-eqb l D n, ne-eqb l S m)) h
 
 -- ---- a letter's first levels
 
@@ -255,9 +269,9 @@ module _ (p : List ℕ) (f : Sides) where
   pub letter-none : (l : ℕ) (t : Tops) → l ≡ S → t ≡ stepTops p f l t
   unfolding stepTops nationalAt letterCandidate firstBy letterLevels
   letter-none l t e =
-      λ i. record { national = sides-none (nationalAt p f) l (t .national) (λ s. rw e) i; odd = sides-none (firstAt p f) l (t .odd) (λ s. rw e) i }
+      λ i. record { national = leads-none (nationalAt p f) l (t .national) (λ s. rw e) i; odd = sides-none (firstAt p f) l (t .odd) (λ s. rw e) i }
 
-  pub letter-read : (l : ℕ) (t : Tops) (n : Sides) (ob oa : Candidate) → n ≡ stepSides (asked (nationalAt p f)) l (t .national)
+  pub letter-read : (l : ℕ) (t : Tops) (n : Leads) (ob oa : Candidate) → n ≡ stepLeads (asked (nationalAt p f)) l (t .national)
       → ob ≡ choose Bid (t .odd .bid) (orNone (firstBy p Bid (live (f .bid)) l)) → oa ≡ choose Offer (t .odd .offer) (orNone (firstBy p Offer (live (f .offer)) l))
       → _≡_ {A = Tops} (record { national = n; odd = record { bid = ob; offer = oa } }) (stepTops p f l t)
   unfolding stepTops
@@ -265,14 +279,14 @@ module _ (p : List ℕ) (f : Sides) where
 
   module _ (n : ℕ) (w : Tops) where
     tops-step : (i : ℕ) (t : Tops) → i < n → topsFrom p f i (n - i) t ≡ topsFrom p f (i + 1) (n - (i + 1)) (stepTops p f i t)
-    unfolding topsFrom stepTops sidesFrom stepSides bestFrom
+    unfolding topsFrom stepTops sidesFrom stepSides bestFrom leadsFrom stepLeads leadFrom
     tops-step i t h = rw (less-one n i h)
 
     pub tops-again : (i : ℕ) (t u : Tops) → i < n → topsFrom p f i (n - i) t ≡ w → u ≡ stepTops p f i t → topsFrom p f (i + 1) (n - (i + 1)) u ≡ w
     tops-again i t u h inv e = rw e (sym (tops-step i t h) ∙ inv)
 
     pub tops-end : (i : ℕ) (t : Tops) → n ≤ i → topsFrom p f i (n - i) t ≡ w → t ≡ w
-    unfolding topsFrom sidesFrom bestFrom
+    unfolding topsFrom sidesFrom bestFrom leadsFrom leadFrom
     tops-end i t h inv =
         let e : n - i ≡ 0 = omega arith in
         rw e at inv

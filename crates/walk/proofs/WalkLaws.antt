@@ -10,7 +10,8 @@ use native.Mathlib.Nat.{lt-of-lt-of-le, pow-le-pow-right, min-le-left}
 use lib.Dec.{eqb, ltb}
 use lib.ListN.{length, take, drop, length-take}
 use borrow.Author.Tests.{ltb-true, eqb-true}
-use Rattle.lists.specs.Lists.{member, mapOption, bindOption, consOption, collect, gather, range, upper}
+use Rattle.lists.specs.Lists.{member, isSome, mapOption, bindOption, consOption, collect, gather, range, upper}
+use Rattle.lists.proofs.Tests.{clash}
 use Rattle.field.specs.Field.{Bytes, part, field}
 use Rattle.field.specs.Low.{low}
 use Rattle.field.proofs.Laws.{bytes-part}
@@ -19,11 +20,13 @@ use Rattle.ranking.specs.declared.Side.{Side}
 use Rattle.ranking.specs.declared.Side.the-variants.{Bid, Offer}
 use Rattle.ranking.specs.declared.Candidate.{Candidate}
 use Rattle.ranking.specs.declared.Sides.{Sides}
+use Rattle.ranking.specs.declared.Lead.{Lead}
 use Rattle.ranking.specs.Ranking.{better, best}
-use Rattle.ranking.specs.Held.{noCandidate, orNone, ofSide, noSides}
-use Rattle.ranking.specs.code.Choice.{live, bestFrom, sidesFrom, beyondOf}
+use Rattle.ranking.specs.Held.{noCandidate, orNone, ofSide, noSides, leadOf, noLead, leadOn}
+use Rattle.ranking.specs.code.Choice.{live, bestFrom, sidesFrom, leadFrom, leadsFrom, beyondOf}
 use Rattle.ranking.proofs.OrderLaws.{keep}
-use Rattle.ranking.proofs.ChoiceLaws.{best-stops}
+use Rattle.ranking.proofs.ChoiceLaws.{best-stops, lead-stops}
+use Rattle.ranking.proofs.LeadLaws.{side-lead}
 use Rattle.ranking.proofs.Bridge.{OrCounting, live-counts, live-back, side-best, best-counts}
 use Rattle.quote.specs.declared.Quote.{Quote}
 use Rattle.quote.specs.Quote.{noQuote, sideOf, admits, counts, levelCandidate, candidateOf, levelIn, quoteIn, quoteLength, levelLength}
@@ -31,7 +34,7 @@ use Rattle.levels.specs.Levels.{emptyCell, sideLevels, noLevels, levelsIn, leve
 use Rattle.quote.proofs.QuoteLaws.{level-at}
 use Rattle.walk.specs.declared.Tops.{Tops}
 use Rattle.walk.specs.declared.BestEntries.{BestEntries}
-use Rattle.entries.specs.Entries.{Maker, Entries, letters, asD, makerCandidate, finraBest, letterCandidate, nationalBest, oddCandidate, ranks, letterLevels, oddBest, entriesBy, entriesOf}
+use Rattle.entries.specs.Entries.{Maker, Entries, letters, asD, makerCandidate, finraBest, letterCandidate, nationalBest, nationalReason, oddCandidate, ranks, letterLevels, oddBest, entriesBy, entriesOf}
 use Rattle.page.specs.Page.{quotesIn, levelsFor, makerIn, makersIn, same, occupied, pageEntries}
 use Rattle.page.specs.Cut.{cut}
 use Rattle.walk.specs.Bests.{bestsOf}
@@ -76,6 +79,22 @@ candidate-counts s n q h = go (ltb 0 (sideOf s q .price)) refl (ltb 0 (sideOf s 
         let x : 0 < sideOf s q .price = ltb-true 0 (sideOf s q .price) e in
         let y : 0 < sideOf s q .size = ltb-true 0 (sideOf s q .size) f in
         record { price = λ z. omega arith; size = λ z. omega arith; fits = h }
+
+-- a letter's candidate has its letter as its name
+letter-named : (s : Side) (quotes : ℕ → Quote) (o : Option Candidate) (j : ℕ) (c : Candidate) → letterCandidate s quotes o j ≡ some c → c .name ≡ j
+unfolding letterCandidate candidateOf asD
+letter-named s quotes o j c h = go (eqb j D) refl (eqb j S) (counts s (quotes j)) o h
+  where
+    named : (x : Candidate) → some x ≡ some c → x .name ≡ j → c .name ≡ j
+    named x e n = sym (ap (λ (y : Option Candidate). orNone y .name) e) ∙ n
+
+    go : (t : Bool) → eqb j D ≡ t → (u v : Bool) (o : Option Candidate)
+        → cond t (mapOption asD o) (cond u none (cond v (some (levelCandidate j (quotes j .condition) (sideOf s (quotes j)))) none)) ≡ some c → c .name ≡ j
+    go true e u v none h = clash (sym (ap isSome h))
+    go true e u v (some x) h = named (asD x) h (sym (eqb-true j D e))
+    go false e true v o h = clash (sym (ap isSome h))
+    go false e false true o h = named (levelCandidate j (quotes j .condition) (sideOf s (quotes j))) h refl
+    go false e false false o h = clash (sym (ap isSome h))
 
 module _ (p : List ℕ) (b : Bytes p) where
   quote-counts : (s : Side) (n at : ℕ) → OrCounting (candidateOf s n (quoteIn (part p at quoteLength)))
@@ -260,12 +279,14 @@ module _ (p : List ℕ) (w : length p ≡ pageLength) (b : Bytes p) (l : ℕ) (l
     finra-live : live (ofSide s f) ≡ fb c cb s
     finra-live = ap live finra-side ∙ live-back (fb c cb s) (finra-counts c cb s)
 
-    national-side : (n : Candidate) → n ≡ bestFrom s (asked (nationalAt p f) s) A (l + 1 - A) noCandidate → n ≡ orNone (nb c cb s)
-    unfolding nationalAt nationalBest
+    national-side : (n : Lead) → n ≡ leadFrom s (asked (nationalAt p f) s) A (l + 1 - A) noLead → n ≡ leadOf (nb c cb s) (nationalReason (quotesIn c) (fb c cb) s)
+    unfolding nationalAt nationalBest nationalReason letters
     national-side n e =
         e
-        ∙ ap (λ (o : Option Candidate). bestFrom s (λ j. orNone (letterCandidate s (quotesIn p) o j)) A (l + 1 - A) noCandidate) finra-live
-        ∙ stops (letterCandidate s (quotesIn p) (fb c cb s)) (letterCandidate s (quotesIn c) (fb c cb s)) (λ j. letter-counts c cb s (fb c cb s) j (finra-counts c cb s)) national-here national-behind
+        ∙ ap (λ (o : Option Candidate). leadFrom s (λ j. orNone (letterCandidate s (quotesIn p) o j)) A (l + 1 - A) noLead) finra-live
+        ∙ lead-stops s (λ j. orNone (letterCandidate s (quotesIn p) (fb c cb s) j)) (λ j. orNone (letterCandidate s (quotesIn c) (fb c cb s) j)) A (l + 1 - A) 26 noLead (omega arith)
+        (λ j a z. ap orNone (national-here j a (omega arith))) (λ j a z. ap orNone (national-behind j (omega arith) (omega arith)))
+        ∙ side-lead s (letterCandidate s (quotesIn c) (fb c cb s)) (λ j. letter-counts c cb s (fb c cb s) j (finra-counts c cb s)) (letter-named s (quotesIn c) (fb c cb s)) A 26
 
     first-side : (t : Candidate) → t ≡ bestFrom s (asked (firstAt p f) s) A (l + 1 - A) noCandidate → t ≡ orNone (best (better s) (collect (firstBy c s (fb c cb s)) letters))
     first-side t e =
@@ -281,12 +302,12 @@ module _ (p : List ℕ) (w : length p ≡ pageLength) (b : Bytes p) (l : ℕ) (l
 -- ---- the whole
 
 module _ (p : List ℕ) (w : length p ≡ pageLength) (b : Bytes p) (l : ℕ) (lo : A ≤ l) (hi : l ≤ Z) (f : Sides) (t : Tops) (ob oa : Candidate) (ef : f ≡ finraSides (cut l p))
-    (et : t ≡ topsFrom p f A (l + 1 - A) noTops) (eob : ob ≡ beyondOf Bid (t .national .bid) (t .odd .bid)) (eoa : oa ≡ beyondOf Offer (t .national .offer) (t .odd .offer)) where
+    (et : t ≡ topsFrom p f A (l + 1 - A) noTops) (eob : ob ≡ beyondOf Bid (t .national .bid .best) (t .odd .bid)) (eoa : oa ≡ beyondOf Offer (t .national .offer .best) (t .odd .offer)) where
   abbrev six : BestEntries
   six = record { national = t .national; finra = f; odd = record { bid = ob; offer = oa } }
 
   pub walked : six ≡ bestsOf (pageEntries (cut l p))
-  unfolding bestsOf pageEntries entriesOf entriesBy topsFrom sidesFrom
+  unfolding bestsOf pageEntries entriesOf entriesBy topsFrom sidesFrom leadsFrom
   walked =
       λ i. record {
         national = record { bid = national Bid i; offer = national Offer i };
@@ -300,10 +321,13 @@ module _ (p : List ℕ) (w : length p ≡ pageLength) (b : Bytes p) (l : ℕ) (l
       finra : (s : Side) → ofSide s f ≡ orNone (fb (cut l p) cc′ s)
       finra s = finra-side p w b l lo hi s f ef
 
-      national : (s : Side) → ofSide s (t .national) ≡ orNone (nb (cut l p) cc′ s)
+      national : (s : Side) → leadOn s (t .national) ≡ leadOf (nb (cut l p) cc′ s) (nationalReason (quotesIn (cut l p)) (fb (cut l p) cc′) s)
       national Bid = national-side p w b l lo hi Bid f ef (t .national .bid) (ap (λ (t : Tops). t .national .bid) et)
       national Offer = national-side p w b l lo hi Offer f ef (t .national .offer) (ap (λ (t : Tops). t .national .offer) et)
 
+      top : (s : Side) → leadOn s (t .national) .best ≡ orNone (nb (cut l p) cc′ s)
+      top s = ap (λ (x : Lead). x .best) (national s)
+
       odd : (s : Side) → ofSide s (six .odd) ≡ orNone (oddBest (quotesIn (cut l p)) (fb (cut l p) cc′) (levelsFor (cut l p)) (nb (cut l p) cc′) s)
-      odd Bid = odd-side p w b l lo hi Bid f ef (t .national .bid) (t .odd .bid) ob (national Bid) (ap (λ (t : Tops). t .odd .bid) et) eob
-      odd Offer = odd-side p w b l lo hi Offer f ef (t .national .offer) (t .odd .offer) oa (national Offer) (ap (λ (t : Tops). t .odd .offer) et) eoa
+      odd Bid = odd-side p w b l lo hi Bid f ef (t .national .bid .best) (t .odd .bid) ob (top Bid) (ap (λ (t : Tops). t .odd .bid) et) eob
+      odd Offer = odd-side p w b l lo hi Offer f ef (t .national .offer .best) (t .odd .offer) oa (top Offer) (ap (λ (t : Tops). t .odd .offer) et) eoa

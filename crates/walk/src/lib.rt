@@ -6,7 +6,7 @@ ghost use Rattle.field.specs.Field.{part};
 ghost use Rattle.field.specs.Ascii as ascii;
 ghost use Rattle.ranking.specs.Held.{orNone, noSides};
 ghost use Rattle.lists.specs.Lists.{isSome};
-ghost use Rattle.ranking.specs.code.Choice.{live, choose, stepSides, sidesFrom};
+ghost use Rattle.ranking.specs.code.Choice.{live, choose, stepSides, sidesFrom, stepLeads};
 ghost use Rattle.quote.specs.Quote.{levelIn, quoteIn, levelCandidate, candidateOf, quoteLength, levelLength};
 ghost use Rattle.entries.specs.Entries.{asD, ranks};
 ghost use Rattle.page.specs.Page.{quotesIn, pageEntries};
@@ -19,18 +19,19 @@ use page::Letter;
 use page::Page;
 use page::Slot;
 use ranking::Candidate;
+use ranking::Leads;
 use ranking::Side;
 use ranking::Sides;
 
-/// The best of the letters so far: their quotes and their odd-lot levels.
+/// The best of the letters so far: their quotes, with what put the leader ahead, and their odd-lot levels.
 pub struct Tops {
-    pub national: Sides,
+    pub national: Leads,
     pub odd: Sides,
 }
 
-/// The six best entries of a symbol; price 0 is none.
+/// The six best entries of a symbol; price 0 is none. A national one tells what put it ahead.
 pub struct BestEntries {
-    pub national: Sides,
+    pub national: Leads,
     pub finra: Sides,
     pub odd: Sides,
 }
@@ -67,20 +68,33 @@ fn with_level(
     )
 }
 
-// The better of the best so far and a side of the quote at `at`, if that side counts. The price is looked at before the condition.
-fn with_quote(page: &[u8], at: usize, side: Side, name: u32, best: Candidate) -> Candidate
+// A side of the quote at `at` under a name, none if that side doesn't count.
+fn quoted(page: &[u8], at: usize, side: Side, name: u32) -> Candidate
     requires { ⌜ at + quoteLength ≤ length (now page) ⌝ }
-    ensures { λ r. ⌜ r ≡ choose side best (orNone (candidateOf side name (quoteIn (part (now (page .entry)) at quoteLength)))) ⌝ }
+    ensures { λ r. ⌜ r ≡ orNone (candidateOf side name (quoteIn (part (now (page .entry)) at quoteLength))) ⌝ }
 {
+    // price 8, size 4, time 8
     let level = at + page::in_quote(side);
-    if ranking::is_behind(side, field::low64(page, level), best) {
-        return best;
+    let price = field::low64(page, level);
+    if price == 0 {
+        return Candidate::NONE;
+    }
+    let size = field::low32(page, level + 8);
+    if size == 0 {
+        return Candidate::NONE;
     }
     let condition = field::get8(page, at);
     if quote::admits(side, condition) {
-        return with_level(page, level, side, name, condition, best);
+        let time = field::low64(page, level + 12);
+        return Candidate {
+            name,
+            price,
+            size,
+            time,
+            condition,
+        };
     }
-    best
+    Candidate::NONE
 }
 
 // One maker cell more, both sides. Of the conditions of makers only R counts.
@@ -93,8 +107,8 @@ fn with_maker(page: &[u8], k: usize, best: Sides) -> Sides
     let quote = at + Cell::QUOTE;
     if field::get8(page, quote) == b'R' {
         let name = field::get32(page, at);
-        let bid = with_quote(page, quote, Side::Bid, name, best.bid);
-        let offer = with_quote(page, quote, Side::Offer, name, best.offer);
+        let bid = ranking::choose(Side::Bid, best.bid, quoted(page, quote, Side::Bid, name));
+        let offer = ranking::choose(Side::Offer, best.offer, quoted(page, quote, Side::Offer, name));
         return Sides { bid, offer };
     }
     best
@@ -138,36 +152,37 @@ fn as_d(c: Candidate) -> Candidate
 }
 
 // D more, by its FINRA best.
-fn with_d(finra: Sides, best: Sides) -> Sides
-    ensures { λ r. ⌜ r ≡ withD finra best ⌝ }
+fn with_d(finra: Sides, lead: Leads) -> Leads
+    ensures { λ r. ⌜ r ≡ withD finra lead ⌝ }
 {
-    let bid = ranking::choose(Side::Bid, best.bid, as_d(finra.bid));
-    let offer = ranking::choose(Side::Offer, best.offer, as_d(finra.offer));
-    Sides { bid, offer }
+    let bid = ranking::lead_with(Side::Bid, lead.bid, as_d(finra.bid));
+    let offer = ranking::lead_with(Side::Offer, lead.offer, as_d(finra.offer));
+    Leads { bid, offer }
 }
 
 // The quote in a letter's slot more, both sides.
-fn with_slot(page: &[u8], letter: usize, best: Sides) -> Sides
+fn with_slot(page: &[u8], letter: usize, lead: Leads) -> Leads
     requires { ⌜ length (now page) ≡ pageLength ⌝ }
     requires { ⌜ (ascii.A ≤ letter) × (letter ≤ ascii.Z) ⌝ }
-    ensures { λ r. ⌜ r ≡ stepSides (asked (quotedAt (now (page .entry)))) letter best ⌝ }
+    ensures { λ r. ⌜ r ≡ stepLeads (asked (quotedAt (now (page .entry)))) letter lead ⌝ }
 {
     let at = page::slot_at(letter);
-    let bid = with_quote(page, at, Side::Bid, letter as u32, best.bid);
-    let offer = with_quote(page, at, Side::Offer, letter as u32, best.offer);
-    Sides { bid, offer }
+    let name = letter as u32;
+    let bid = ranking::lead_with(Side::Bid, lead.bid, quoted(page, at, Side::Bid, name));
+    let offer = ranking::lead_with(Side::Offer, lead.offer, quoted(page, at, Side::Offer, name));
+    Leads { bid, offer }
 }
 
 // One national candidate more: D stands with its FINRA best, any letter but D and S with its quote.
-fn with_national(page: &[u8], letter: usize, finra: Sides, best: Sides) -> Sides
+fn with_national(page: &[u8], letter: usize, finra: Sides, lead: Leads) -> Leads
     requires { ⌜ length (now page) ≡ pageLength ⌝ }
     requires { ⌜ ((ascii.A ≤ letter) × (letter ≤ ascii.Z)) × (letter ≡ ascii.S → ⊥) ⌝ }
-    ensures { λ r. ⌜ r ≡ stepSides (asked (nationalAt (now (page .entry)) finra)) letter best ⌝ }
+    ensures { λ r. ⌜ r ≡ stepLeads (asked (nationalAt (now (page .entry)) finra)) letter lead ⌝ }
 {
     if letter == Letter::D {
-        return with_d(finra, best);
+        return with_d(finra, lead);
     }
-    with_slot(page, letter, best)
+    with_slot(page, letter, lead)
 }
 
 // Whether a candidate is one: price and size are above zero.
@@ -246,7 +261,7 @@ fn walk_letters(page: &[u8], last: usize, finra: Sides) -> Tops
     ensures { λ r. ⌜ r ≡ topsFrom (now (page .entry)) finra ascii.A (last + 1 - ascii.A) noTops ⌝ }
 {
     let mut tops = Tops {
-        national: Sides::NONE,
+        national: Leads::NONE,
         odd: Sides::NONE,
     };
     for letter in Letter::A..last + 1 {
@@ -266,8 +281,8 @@ pub fn walk_page(page: &[u8], last: usize) -> BestEntries
     let tops = walk_letters(page, last, finra);
     let national = tops.national;
     // The best level is beyond the national best if any level is, so one test at the end is enough.
-    let odd_bid = ranking::beyond(Side::Bid, tops.national.bid, tops.odd.bid);
-    let odd_offer = ranking::beyond(Side::Offer, tops.national.offer, tops.odd.offer);
+    let odd_bid = ranking::beyond(Side::Bid, tops.national.bid.best, tops.odd.bid);
+    let odd_offer = ranking::beyond(Side::Offer, tops.national.offer.best, tops.odd.offer);
     BestEntries {
         national,
         finra,

@@ -7,7 +7,9 @@ use mathlib.Core.Option.{Option, none, some}
 use lib.Dec.{eqb}
 use Rattle.field.specs.Field.{field, beBytes}
 use Rattle.ranking.specs.declared.Candidate.{Candidate}
-use Rattle.ranking.specs.Held.{ofSide}
+use Rattle.ranking.specs.declared.Reason.{Reason}
+use Rattle.ranking.specs.declared.Reason.the-variants.{Price, Size, Time, Name}
+use Rattle.ranking.specs.Held.{ofSide, leadOn}
 use Rattle.publication.specs.declared.Entry.{Entry}
 use Rattle.publication.specs.declared.Published.{Published}
 use Rattle.walk.specs.declared.BestEntries.{BestEntries}
@@ -17,8 +19,18 @@ use Rattle.entries.specs.Entries.{Entries}
 unfoldable pub priced : Candidate → Option Candidate
 priced c = cond (eqb (c .price) 0) none (some c)
 
+-- what put a leader ahead, from the number that it carries
+unfoldable pub reasonOf : ℕ → Option Reason
+reasonOf n = cond (eqb n 1) (some Price) (cond (eqb n 2) (some Size) (cond (eqb n 3) (some Time) (cond (eqb n 4) (some Name) none)))
+
 unfoldable pub asEntries : BestEntries → Entries
-asEntries e = record { national = λ s. priced (ofSide s (e .national)); finra = λ s. priced (ofSide s (e .finra)); odd = λ s. priced (ofSide s (e .odd)) }
+asEntries e =
+    record {
+      national = λ s. priced (leadOn s (e .national) .best);
+      reason = λ s. reasonOf (leadOn s (e .national) .decided);
+      finra = λ s. priced (ofSide s (e .finra));
+      odd = λ s. priced (ofSide s (e .odd));
+    }
 
 unfoldable pub bytesOf : Entry → List ℕ
 bytesOf e = beBytes 4 (e .name) ++ (beBytes 8 (e .price) ++ beBytes 4 (e .size))

@@ -6,8 +6,10 @@ use Rattle.walk.proofs.with_slot.Tie as tie
 
 returns : tie.Need-returns
 returns c =
-    let s = c .before .before .before .before in
-    slot-read _ _ _ _ _ _ (s .pre .1 .0) (s .pre .1 .1) (c .before .before .slot-at .ensures) (c .before .with-quote .ensures) (c .with-quote2 .ensures)
+    let a = c .before .before .before .before in
+    let s = a .before .before in
+    slot-read _ _ _ _ _ _ _ _ (s .pre .1 .0) (s .pre .1 .1) (a .slot-at .ensures) (c .before .before .before .quoted .ensures) (c .before .quoted2 .ensures)
+    (c .before .before .lead-with .ensures) (c .lead-with2 .ensures)
 
 pub with-slot-spec : {M : Type 1} → statement M
 with-slot-spec =
@@ -16,6 +18,7 @@ with-slot-spec =
     (λ c κs. search needs)
     (λ c. search needs)
     (λ c κs. search needs)
-    (λ c. search needs)
+    (λ c κs. search needs)
+    (λ c κs. search needs)
     (λ c κs. search needs)
     returns)

@@ -9,8 +9,9 @@ use Rattle.lists.specs.Lists.{mapOption, bindOption}
 use Rattle.ranking.specs.declared.Side.{Side}
 use Rattle.ranking.specs.declared.Candidate.{Candidate}
 use Rattle.ranking.specs.declared.Sides.{Sides}
-use Rattle.ranking.specs.Held.{orNone, ofSide, bothSides, noSides}
-use Rattle.ranking.specs.code.Choice.{live, choose, sidesFrom, stepSides}
+use Rattle.ranking.specs.declared.Leads.{Leads}
+use Rattle.ranking.specs.Held.{orNone, ofSide, bothSides, noSides, leadOn, bothLeads, noLeads}
+use Rattle.ranking.specs.code.Choice.{live, sidesFrom, stepSides, leadWith, leadsFrom, stepLeads}
 use Rattle.quote.specs.declared.Level.{Level}
 use Rattle.quote.specs.Quote.{levelCandidate, candidateOf}
 use Rattle.walk.specs.declared.Tops.{Tops}
@@ -35,8 +36,8 @@ unfoldable pub quotedAt : List ℕ → Side → ℕ → Option Candidate
 quotedAt p s l = candidateOf s l (quotesIn p l)
 
 -- D's FINRA best, f, on both sides
-unfoldable pub withD : Sides → Sides → Sides
-withD f t = bothSides (λ s. choose s (ofSide s t) (asD (ofSide s f)))
+unfoldable pub withD : Sides → Leads → Leads
+withD f t = bothLeads (λ s. leadWith s (leadOn s t) (asD (ofSide s f)))
 
 -- a letter's candidate, D by its FINRA best
 unfoldable pub nationalAt : List ℕ → Sides → Side → ℕ → Option Candidate
@@ -54,11 +55,11 @@ abbrev pub firstAt : List ℕ → Sides → Side → ℕ → Option Candidate
 firstAt p f s l = firstBy p s (live (ofSide s f)) l
 
 abbrev pub noTops : Tops
-noTops = record { national = noSides; odd = noSides }
+noTops = record { national = noLeads; odd = noSides }
 
 -- one letter more, and the k letters from letter l on
 unfoldable pub stepTops : List ℕ → Sides → ℕ → Tops → Tops
-stepTops p f l t = record { national = stepSides (asked (nationalAt p f)) l (t .national); odd = stepSides (asked (firstAt p f)) l (t .odd) }
+stepTops p f l t = record { national = stepLeads (asked (nationalAt p f)) l (t .national); odd = stepSides (asked (firstAt p f)) l (t .odd) }
 
 unfoldable pub topsFrom : List ℕ → Sides → ℕ → ℕ → Tops → Tops
-topsFrom p f l k t = record { national = sidesFrom (asked (nationalAt p f)) l k (t .national); odd = sidesFrom (asked (firstAt p f)) l k (t .odd) }
+topsFrom p f l k t = record { national = leadsFrom (asked (nationalAt p f)) l k (t .national); odd = sidesFrom (asked (firstAt p f)) l k (t .odd) }
