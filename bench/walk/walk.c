@@ -1,5 +1,5 @@
 // The same walk in plain C, over the same bytes: the yardstick of walk.rs. Letters in order, both sides together, D with its makers' best at
-// its place, price before eligibility before size and time, one odd cell for each letter and side, which ranks as T-07 says.
+// its place, one odd cell for each letter and side, which ranks as T-07 says; what put the national leader ahead (T-08).
 #include <stdint.h>
 #include <string.h>
 
@@ -9,6 +9,7 @@ typedef struct {
     uint64_t price, time;
     uint32_t size, name;
     uint8_t condition;
+    uint8_t decided; // a national one: how late its comparison with the second best was decided, 0 without a second
 } Best;
 
 static inline uint64_t get64(const uint8_t *p) { uint64_t v; memcpy(&v, p, 8); return __builtin_bswap64(v); }
@@ -50,13 +51,35 @@ static inline void take(const uint8_t *p, int bid, uint8_t condition, uint32_t n
     uint32_t size = low32(p + 8);
     uint64_t time = low64(p + 12);
     if (size == 0) return;
-    if (r > top || wins(b, size, time, name)) *b = (Best){price, time, size, name, finra ? ' ' : condition};
+    if (r > top || wins(b, size, time, name)) *b = (Best){price, time, size, name, finra ? ' ' : condition, 0};
+}
+
+// a national candidate beside the leader: 1 by price, 2 by size, 3 by time, 4 by letter; of the losers the latest counts
+static inline void lead(int bid, Best x, Best *b) {
+    uint64_t r = rank(bid, x.price), top = rank(bid, b->price);
+    int ahead = 1;
+    if (b->price == 0) x.decided = 0;
+    else if (r != top) ahead = r > top, x.decided = 1;
+    else if (x.size != b->size) ahead = x.size > b->size, x.decided = 2;
+    else if (x.time != b->time) ahead = x.time < b->time, x.decided = 3;
+    else ahead = x.name < b->name, x.decided = 4;
+    if (ahead) *b = x;
+    else if (b->decided < x.decided) b->decided = x.decided;
+}
+
+// a letter's quote
+static inline void take_lead(const uint8_t *p, int bid, uint8_t condition, uint32_t name, Best *b) {
+    uint64_t price = low64(p);
+    uint32_t size = low32(p + 8);
+    if (price == 0 || size == 0 || !admits(bid, condition)) return;
+    lead(bid, (Best){price, low64(p + 12), size, name, condition, 0}, b);
 }
 
 static inline void take_d(int bid, const Best *f, Best *b) {
-    uint64_t r = rank(bid, f->price), top = rank(bid, b->price);
-    if (f->price == 0 || r < top) return;
-    if (r > top || wins(b, f->size, f->time, 'D')) { *b = *f; b->name = 'D'; }
+    if (f->price == 0) return;
+    Best d = *f;
+    d.name = 'D';
+    lead(bid, d, b);
 }
 
 static inline void take_makers(const uint8_t *page, Best e[6]) {
@@ -80,8 +103,8 @@ static inline void walk(const uint8_t *page, Best e[6]) {
             take_d(1, &e[2], &e[0]);
             take_d(0, &e[3], &e[1]);
         } else {
-            take(s + 1, 1, s[0], l, 0, &e[0]);
-            take(s + 21, 0, s[0], l, 0, &e[1]);
+            take_lead(s + 1, 1, s[0], l, &e[0]);
+            take_lead(s + 21, 0, s[0], l, &e[1]);
         }
         take(s + 41, 1, s[0], l, &e[2], &odd[0]);
         take(s + 121, 0, s[0], l, &e[3], &odd[1]);
@@ -94,7 +117,7 @@ uint64_t c_walk(const uint8_t *page) {
     Best e[6];
     uint64_t sum = 0;
     walk(page, e);
-    for (int i = 0; i < 6; i++) sum += e[i].price + e[i].time + ((uint64_t)e[i].size << 24) + ((uint64_t)e[i].name << 16) + e[i].condition;
+    for (int i = 0; i < 6; i++) sum += e[i].price + e[i].time + ((uint64_t)e[i].size << 24) + ((uint64_t)e[i].name << 16) + e[i].condition + ((uint64_t)e[i].decided << 32);
     return sum;
 }
 
@@ -105,7 +128,7 @@ uint8_t c_renew(uint8_t *page) {
     for (int i = 0; i < 6; i++) {
         uint8_t *p = page + ENTRIES + 16 * i;
         uint32_t name = 0x20202020;
-        if (e[i].price) name = i < 2 ? e[i].name << 24 | (uint32_t)e[i].condition << 16 | 0x2020 : i < 4 ? e[i].name : e[i].name << 24 | 0x202020;
+        if (e[i].price) name = i < 2 ? e[i].name << 24 | (uint32_t)e[i].condition << 16 | (uint32_t)" PSTL"[e[i].decided] << 8 | 0x20 : i < 4 ? e[i].name : e[i].name << 24 | 0x202020;
         if (get32(p) != name || get64(p + 4) != e[i].price || get32(p + 12) != e[i].size) flags |= 1 << i;
         put32(p, name);
         put64(p + 4, e[i].price);

@@ -9,11 +9,11 @@ use Rattle.lists.specs.Lists.{at, member}
 use Rattle.field.specs.Field.{be, beBytes, part, field, splice}
 use Rattle.field.specs.Low.{le, leBytes, low}
 use Rattle.ranking.specs.declared.Side.the-variants.{Bid}
-use Rattle.ranking.specs.Ranking.{comparedBy, lower, higher, byPrice, compared, better, whyAhead}
+use Rattle.ranking.specs.Ranking.{comparedBy, lower, higher, byPrice, compared, better}
 use Rattle.quote.specs.declared.Quote.{Quote}
 use Rattle.quote.specs.Quote.{noLevel, quoteLength, admits, counts, candidateOf, levelIn, levelBytes, quoteIn, quoteBytes}
 use Rattle.levels.specs.Levels.{sideLevels, ranked, cellsIn, sideIn, levelsIn}
-use Rattle.entries.specs.Entries.{letters, makerCandidate, finraBest, asD, letterCandidate, nationalBest, nationalReason, oddCandidate, ranks, letterLevels, oddBest, entriesBy, entriesOf}
+use Rattle.entries.specs.Entries.{letters, makerCandidate, finraBest, asD, letterCandidate, nationalBest, oddCandidate, ranks, letterLevels, oddBest, entriesBy, entriesOf}
 use Rattle.entries.specs.Publication.{noEntry, entryBytes, oddName}
 use Rattle.page.specs.Page.{quotesIn, levelsFor, makerIn, makerBytes, makersIn, pageEntries}
 use Rattle.page.specs.Cut.{noneBehind, noMakers, cut}
@@ -58,7 +58,7 @@ pub record Closed : Type 0 where
   pub d-cut : sideLevels Bid (levelsFor (cut 67 (withD 82)) 68) ≡ []
 
 pub closed : Closed
-unfolding letters makerCandidate finraBest asD letterCandidate nationalBest nationalReason oddCandidate ranks letterLevels oddBest entriesBy entriesOf noEntry quotesIn levelsFor makerIn makerBytes makersIn pageEntries noneBehind noMakers cut member be beBytes part field splice le leBytes low comparedBy lower higher byPrice compared better whyAhead admits counts candidateOf levelIn levelBytes quoteIn quoteBytes ranked cellsIn sideIn levelsIn
+unfolding letters makerCandidate finraBest asD letterCandidate nationalBest oddCandidate ranks letterLevels oddBest entriesBy entriesOf noEntry quotesIn levelsFor makerIn makerBytes makersIn pageEntries noneBehind noMakers cut member be beBytes part field splice le leBytes low comparedBy lower higher byPrice compared better admits counts candidateOf levelIn levelBytes quoteIn quoteBytes ranked cellsIn sideIn levelsIn
 closed =
     record {
       no-quote = refl;

@@ -10,7 +10,7 @@ use Rattle.field.specs.Field.{be, beBytes, part, field, splice}
 use Rattle.field.specs.Low.{le, leBytes, low}
 use Rattle.ranking.specs.declared.Side.{Side}
 use Rattle.ranking.specs.declared.Side.the-variants.{Bid, Offer}
-use Rattle.ranking.specs.Ranking.{comparedBy, lower, higher, byPrice, compared, better, whyAhead}
+use Rattle.ranking.specs.Ranking.{comparedBy, lower, higher, byPrice, compared, better}
 use Rattle.quote.specs.declared.Quote.{Quote}
 use Rattle.quote.specs.Quote.{admits, counts, candidateOf, levelIn, levelBytes, quoteIn, quoteBytes}
 use Rattle.entries.specs.Entries.{letters, makerCandidate, finraBest, asD, letterCandidate, candidates}
@@ -68,7 +68,7 @@ pub record Cases : Type 0 where
   pub offer-40 : asked Offer 40 ≡ yes 1
 
 pub cases : Cases
-unfolding letters makerCandidate finraBest asD letterCandidate quotesIn makerIn makerBytes makersIn member firstFrom be beBytes part field splice le leBytes low comparedBy lower higher byPrice compared better whyAhead admits counts candidateOf levelIn levelBytes quoteIn quoteBytes candidates firstYes protection pageCandidates
+unfolding letters makerCandidate finraBest asD letterCandidate quotesIn makerIn makerBytes makersIn member firstFrom be beBytes part field splice le leBytes low comparedBy lower higher byPrice compared better admits counts candidateOf levelIn levelBytes quoteIn quoteBytes candidates firstYes protection pageCandidates
 cases =
     record {
       bid-0 = refl;

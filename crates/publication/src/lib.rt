@@ -98,7 +98,10 @@ fn national_entry(lead: Lead) -> Entry
     let c = lead.best;
     let reason = reason_byte(lead.decided);
     named(
-        (c.name % 256) * 0x1000000 + (c.condition as u32) * 0x10000 + (reason as u32) * 0x100 + 0x20,
+        (c.name % 256) * 0x1000000
+            + (c.condition as u32) * 0x10000
+            + (reason as u32) * 0x100
+            + 0x20,
         c,
     )
 }

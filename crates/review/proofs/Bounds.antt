@@ -6,7 +6,7 @@ use mathlib.Core.Path.{refl}
 use mathlib.Core.List.{List, [], _∷_, _++_}
 use lib.ListN.{replicate, set}
 use Rattle.calls.specs.Call.{add, openLine, startDay, endDay, take, read}
-use Rattle.review.proofs.Rows.{quoted, odds, item, oddLot, maker, control, integrity, test, framed, sealed, only, refused, accepted, partly, rejected, gap, national, nothing, shown, none, zt, ab, roundOf, noOdd, plain, levels, makerOf, eight, eightTold, unknown, onN, onP, onD, look, Row, inDay, fromMake, answered, Answered, end, _▹_}
+use Rattle.review.proofs.Rows.{quoted, odds, item, oddLot, maker, control, integrity, test, framed, sealed, only, refused, accepted, partly, rejected, gap, national, leading, nothing, shown, none, zt, ab, roundOf, noOdd, plain, levels, makerOf, eight, eightTold, unknown, onN, onP, onD, look, Row, inDay, fromMake, answered, Answered, end, _▹_}
 
 -- k messages from i on, each rejected with 40
 abbrev coded : ℕ → ℕ → List ℕ
@@ -66,7 +66,7 @@ table =
     -- all eight bytes of a time and of a price, all four of a size
     ∷ inDay
     (onN 1 (plain 78 4294967297 3 noOdd ∷ []) ∷ onP 1 (plain 80 2 3 noOdd ∷ []) ∷ onN 2 (roundOf 78 7 82 4294967297 65537 4294967298 65538 noOdd ∷ []) ∷ look ∷ [])
-    (accepted 2 1 3 ∷ accepted 2 1 3 ∷ accepted 3 2 1 ∷ shown (national 78 82 4294967297 65537) (national 80 82 10020000 2) nothing nothing nothing nothing ∷ [])
+    (accepted 2 1 3 ∷ accepted 2 1 3 ∷ accepted 3 2 3 ∷ shown (leading 80 78 82 4294967297 65537) (leading 80 80 82 10020000 2) nothing nothing nothing nothing ∷ [])
     -- no other lot, no other condition; symbols and lines may come on an open day; a maker may be named S
     ∷ fromMake 2
     (startDay ∷ add zt 5 ∷ add zt 100 ∷ openLine 5 78 ∷ openLine 5 78 ∷ openLine 7 68 ∷ onN 1 (roundOf 78 7 68 1 1 2 1 noOdd ∷ []) ∷ onD 1 (makerOf 7 69 1 1 2 1 65 ∷ [])

@@ -5,7 +5,7 @@ use mathlib.Core.Path.{refl}
 use mathlib.Core.List.{List, [], _∷_, _++_}
 use lib.ListN.{replicate}
 use Rattle.calls.specs.Call.{Call, take}
-use Rattle.review.proofs.Rows.{odds, item, oddLot, refused, accepted, partly, rejected, gap, national, odd, nothing, shown, zt, roundOf, noOdd, plain, unknown, onN, onP, look, Row, inDay, answered, Answered, end, _▹_}
+use Rattle.review.proofs.Rows.{odds, item, oddLot, refused, accepted, partly, rejected, gap, national, leading, odd, nothing, shown, zt, roundOf, noOdd, plain, unknown, onN, onP, look, Row, inDay, answered, Answered, end, _▹_}
 
 -- odd bids under a clear mark
 abbrev bids : ℕ → ℕ → List ℕ → List ℕ
@@ -28,6 +28,10 @@ oneByOne s =
 abbrev best : ℕ → ℕ → ℕ → List ℕ → List ℕ
 best b lots o ob = shown (national b 82 10000000 lots) (national o 82 10020000 2) nothing nothing ob nothing
 
+-- the same with what put each ahead, and no odd lot
+abbrev ahead : ℕ → ℕ → ℕ → ℕ → ℕ → List ℕ
+ahead b bidBy lots o offerBy = shown (leading bidBy b 82 10000000 lots) (leading offerBy o 82 10020000 2) nothing nothing nothing nothing
+
 abbrev fourShown : ℕ → ℕ → List (List ℕ)
 fourShown s lots =
     accepted (s + 1) s 16 ∷ best 78 lots 78 (odd 78 10012000 3) ∷ accepted (s + 2) (s + 1) 16 ∷ best 78 lots 78 (odd 78 10011000 2)
@@ -38,15 +42,15 @@ table =
     -- P1 bids 10.00, N 3 lots, P 5: P. The smaller size has the earlier time
     inDay
     (onN 1 (plain 78 6 3 noOdd ∷ []) ∷ onP 1 (plain 80 7 5 noOdd ∷ []) ∷ look ∷ [])
-    (accepted 2 1 3 ∷ accepted 2 1 1 ∷ best 80 5 78 nothing ∷ [])
+    (accepted 2 1 3 ∷ accepted 2 1 3 ∷ ahead 80 83 5 78 84 ∷ [])
     -- P2 equal lots, N time 7, P 6: P
     ∷ inDay
     (onN 1 (plain 78 7 3 noOdd ∷ []) ∷ onP 1 (plain 80 6 3 noOdd ∷ []) ∷ look ∷ [])
-    (accepted 2 1 3 ∷ accepted 2 1 3 ∷ best 80 3 80 nothing ∷ [])
+    (accepted 2 1 3 ∷ accepted 2 1 3 ∷ ahead 80 84 3 80 84 ∷ [])
     -- P3 all equal: N
     ∷ inDay
     (onP 1 (plain 80 7 3 noOdd ∷ []) ∷ onN 1 (plain 78 7 3 noOdd ∷ []) ∷ look ∷ [])
-    (accepted 2 1 3 ∷ accepted 2 1 3 ∷ best 78 3 78 nothing ∷ [])
+    (accepted 2 1 3 ∷ accepted 2 1 3 ∷ ahead 78 76 3 78 76 ∷ [])
     -- P4 E: only the offer counts
     ∷ inDay
     (onN 1 (roundOf 78 7 69 10000000 3 10020000 2 noOdd ∷ []) ∷ look ∷ [])

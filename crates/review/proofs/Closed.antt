@@ -4,7 +4,7 @@ use Prim.Native.Nat.{ℕ}
 use mathlib.Core.Path.{refl}
 use mathlib.Core.List.{List, [], _∷_, _++_}
 use Rattle.calls.specs.Call.{add, openLine, startDay, endDay, take, read}
-use Rattle.review.proofs.Rows.{quoted, odds, item, roundLot, oddLot, maker, control, block, only, accepted, partly, rejected, entry, national, odd, nothing, shown, none, zt, ab, roundOf, noOdd, plain, levelsBy, finraLot, finraLevels, makerOf, standing, onN, onP, onD, look, Row, inDay, fromMake, answered, Answered, end, _▹_}
+use Rattle.review.proofs.Rows.{quoted, odds, item, roundLot, oddLot, maker, control, block, only, accepted, partly, rejected, entry, national, leading, odd, nothing, shown, none, zt, ab, roundOf, noOdd, plain, levelsBy, finraLot, finraLevels, makerOf, standing, onN, onP, onD, look, Row, inDay, fromMake, answered, Answered, end, _▹_}
 
 -- an odd bid at 10.01 for 5 and an odd offer at 10.015 for 6; the same of P, further from the market
 abbrev two : List ℕ
@@ -59,9 +59,12 @@ by name price size = entry name 32 32 32 price size
 abbrev led : ℕ → List ℕ → List ℕ → List ℕ
 led name b o = shown (national 68 82 10000000 3) (national 68 82 10020000 2) (by name 10000000 3) (by name 10020000 2) b o
 
--- N leads with 10.00 for 3 and 10.02 for 2; these FINRA entries and odd entries
-abbrev behind : List ℕ → List ℕ → List ℕ → List ℕ → List ℕ
-behind fb fo b o = shown (national 78 82 10000000 3) (national 78 82 10020000 2) fb fo b o
+-- N leads with 10.00 for 3 and 10.02 for 2, a FINRA bid or a FINRA offer behind it by price; an odd lot of that side
+abbrev behindBid : List ℕ → List ℕ → List ℕ
+behindBid fb b = shown (leading 80 78 82 10000000 3) (national 78 82 10020000 2) fb nothing b nothing
+
+abbrev behindOffer : List ℕ → List ℕ → List ℕ
+behindOffer fo o = shown (national 78 82 10000000 3) (leading 80 78 82 10020000 2) nothing fo nothing o
 
 -- N's plain quote under a condition, with an odd part
 abbrev under : ℕ → List ℕ → List ℕ
@@ -142,16 +145,16 @@ table =
     -- another letter's national best does not show them; a FINRA bid behind it does
     ∷ inDay
     (onD 1 (finra ∷ []) ∷ onN 1 (plain 78 7 3 noOdd ∷ []) ∷ look ∷ onD 2 (makerOf 7 82 9000000 1 0 0 65 ∷ []) ∷ look ∷ onD 3 (control 67 68 ∷ []) ∷ look ∷ [])
-    (accepted 2 1 0 ∷ accepted 2 1 3 ∷ besides nothing nothing ∷ accepted 3 2 20 ∷ behind (by 65 9000000 1) nothing dBid nothing ∷ accepted 4 3 20 ∷ besides nothing nothing ∷ [])
+    (accepted 2 1 0 ∷ accepted 2 1 3 ∷ besides nothing nothing ∷ accepted 3 2 21 ∷ behindBid (by 65 9000000 1) dBid ∷ accepted 4 3 21 ∷ besides nothing nothing ∷ [])
     -- FINRA Close and Open in several symbols: the odd bid of ZT, where a maker bids, and the odd offer of AB, where one offers; before it, AB's alone
     ∷ fromMake 2
     (add zt 100 ∷ add ab 100 ∷ openLine 5 78 ∷ openLine 7 68 ∷ startDay ∷ onN 1 (plain 78 7 3 noOdd ∷ []) ∷ onN 2 (roundLot 78 7 (quoted ab 82 10000000 3 10020000 2) noOdd ∷ [])
     ∷ onD 1 (finra ∷ []) ∷ onD 2 (finraAB ∷ []) ∷ onD 3 (makerAB 0 0 10030000 1 ∷ []) ∷ onD 4 (control 67 68 ∷ []) ∷ onD 5 (control 79 68 ∷ []) ∷ look ∷ read ab 96
     ∷ onD 6 (makerOf 7 82 9990000 1 0 0 65 ∷ []) ∷ onD 7 (control 67 68 ∷ []) ∷ look ∷ read ab 96 ∷ onD 8 (control 79 68 ∷ []) ∷ look ∷ read ab 96 ∷ [])
     (only 0 ∷ only 0 ∷ only 0 ∷ only 0 ∷ only 0 ∷ accepted 2 1 3 ∷ accepted 3 2 3
-    ∷ accepted 2 1 0 ∷ accepted 3 2 0 ∷ accepted 4 3 40 ∷ accepted 5 4 40 ∷ accepted 6 5 40 ∷ besides nothing nothing ∷ behind nothing (by 65 10030000 1) nothing dOffer
-    ∷ accepted 7 6 20 ∷ accepted 8 7 60 ∷ besides nothing nothing ∷ besides nothing nothing
-    ∷ accepted 9 8 60 ∷ behind (by 65 9990000 1) nothing dBid nothing ∷ behind nothing (by 65 10030000 1) nothing dOffer ∷ [])
+    ∷ accepted 2 1 0 ∷ accepted 3 2 0 ∷ accepted 4 3 42 ∷ accepted 5 4 42 ∷ accepted 6 5 42 ∷ besides nothing nothing ∷ behindOffer (by 65 10030000 1) dOffer
+    ∷ accepted 7 6 21 ∷ accepted 8 7 63 ∷ besides nothing nothing ∷ besides nothing nothing
+    ∷ accepted 9 8 63 ∷ behindBid (by 65 9990000 1) dBid ∷ behindOffer (by 65 10030000 1) dOffer ∷ [])
     -- 64 while D's are hidden; they are removed, replaced and cleared by the old rules
     ∷ inDay
     (onD 1 (finraLevels 68 8 32 4 1 (item 10006000 1 ++ (item 10007000 1 ++ (item 10008000 1 ++ (item 10010000 1 ++ item 10014000 1)))) ∷ []) ∷ onD 2 (finraLevels 68 8 32 1 0 (item 10011000 1) ∷ [])

@@ -143,9 +143,12 @@ no = replicate 7 0 ++ (0 ∷ 26 ∷ [])
 abbrev pub entry : ℕ → ℕ → ℕ → ℕ → ℕ → ℕ → List ℕ
 entry a b c d price size = a ∷ b ∷ c ∷ d ∷ (beBytes 8 price ++ beBytes 4 size)
 
--- a letter and its condition; a letter alone
+-- a letter and its condition, with no second best; ahead of the second best by P, S, T or L; an odd lot's letter alone
 abbrev pub national : ℕ → ℕ → ℕ → ℕ → List ℕ
 national letter condition price size = entry letter condition 32 32 price size
+
+abbrev pub leading : ℕ → ℕ → ℕ → ℕ → ℕ → List ℕ
+leading reason letter condition price size = entry letter condition reason 32 price size
 
 abbrev pub odd : ℕ → ℕ → ℕ → List ℕ
 odd letter price size = entry letter 32 32 32 price size
@@ -263,7 +266,7 @@ fromMake n cs told = record { n = n; calls = cs; answers = told }
 
 -- what the reviewer answers, worked out by the definitions named here
 unfoldable pub answered : ℕ → List Call → List (List ℕ)
-unfolding Field.be Field.beBytes Field.part Field.field Lists.sum Lists.member Lists.every Lists.all Ranking.lex Ranking.lower Ranking.higher Ranking.byPrice Ranking.better Quote.admits Quote.counts Quote.emptyQuote Quote.withCondition Quote.withTimes Quote.candidateOf Levels.without Levels.insert Levels.itemOn Levels.itemsOn Levels.clears Levels.clearedBy Levels.oddOn Levels.itemsBad Levels.oddBad Levels.oddCode Levels.itemAt Levels.itemsFrom Levels.oddIn Entries.letters Entries.makerCandidate Entries.finraBest Entries.asD Entries.letterCandidate Entries.candidates Entries.nationalBest Entries.oddCandidate Entries.ranks Entries.letterLevels Entries.oddBest Entries.entriesBy Entries.entriesOf Publication.noEntry Publication.publication Publication.changeFlags Protection.firstYes Protection.protection Lists.firstFrom Form.padded Form.symbolGood Form.makerGood Message.controlKind Message.quoteKind Message.kindOf Message.timeOf Message.symbolOf Message.levelAt Message.quoteAt Message.makerName Message.oddAt Message.priceFault Message.quoteFault Message.readInquiry Message.testBytes Message.readTest Message.readFinra Message.readRoundLot Message.readOddLot Message.readMaker Message.messageOf Message.makerCode Message.codeOf Message.partlyTaken Block.checksumOf Block.startAt Block.messageAt Block.messagesFrom Block.messagesOf Block.lengthGood Block.spaced Block.tableGood Block.controlAmong Block.checked Block.idleBlock Sequence.gapOf Sequence.nextOf Sequence.arrivalOf Work.isListed Work.lotOf Line.lineNumber Line.blockNumber Call.numberOf Line.done Told.quads Told.tally Line.gapTold Line.advanced Call.answerOf Work.flagsOf Runs.latestRun Runs.firstTime Reviewer.parts Reviewer.roundsOf Reviewer.quoteOf Reviewer.makerQuotes Reviewer.conditionOf Reviewer.makerOf Reviewer.namesOf Reviewer.makersOf Reviewer.levelsOf Reviewer.reviewedBy Reviewer.knownTo Reviewer.restAfter Reviewer.symbolsAfter Reviewer.historyAfter Reviewer.reviewCall Reviewer.reviewAnswer
+unfolding Field.be Field.beBytes Field.part Field.field Lists.sum Lists.member Lists.every Lists.all Ranking.comparedBy Ranking.lower Ranking.higher Ranking.byPrice Ranking.compared Ranking.better Ranking.whyAhead Quote.admits Quote.counts Quote.emptyQuote Quote.withCondition Quote.withTimes Quote.candidateOf Levels.without Levels.insert Levels.itemOn Levels.itemsOn Levels.clears Levels.clearedBy Levels.oddOn Levels.itemsBad Levels.oddBad Levels.oddCode Levels.itemAt Levels.itemsFrom Levels.oddIn Entries.letters Entries.makerCandidate Entries.finraBest Entries.asD Entries.letterCandidate Entries.candidates Entries.nationalBest Entries.nationalReason Entries.oddCandidate Entries.ranks Entries.letterLevels Entries.oddBest Entries.entriesBy Entries.entriesOf Publication.noEntry Publication.publication Publication.changeFlags Protection.firstYes Protection.protection Lists.firstFrom Form.padded Form.symbolGood Form.makerGood Message.controlKind Message.quoteKind Message.kindOf Message.timeOf Message.symbolOf Message.levelAt Message.quoteAt Message.makerName Message.oddAt Message.priceFault Message.quoteFault Message.readInquiry Message.testBytes Message.readTest Message.readFinra Message.readRoundLot Message.readOddLot Message.readMaker Message.messageOf Message.makerCode Message.codeOf Message.partlyTaken Block.checksumOf Block.startAt Block.messageAt Block.messagesFrom Block.messagesOf Block.lengthGood Block.spaced Block.tableGood Block.controlAmong Block.checked Block.idleBlock Sequence.gapOf Sequence.nextOf Sequence.arrivalOf Work.isListed Work.lotOf Line.lineNumber Line.blockNumber Call.numberOf Line.done Told.quads Told.tally Line.gapTold Line.advanced Call.answerOf Work.flagsOf Runs.latestRun Runs.firstTime Reviewer.parts Reviewer.roundsOf Reviewer.quoteOf Reviewer.makerQuotes Reviewer.conditionOf Reviewer.makerOf Reviewer.namesOf Reviewer.makersOf Reviewer.levelsOf Reviewer.reviewedBy Reviewer.knownTo Reviewer.restAfter Reviewer.symbolsAfter Reviewer.historyAfter Reviewer.reviewCall Reviewer.reviewAnswer
 answered n cs = allTold (reviewAnswers (freshReview n) cs)
 
 -- every row is answered as it says

@@ -5,7 +5,7 @@ use Prim.Native.Nat.{ℕ}
 use mathlib.Core.Path.{refl}
 use mathlib.Core.List.{List, [], _∷_, _++_}
 use Rattle.calls.specs.Call.{make, add, openLine, startDay, endDay, take, read}
-use Rattle.review.proofs.Rows.{quoted, odds, item, maker, control, block, only, refused, accepted, partly, rejected, entry, national, odd, nothing, shown, none, zt, ab, roundOf, noOdd, plain, levelsBy, makerOf, standing, eight, eightTold, onN, onP, onD, look, Row, inDay, fromMake, answered, Answered, end, _▹_}
+use Rattle.review.proofs.Rows.{quoted, odds, item, maker, control, block, only, refused, accepted, partly, rejected, entry, national, leading, odd, nothing, shown, none, zt, ab, roundOf, noOdd, plain, levelsBy, makerOf, standing, eight, eightTold, onN, onP, onD, look, Row, inDay, fromMake, answered, Answered, end, _▹_}
 
 -- ---- conditions: a Q K by N with this condition, its flags, the national bid and offer
 
@@ -55,9 +55,9 @@ table =
     ∷ 32 ∷ 32 ∷ 32 ∷ 32 ∷ 0 ∷ 0 ∷ 0 ∷ 0 ∷ 0 ∷ 0 ∷ 0 ∷ 0 ∷ 0 ∷ 0 ∷ 0 ∷ 0 ∷ 32 ∷ 32 ∷ 32 ∷ 32 ∷ 0 ∷ 0 ∷ 0 ∷ 0 ∷ 0 ∷ 0 ∷ 0 ∷ 0 ∷ 0 ∷ 0 ∷ 0 ∷ 0
     ∷ 32 ∷ 32 ∷ 32 ∷ 32 ∷ 0 ∷ 0 ∷ 0 ∷ 0 ∷ 0 ∷ 0 ∷ 0 ∷ 0 ∷ 0 ∷ 0 ∷ 0 ∷ 0 ∷ 32 ∷ 32 ∷ 32 ∷ 32 ∷ 0 ∷ 0 ∷ 0 ∷ 0 ∷ 0 ∷ 0 ∷ 0 ∷ 0 ∷ 0 ∷ 0 ∷ 0 ∷ 0
     ∷ 32 ∷ 32 ∷ 32 ∷ 32 ∷ 0 ∷ 0 ∷ 0 ∷ 0 ∷ 0 ∷ 0 ∷ 0 ∷ 0 ∷ 0 ∷ 0 ∷ 0 ∷ 0 ∷ 32 ∷ 32 ∷ 32 ∷ 32 ∷ 0 ∷ 0 ∷ 0 ∷ 0 ∷ 0 ∷ 0 ∷ 0 ∷ 0 ∷ 0 ∷ 0 ∷ 0 ∷ 0 ∷ [])
-    ∷ accepted 2 1 3 ∷ accepted 2 1 12 ∷ accepted 2 1 48
+    ∷ accepted 2 1 3 ∷ accepted 2 1 15 ∷ accepted 2 1 48
     ∷ (0 ∷ 0 ∷ 0 ∷ 0 ∷ 0 ∷ 0 ∷ 0
-    ∷ 78 ∷ 82 ∷ 32 ∷ 32 ∷ 0 ∷ 0 ∷ 0 ∷ 0 ∷ 0 ∷ 152 ∷ 150 ∷ 128 ∷ 0 ∷ 0 ∷ 0 ∷ 3 ∷ 78 ∷ 82 ∷ 32 ∷ 32 ∷ 0 ∷ 0 ∷ 0 ∷ 0 ∷ 0 ∷ 152 ∷ 228 ∷ 160 ∷ 0 ∷ 0 ∷ 0 ∷ 2
+    ∷ 78 ∷ 82 ∷ 80 ∷ 32 ∷ 0 ∷ 0 ∷ 0 ∷ 0 ∷ 0 ∷ 152 ∷ 150 ∷ 128 ∷ 0 ∷ 0 ∷ 0 ∷ 3 ∷ 78 ∷ 82 ∷ 80 ∷ 32 ∷ 0 ∷ 0 ∷ 0 ∷ 0 ∷ 0 ∷ 152 ∷ 228 ∷ 160 ∷ 0 ∷ 0 ∷ 0 ∷ 2
     ∷ 65 ∷ 66 ∷ 67 ∷ 68 ∷ 0 ∷ 0 ∷ 0 ∷ 0 ∷ 0 ∷ 152 ∷ 111 ∷ 112 ∷ 0 ∷ 0 ∷ 0 ∷ 1 ∷ 65 ∷ 66 ∷ 67 ∷ 68 ∷ 0 ∷ 0 ∷ 0 ∷ 0 ∷ 0 ∷ 153 ∷ 11 ∷ 176 ∷ 0 ∷ 0 ∷ 0 ∷ 4
     ∷ 80 ∷ 32 ∷ 32 ∷ 32 ∷ 0 ∷ 0 ∷ 0 ∷ 0 ∷ 0 ∷ 152 ∷ 189 ∷ 144 ∷ 0 ∷ 0 ∷ 0 ∷ 5 ∷ 80 ∷ 32 ∷ 32 ∷ 32 ∷ 0 ∷ 0 ∷ 0 ∷ 0 ∷ 0 ∷ 152 ∷ 209 ∷ 24 ∷ 0 ∷ 0 ∷ 0 ∷ 6 ∷ [])
     ∷ [])
@@ -65,9 +65,9 @@ table =
     ∷ inDay
     (openLine 8 65 ∷ onN 1 (plain 78 6 3 noOdd ∷ []) ∷ onD 1 (standing 7 3 65 ∷ []) ∷ look ∷ onD 2 (standing 5 3 66 ∷ []) ∷ look
     ∷ onD 3 (makerOf 7 82 0 0 0 0 66 ∷ []) ∷ onD 4 (standing 6 3 67 ∷ []) ∷ take 8 (block 1 (plain 65 6 3 noOdd ∷ [])) 180 ∷ look ∷ [])
-    (only 0 ∷ accepted 2 1 3 ∷ accepted 2 1 12 ∷ shown (bid 82) (offer 82) (finra 65 10000000 3) (finra 65 10020000 2) nothing nothing
-    ∷ accepted 3 2 15 ∷ shown (national 68 82 10000000 3) (national 68 82 10020000 2) (finra 66 10000000 3) (finra 66 10020000 2) nothing nothing
-    ∷ accepted 4 3 15 ∷ accepted 5 4 15 ∷ accepted 2 1 3 ∷ shown (national 65 82 10000000 3) (national 65 82 10020000 2) (finra 67 10000000 3) (finra 67 10020000 2) nothing nothing ∷ [])
+    (only 0 ∷ accepted 2 1 3 ∷ accepted 2 1 15 ∷ shown (leading 84 78 82 10000000 3) (leading 84 78 82 10020000 2) (finra 65 10000000 3) (finra 65 10020000 2) nothing nothing
+    ∷ accepted 3 2 15 ∷ shown (leading 84 68 82 10000000 3) (leading 84 68 82 10020000 2) (finra 66 10000000 3) (finra 66 10020000 2) nothing nothing
+    ∷ accepted 4 3 15 ∷ accepted 5 4 15 ∷ accepted 2 1 3 ∷ shown (leading 76 65 82 10000000 3) (leading 76 65 82 10020000 2) (finra 67 10000000 3) (finra 67 10020000 2) nothing nothing ∷ [])
     -- makers: lower name, earlier time, larger size, better price; each side by itself
     ∷ inDay
     (onD 1 (standing 7 3 67 ∷ []) ∷ onD 2 (standing 7 3 66 ∷ []) ∷ onD 3 (standing 6 3 68 ∷ []) ∷ onD 4 (standing 8 4 69 ∷ []) ∷ look
@@ -135,7 +135,7 @@ table =
     ∷ inDay
     (onN 1 (plain 78 7 3 (odds 32 4 0 (0 ∷ []) fourBids) ∷ []) ∷ onD 1 (standing 8 3 65 ∷ []) ∷ endDay ∷ look ∷ onN 2 (plain 78 7 3 noOdd ∷ []) ∷ startDay ∷ look
     ∷ onN 1 (levelsBy 78 8 32 1 0 (item 10014000 1) ∷ []) ∷ look ∷ onD 1 (control 79 68 ∷ []) ∷ look ∷ [])
-    (accepted 2 1 19 ∷ accepted 2 1 12 ∷ only 0 ∷ shown (bid 82) (offer 82) (finra 65 10000000 3) (finra 65 10020000 2) (odd 78 10013000 4) nothing ∷ refused 20 2 1 ∷ only 0 ∷ none
+    (accepted 2 1 19 ∷ accepted 2 1 15 ∷ only 0 ∷ shown (leading 84 78 82 10000000 3) (leading 84 78 82 10020000 2) (finra 65 10000000 3) (finra 65 10020000 2) (odd 78 10013000 4) nothing ∷ refused 20 2 1 ∷ only 0 ∷ none
     ∷ accepted 2 1 16 ∷ shown nothing nothing nothing nothing (odd 78 10014000 1) nothing ∷ accepted 2 1 0 ∷ shown nothing nothing nothing nothing (odd 78 10014000 1) nothing ∷ [])
     -- make again: another n is 2 and changes nothing, the same n leaves no symbols, no lines and a closed day
     ∷ inDay

@@ -14,12 +14,12 @@ use Rattle.field.specs.Ascii.{D, S}
 use Rattle.ranking.specs.declared.Side.{Side}
 use Rattle.ranking.specs.declared.Side.the-variants.{Bid, Offer}
 use Rattle.ranking.specs.declared.Candidate.{Candidate}
-use Rattle.ranking.specs.Ranking.{better, best}
+use Rattle.ranking.specs.Ranking.{better, best, whyAhead}
 use Rattle.quote.specs.declared.Level.{Level}
 use Rattle.quote.specs.declared.Quote.{Quote}
 use Rattle.quote.specs.Quote.{noQuote, sideOf, admits, counts, withCondition, withTime, withTimes, timeKept, quoteOver, levelCandidate, candidateOf}
 use Rattle.levels.specs.Levels.{Standing, sideLevels}
-use Rattle.entries.specs.Entries.{letters, asD, letterCandidate, nationalBest, oddCandidate, ranks, letterLevels, oddBest, entriesBy}
+use Rattle.entries.specs.Entries.{letters, asD, letterCandidate, nationals, nationalBest, nationalReason, oddCandidate, ranks, letterLevels, oddBest, entriesBy}
 use Rattle.makers.specs.Makers.{makerOver}
 use Rattle.review.specs.Runs.{latestRun, firstTime, runTime, latest}
 use Rattle.review.specs.Reviewer.{standingMaker}
@@ -137,14 +137,23 @@ unfolding held quoteOver
 held-candidate s n [] = refl
 held-candidate s n (q ∷ qs) = same-candidate s n (λ k. timeKept (sideOf k (held qs)) (sideOf k q)) (runTime (q ∷ qs)) q (held-time s q qs)
 
--- so each letter's candidate is the same, and the national best
+-- so each letter's candidate is the same
 pub held-letter : (rounds : ℕ → List Quote) (s : Side) (fb : Option Candidate) (l : ℕ) → letterCandidate s (λ k. held (rounds k)) fb l ≡ letterCandidate s (λ k. orElse (latest (rounds k)) noQuote) fb l
 unfolding letterCandidate
 held-letter rounds s fb l = ap (λ (o : Option Candidate). cond (eqb l D) (mapOption asD fb) (cond (eqb l S) none o)) (held-candidate s l (rounds l))
 
+-- and what is worked out from the national candidates: the best of them, and what put it ahead
+held-nationals : {A : Type 0} (f : Side → List Candidate → A) (rounds : ℕ → List Quote) (fb : Side → Option Candidate)
+    → _≡_ {A = Side → A} (λ s. f s (nationals (λ l. held (rounds l)) fb s)) (λ s. f s (nationals (λ l. orElse (latest (rounds l)) noQuote) fb s))
+held-nationals f rounds fb = fun-ext (λ s. ap (λ (g : ℕ → Option Candidate). f s (collect g letters)) (fun-ext (held-letter rounds s (fb s))))
+
 held-national : (rounds : ℕ → List Quote) (fb : Side → Option Candidate) → nationalBest (λ l. held (rounds l)) fb ≡ nationalBest (λ l. orElse (latest (rounds l)) noQuote) fb
 unfolding nationalBest
-held-national rounds fb = fun-ext (λ s. ap (λ (f : ℕ → Option Candidate). best (better s) (collect f letters)) (fun-ext (held-letter rounds s (fb s))))
+held-national = held-nationals (λ s. best (better s))
+
+held-reason : (rounds : ℕ → List Quote) (fb : Side → Option Candidate) → nationalReason (λ l. held (rounds l)) fb ≡ nationalReason (λ l. orElse (latest (rounds l)) noQuote) fb
+unfolding nationalReason
+held-reason = held-nationals whyAhead
 
 -- the condition is that of the newest quote, so the same levels rank (T-07)
 held-condition : (qs : List Quote) → held qs .condition ≡ orElse (latest qs) noQuote .condition
@@ -172,4 +181,4 @@ held-entries rounds fb levels =
     let o : oddBest (λ l. held (rounds l)) fb levels (nationalBest (λ l. held (rounds l)) fb)
     ≡ oddBest (λ l. orElse (latest (rounds l)) noQuote) fb levels (nationalBest (λ l. orElse (latest (rounds l)) noQuote) fb) =
     ap (oddBest (λ l. held (rounds l)) fb levels) n ∙ held-odd rounds fb levels (nationalBest (λ l. orElse (latest (rounds l)) noQuote) fb) in
-    λ i. record { national = n i; finra = fb; odd = o i }
+    λ i. record { national = n i; reason = held-reason rounds fb i; finra = fb; odd = o i }

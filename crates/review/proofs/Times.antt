@@ -8,7 +8,7 @@ use Rattle.ranking.specs.declared.Side.the-variants.{Bid, Offer}
 use Rattle.quote.specs.declared.Quote.{Quote}
 use Rattle.calls.specs.Call.{openLine, startDay, endDay, take}
 use Rattle.review.specs.Runs.{latestRun, firstTime, runTime}
-use Rattle.review.proofs.Rows.{control, block, odds, only, accepted, partly, rejected, entry, national, nothing, shown, roundOf, noOdd, plain, makerOf, onN, onP, onD, look, Row, inDay, answered, Answered, end, _▹_}
+use Rattle.review.proofs.Rows.{control, block, odds, only, accepted, partly, rejected, entry, national, leading, nothing, shown, roundOf, noOdd, plain, makerOf, onN, onP, onD, look, Row, inDay, answered, Answered, end, _▹_}
 
 -- ---- runs
 
@@ -48,16 +48,16 @@ bidBy letter time condition lots = roundOf letter time condition 10000000 lots 0
 abbrev byN : ℕ → ℕ → List ℕ
 byN time lots = bidBy 78 time 82 lots
 
--- the bid of a letter alone
+-- the bid of a letter that is ahead by time
 abbrev leads : ℕ → ℕ → List ℕ
-leads letter lots = shown (national letter 82 10000000 lots) nothing nothing nothing nothing nothing
+leads letter lots = shown (leading 84 letter 82 10000000 lots) nothing nothing nothing nothing nothing
 
--- three quotes of N, then P's of the last size at time 20: who leads, and the flags
-abbrev race : List ℕ → List ℕ → List ℕ → ℕ → List ℕ → ℕ → ℕ → Row
-race a b c lots flags told leader =
+-- three quotes of N and their flags, then P's of the last size at time 20: who leads by time, which changes the bid's entry
+abbrev race : List ℕ → List ℕ → List ℕ → ℕ → List ℕ → ℕ → Row
+race a b c lots flags leader =
     inDay
     (onN 1 (a ∷ b ∷ c ∷ []) ∷ onP 1 (bidBy 80 20 82 lots ∷ []) ∷ look ∷ [])
-    (taken 4 3 flags ∷ accepted 2 1 told ∷ leads leader lots ∷ [])
+    (taken 4 3 flags ∷ accepted 2 1 1 ∷ leads leader lots ∷ [])
 
 -- a maker's bid at 10.00
 abbrev makerBid : ℕ → ℕ → ℕ → List ℕ
@@ -77,33 +77,33 @@ returned name =
 unfoldable pub table : List Row
 table =
     -- the same and smaller sizes keep the first time
-    race (byN 10 5) (byN 30 5) (byN 31 5) 5 (1 ∷ 0 ∷ 0 ∷ []) 0 78
-    ∷ race (byN 10 5) (byN 30 4) (byN 31 3) 3 (1 ∷ 1 ∷ 1 ∷ []) 0 78
+    race (byN 10 5) (byN 30 5) (byN 31 5) 5 (1 ∷ 0 ∷ 0 ∷ []) 78
+    ∷ race (byN 10 5) (byN 30 4) (byN 31 3) 3 (1 ∷ 1 ∷ 1 ∷ []) 78
     -- a larger size takes its own: 3, 3, 4, and 5, 3, 4
-    ∷ race (byN 10 3) (byN 11 3) (byN 30 4) 4 (1 ∷ 0 ∷ 1 ∷ []) 1 80
-    ∷ race (byN 10 5) (byN 11 3) (byN 30 4) 4 (1 ∷ 1 ∷ 1 ∷ []) 1 80
+    ∷ race (byN 10 3) (byN 11 3) (byN 30 4) 4 (1 ∷ 0 ∷ 1 ∷ []) 80
+    ∷ race (byN 10 5) (byN 11 3) (byN 30 4) 4 (1 ∷ 1 ∷ 1 ∷ []) 80
     -- an indication between: 5, 0, 5 begins anew
-    ∷ race (byN 10 5) (byN 11 0) (byN 30 5) 5 (1 ∷ 1 ∷ 1 ∷ []) 1 80
-    ∷ race (byN 30 5) (byN 11 0) (byN 10 5) 5 (1 ∷ 1 ∷ 1 ∷ []) 0 78
+    ∷ race (byN 10 5) (byN 11 0) (byN 30 5) 5 (1 ∷ 1 ∷ 1 ∷ []) 80
+    ∷ race (byN 30 5) (byN 11 0) (byN 10 5) 5 (1 ∷ 1 ∷ 1 ∷ []) 78
     -- a condition between, and one under which the run began
-    ∷ race (byN 10 5) (bidBy 78 11 67 5) (byN 30 5) 5 (1 ∷ 1 ∷ 1 ∷ []) 0 78
-    ∷ race (bidBy 78 10 67 5) (byN 30 5) (byN 31 5) 5 (0 ∷ 1 ∷ 0 ∷ []) 0 78
+    ∷ race (byN 10 5) (bidBy 78 11 67 5) (byN 30 5) 5 (1 ∷ 1 ∷ 1 ∷ []) 78
+    ∷ race (bidBy 78 10 67 5) (byN 30 5) (byN 31 5) 5 (0 ∷ 1 ∷ 0 ∷ []) 78
     -- another price between
-    ∷ race (byN 10 5) (roundOf 78 11 82 9990000 5 0 0 noOdd) (byN 30 5) 5 (1 ∷ 1 ∷ 1 ∷ []) 1 80
+    ∷ race (byN 10 5) (roundOf 78 11 82 9990000 5 0 0 noOdd) (byN 30 5) 5 (1 ∷ 1 ∷ 1 ∷ []) 80
     -- times that go back: the first quote's, not the earliest
-    ∷ race (byN 30 5) (byN 11 5) (byN 10 5) 5 (1 ∷ 0 ∷ 0 ∷ []) 1 80
-    -- the leader of both sides stays for its resent quote: no flags
+    ∷ race (byN 30 5) (byN 11 5) (byN 10 5) 5 (1 ∷ 0 ∷ 0 ∷ []) 80
+    -- the leader of both sides stays for its resent quote, and is ahead by time as before: no flags
     ∷ inDay
     (onN 1 (plain 78 5 3 noOdd ∷ []) ∷ onP 1 (plain 80 6 3 noOdd ∷ []) ∷ onN 2 (plain 78 7 3 noOdd ∷ []) ∷ look ∷ [])
-    (accepted 2 1 3 ∷ accepted 2 1 0 ∷ accepted 3 2 0 ∷ shown (national 78 82 10000000 3) (national 78 82 10020000 2) nothing nothing nothing nothing ∷ [])
+    (accepted 2 1 3 ∷ accepted 2 1 3 ∷ accepted 3 2 0 ∷ shown (leading 84 78 82 10000000 3) (leading 84 78 82 10020000 2) nothing nothing nothing nothing ∷ [])
     -- a time for each side: N's bid is of 10, its offer of 30
     ∷ inDay
     (onN 1 (plain 78 10 3 noOdd ∷ roundOf 78 30 82 10000000 3 10020000 3 noOdd ∷ []) ∷ onP 1 (roundOf 80 20 82 10000000 3 10020000 3 noOdd ∷ []) ∷ look ∷ [])
-    (taken 3 2 (3 ∷ 2 ∷ []) ∷ accepted 2 1 2 ∷ shown (national 78 82 10000000 3) (national 80 82 10020000 3) nothing nothing nothing nothing ∷ [])
+    (taken 3 2 (3 ∷ 2 ∷ []) ∷ accepted 2 1 3 ∷ shown (leading 84 78 82 10000000 3) (leading 84 80 82 10020000 3) nothing nothing nothing nothing ∷ [])
     -- and the other way: its bid is of 30, its offer of 10
     ∷ inDay
     (onN 1 (plain 78 10 3 noOdd ∷ plain 78 30 4 noOdd ∷ []) ∷ onP 1 (plain 80 20 4 noOdd ∷ []) ∷ look ∷ [])
-    (taken 3 2 (3 ∷ 1 ∷ []) ∷ accepted 2 1 1 ∷ shown (national 80 82 10000000 4) (national 78 82 10020000 2) nothing nothing nothing nothing ∷ [])
+    (taken 3 2 (3 ∷ 1 ∷ []) ∷ accepted 2 1 3 ∷ shown (leading 84 80 82 10000000 4) (leading 84 78 82 10020000 2) nothing nothing nothing nothing ∷ [])
     -- the round part of a partly accepted Q K is in the run, a rejected one is not
     ∷ inDay
     (onN 1 (byN 10 5 ∷ []) ∷ onN 2 (roundOf 78 31 82 10000000 6 0 0 (odds 66 0 0 (1 ∷ []) []) ∷ []) ∷ onN 3 (roundOf 78 31 82 10000000 6 0 0 (odds 67 0 0 (0 ∷ []) []) ∷ [])
@@ -112,7 +112,7 @@ table =
     -- one run for a letter over two lines
     ∷ inDay
     (openLine 8 78 ∷ onN 1 (byN 10 5 ∷ []) ∷ take 8 (block 1 (byN 30 5 ∷ [])) 180 ∷ onP 1 (bidBy 80 20 82 5 ∷ []) ∷ look ∷ [])
-    (only 0 ∷ accepted 2 1 1 ∷ accepted 2 1 0 ∷ accepted 2 1 0 ∷ leads 78 5 ∷ [])
+    (only 0 ∷ accepted 2 1 1 ∷ accepted 2 1 0 ∷ accepted 2 1 1 ∷ leads 78 5 ∷ [])
     -- Start of Day forgets
     ∷ inDay
     (onN 1 (byN 10 5 ∷ []) ∷ endDay ∷ startDay ∷ onN 1 (byN 30 5 ∷ []) ∷ onP 1 (bidBy 80 20 82 5 ∷ []) ∷ look ∷ [])
@@ -130,8 +130,8 @@ table =
     -- D has the time of that side of its FINRA best: the bid of 10, the offer of 30
     ∷ inDay
     (onD 1 (makerOf 10 82 10000000 3 10020000 2 65 ∷ makerOf 30 82 10000000 3 10020000 3 65 ∷ []) ∷ onP 1 (roundOf 80 20 82 10000000 3 10020000 3 noOdd ∷ []) ∷ look ∷ [])
-    (taken 3 2 (15 ∷ 10 ∷ []) ∷ accepted 2 1 2
-    ∷ shown (national 68 82 10000000 3) (national 80 82 10020000 3) (entry 65 32 32 32 10000000 3) (entry 65 32 32 32 10020000 3) nothing nothing ∷ [])
+    (taken 3 2 (15 ∷ 10 ∷ []) ∷ accepted 2 1 3
+    ∷ shown (leading 84 68 82 10000000 3) (leading 84 80 82 10020000 3) (entry 65 32 32 32 10000000 3) (entry 65 32 32 32 10020000 3) nothing nothing ∷ [])
     ∷ []
 
 -- one for each row, in order

@@ -108,7 +108,11 @@ fn with_maker(page: &[u8], k: usize, best: Sides) -> Sides
     if field::get8(page, quote) == b'R' {
         let name = field::get32(page, at);
         let bid = ranking::choose(Side::Bid, best.bid, quoted(page, quote, Side::Bid, name));
-        let offer = ranking::choose(Side::Offer, best.offer, quoted(page, quote, Side::Offer, name));
+        let offer = ranking::choose(
+            Side::Offer,
+            best.offer,
+            quoted(page, quote, Side::Offer, name),
+        );
         return Sides { bid, offer };
     }
     best

@@ -30,8 +30,8 @@ impl Publication {
         let (entries, _) = bytes.as_chunks::<ENTRY_LEN>();
         let entry = |at: usize| Entry::from_bytes(&entries[at]);
         Publication {
-            national_bid: entry(0).map(Entry::with_condition),
-            national_offer: entry(1).map(Entry::with_condition),
+            national_bid: entry(0).map(Entry::into_national),
+            national_offer: entry(1).map(Entry::into_national),
             finra_bid: entry(2),
             finra_offer: entry(3),
             odd_bid: entry(4),
@@ -72,6 +72,9 @@ pub struct Entry {
     pub name: Name,
     /// The condition of a national entry; no other is published with one.
     pub condition: Option<u8>,
+    /// What put a national entry ahead of the second best. None if there is no second best, and for
+    /// the other entries.
+    pub reason: Option<Reason>,
     /// The price.
     pub price: Price,
     /// Round lots, or shares of an odd lot.
@@ -90,23 +93,25 @@ impl Entry {
         Some(Entry {
             name: Name([n0, n1, n2, n3]),
             condition: None,
+            reason: None,
             price: Price(u64::from_be_bytes(price)),
             size: u32::from_be_bytes([s0, s1, s2, s3]),
         })
     }
 
-    /// A national name is the letter, the condition and two spaces.
-    fn with_condition(self) -> Entry {
-        let Name([letter, condition, ..]) = self.name;
+    /// A national name is the letter, the condition, what put it ahead and a space.
+    fn into_national(self) -> Entry {
+        let Name([letter, condition, reason, _]) = self.name;
         Entry {
             name: Name([letter, b' ', b' ', b' ']),
             condition: Some(condition),
+            reason: Reason::from_byte(reason),
             ..self
         }
     }
 }
 
-/// Name, condition if there is one, price and size.
+/// Name, condition if there is one, price and size; what put it ahead if that is told.
 impl Display for Entry {
     fn fmt(&self, f: &mut Formatter) -> fmt::Result {
         let Entry {
@@ -116,7 +121,48 @@ impl Display for Entry {
         if let Some(condition) = self.condition {
             write!(f, "{} ", condition.escape_ascii())?;
         }
-        write!(f, "{price} x {size}")
+        write!(f, "{price} x {size}")?;
+        match self.reason {
+            Some(reason) => write!(f, ", ahead by {reason}"),
+            None => Ok(()),
+        }
+    }
+}
+
+/// What put a national leader ahead of the second best: the first of these in which the two differ.
+#[derive(Clone, Copy, PartialEq, Eq, PartialOrd, Ord, Hash, Debug)]
+pub enum Reason {
+    /// A better price.
+    Price,
+    /// A larger size at the same price.
+    Size,
+    /// An earlier time at the same price and size.
+    Time,
+    /// A lower letter; all else is the same.
+    Letter,
+}
+
+impl Reason {
+    /// The reason that an entry's third byte stands for; a space is none.
+    fn from_byte(byte: u8) -> Option<Reason> {
+        match byte {
+            b'P' => Some(Reason::Price),
+            b'S' => Some(Reason::Size),
+            b'T' => Some(Reason::Time),
+            b'L' => Some(Reason::Letter),
+            _ => None,
+        }
+    }
+}
+
+impl Display for Reason {
+    fn fmt(&self, f: &mut Formatter) -> fmt::Result {
+        f.write_str(match self {
+            Reason::Price => "price",
+            Reason::Size => "size",
+            Reason::Time => "time",
+            Reason::Letter => "letter",
+        })
     }
 }
 

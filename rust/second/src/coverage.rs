@@ -1,8 +1,9 @@
-//! Counting which numbers, codes, flags, answers to queries, cases of resent quotes and of closed
-//! venues a run of lists has reached.
+//! Counting which numbers, codes, flags, answers to queries, cases of resent quotes, of closed venues
+//! and of leaders a run of lists has reached.
 
 mod closed;
 mod finra;
+mod leading;
 mod prices;
 mod resent;
 
@@ -15,6 +16,7 @@ use crate::compare::{lent_part, Observed};
 use crate::quote_book::Protected;
 use closed::Closed;
 use finra::Finra;
+use leading::Leading;
 use resent::Resent;
 
 /// The numbers that each call can answer in a list.
@@ -78,14 +80,17 @@ pub struct Coverage {
     resent: Resent,
     closed: Closed,
     finra: Finra,
+    leading: Leading,
 }
 
 impl Coverage {
     /// Notes a list and what was observed at each of its calls.
     pub fn note(&mut self, list: &List, observed: &[Observed]) {
         self.start_list();
+        self.leading.start_list();
         for (call, observed) in list.calls.iter().zip(observed) {
             self.note_call(call, observed);
+            self.leading.note(&observed.publications);
         }
     }
 
@@ -170,6 +175,7 @@ impl Coverage {
         missing.extend(missing_in("answer", &ANSWERS, &self.answers));
         missing.extend(self.closed.missing());
         missing.extend(self.finra.missing());
+        missing.extend(self.leading.missing());
         missing
     }
 
@@ -256,6 +262,7 @@ impl Display for Coverage {
                 write!(f, " {value} x{count}")?;
             }
         }
-        writeln!(f, "{}{}{}", self.resent, self.closed, self.finra)
+        write!(f, "{}{}", self.resent, self.closed)?;
+        writeln!(f, "{}{}", self.finra, self.leading)
     }
 }

@@ -273,7 +273,14 @@ impl Reading {
                 });
             // A maker's side counts under R only.
             let d = finra.map(|(shown, _)| (shown, *b"DR  "));
-            let national = best(side, quotes.chain(d));
+            let nationals: Vec<Candidate> = quotes.chain(d).collect();
+            let leader = best(side, nationals.iter().copied());
+            // T-08: the third byte, by the best of the other letters.
+            let national = leader.map(|(shown, mut name)| {
+                let others = nationals.into_iter().filter(|(_, other)| *other != name);
+                name[2] = best(side, others).map_or(b' ', |(second, _)| reason(&shown, &second));
+                (shown, name)
+            });
             let inside = |level: &Shown| {
                 national.is_none_or(|(best, _)| rank(side, level.price) > rank(side, best.price))
             };
@@ -352,6 +359,19 @@ fn best(side: usize, candidates: impl Iterator<Item = Candidate>) -> Option<Cand
         let rank = rank(side, shown.price);
         (rank, shown.size, Reverse(shown.time), Reverse(*name))
     })
+}
+
+/// The first in which a leader and the second best differ: price, size, time, else the letter.
+fn reason(leader: &Shown, second: &Shown) -> u8 {
+    if leader.price != second.price {
+        b'P'
+    } else if leader.size != second.size {
+        b'S'
+    } else if leader.time != second.time {
+        b'T'
+    } else {
+        b'L'
+    }
 }
 
 fn bytes(candidate: Option<Candidate>) -> [u8; 16] {

@@ -84,29 +84,59 @@ impl Candidate {
         self.rank == standing.rank && no_larger
     }
 
-    /// The better price, then larger size, earlier time, lower name.
+    /// The better price, then larger size, earlier time, lower name: whether this is the better one,
+    /// and which of the four decided.
     #[inline]
-    pub fn beats<const M: u8>(&self, other: &Candidate) -> bool {
+    pub fn compare<const M: u8>(&self, other: &Candidate) -> (bool, Reason) {
         if self.rank != other.rank {
-            return self.rank > other.rank;
+            return (self.rank > other.rank, Reason::Price);
         }
         if M == mistake::TIME_BEFORE_SIZE && self.time != other.time {
-            return self.time < other.time;
+            return (self.time < other.time, Reason::Time);
         }
         if self.size != other.size {
-            return self.size > other.size;
+            return (self.size > other.size, Reason::Size);
         }
         if self.time != other.time {
-            return self.time < other.time;
+            return (self.time < other.time, Reason::Time);
         }
         if M == mistake::TIE_TO_HIGHER_NAME && other.stands() {
-            return self.name > other.name;
+            return (self.name > other.name, Reason::Name);
         }
-        self.name < other.name
+        (self.name < other.name, Reason::Name)
+    }
+
+    #[inline]
+    pub fn beats<const M: u8>(&self, other: &Candidate) -> bool {
+        self.compare::<M>(other).0
     }
 }
 
-/// The four bytes of a national name: letter, condition, two spaces.
+/// Which of the four decided between two candidates.
+#[derive(Clone, Copy, PartialEq, Eq, PartialOrd, Ord, Debug)]
+pub enum Reason {
+    Price,
+    Size,
+    Time,
+    Name,
+}
+
+impl Reason {
+    /// The third byte of a national entry.
+    #[inline]
+    pub fn byte<const M: u8>(self) -> u8 {
+        match self {
+            Reason::Price => b'P',
+            Reason::Size => b'S',
+            Reason::Time if M == mistake::TIME_SHOWN_AS_SIZE => b'S',
+            Reason::Time => b'T',
+            Reason::Name => b'L',
+        }
+    }
+}
+
+/// The four bytes of a national name: letter, condition, two spaces. The third is another one if there
+/// is a second best.
 #[inline]
 pub fn national_name(letter: u8, condition: u8) -> u32 {
     u32::from_be_bytes([letter, condition, b' ', b' '])
@@ -136,6 +166,13 @@ impl Entry {
         Entry(
             u128::from(candidate.name) << 96 | u128::from(price) << 32 | u128::from(candidate.size),
         )
+    }
+
+    /// The entry with this byte in the third place of its name.
+    #[inline]
+    pub fn with_reason(self, byte: u8) -> Entry {
+        const PLACE: u32 = 104;
+        Entry(self.0 & !(0xff << PLACE) | u128::from(byte) << PLACE)
     }
 
     #[inline]

@@ -104,4 +104,14 @@ mistakes! {
     86 FINRA_ODD_BY_NATIONAL "D's levels rank while any letter has a national entry on that side.";
     87 FINRA_ODD_BY_ANY_MAKER "D's levels rank beside a maker that doesn't count.";
     88 FINRA_LEADER_STAYS "The incremental engine keeps an odd leader of D that a Q U hides.";
+    89 REASON_OF_THIRD "A national entry tells what put it ahead of the third best.";
+    90 REASON_OF_LAST "A national entry tells its comparison with the last other letter.";
+    91 FINRA_WITH_REASON "A FINRA entry tells what put the leader ahead.";
+    92 ODD_WITH_REASON "An odd entry tells what put the leader ahead.";
+    93 ALONE_BY_PRICE "A national entry without a second best is ahead by price.";
+    94 SECOND_MAKER "D's second maker counts as a second best.";
+    95 REASON_NOT_FLAGGED "A change of the third byte alone sets no flag.";
+    96 TIME_SHOWN_AS_SIZE "A leader by time is shown as one by size.";
+    97 SECOND_STAYS "The incremental engine keeps a second best that worsened or left.";
+    98 SECOND_NOT_PASSED "The incremental engine does not see a quote that passes the second best.";
 }

@@ -146,14 +146,21 @@ impl Page {
         }
     }
 
-    /// Keeps one side's three entries as its leaders give them. An odd level is published if it is
+    /// Keeps one side's three entries as its leaders give them. "The third byte of a national entry
+    /// becomes P, S, T or L by the comparison with the second best, or a space if there is no
+    /// second." An odd level is published if it is
     /// priced above the national bid (below the national offer), or if that side has none, whose
     /// rank is 0. The odd order begins with the price, so only the best level has to be looked at.
     #[inline]
     pub fn publish<const M: u8>(&mut self, side: Side) {
         let at = side as usize;
         let leaders = &self.sides[at].leaders;
-        let Leaders { national, odd, .. } = leaders;
+        let Leaders {
+            national,
+            second,
+            odd,
+            ..
+        } = leaders;
         let mut inside = odd.rank > national.rank;
         if M == mistake::ODD_AT_NATIONAL {
             inside |= odd.rank == national.rank;
@@ -161,13 +168,21 @@ impl Page {
         if M == mistake::ODD_NEEDS_NATIONAL {
             inside &= national.stands();
         }
-        self.entries[at] = Entry::of(national, side);
-        self.entries[2 + at] = Entry::of(&leaders.finra, side);
-        self.entries[4 + at] = if inside {
-            Entry::of(odd, side)
-        } else {
-            Entry::NONE
+        let reason = match second.stands() {
+            true => national.compare::<M>(second).1.byte::<M>(),
+            false if M == mistake::ALONE_BY_PRICE && national.stands() => b'P',
+            false => b' ',
         };
+        let (mut finra, mut odd) = (Entry::of(&leaders.finra, side), Entry::of(odd, side));
+        if M == mistake::FINRA_WITH_REASON && leaders.finra.stands() {
+            finra = finra.with_reason(reason);
+        }
+        if M == mistake::ODD_WITH_REASON {
+            odd = odd.with_reason(reason);
+        }
+        self.entries[at] = Entry::of(national, side).with_reason(reason);
+        self.entries[2 + at] = finra;
+        self.entries[4 + at] = if inside { odd } else { Entry::NONE };
     }
 
     /// The first letter from A with a counting bid at or above the price, or offer at or below it:
@@ -220,7 +235,13 @@ impl Page {
     pub fn changes<const M: u8>(&self, before: &Entries) -> u8 {
         let pairs = self.entries.iter().zip(before).enumerate();
         let flags = pairs.fold(0, |flags, (i, (now, old))| {
-            flags | u8::from(now != old) << i
+            let is_same = match M {
+                mistake::REASON_NOT_FLAGGED if i < 2 => {
+                    now.with_reason(b' ') == old.with_reason(b' ')
+                }
+                _ => now == old,
+            };
+            flags | u8::from(!is_same) << i
         });
         if M == mistake::ODD_FLAGS_LOST {
             flags & 15

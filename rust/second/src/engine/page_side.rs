@@ -12,10 +12,12 @@ fn place(letter: u8) -> usize {
     usize::from(letter - b'A')
 }
 
-/// The best of each ranking; odd before the national price is looked at.
+/// The best of each ranking, and the second best nationally; odd before the national price is looked
+/// at.
 #[derive(Clone, Copy)]
 pub struct Leaders {
     pub national: Candidate,
+    pub second: Candidate,
     pub finra: Candidate,
     pub odd: Candidate,
 }
@@ -49,6 +51,7 @@ impl PageSide {
         odd: Ranking::EMPTY,
         leaders: Leaders {
             national: Candidate::NONE,
+            second: Candidate::NONE,
             finra: Candidate::NONE,
             odd: Candidate::NONE,
         },
@@ -123,6 +126,39 @@ impl PageSide {
     #[inline]
     pub fn best_quote<const M: u8>(&self) -> Candidate {
         self.quotes.best::<M>()
+    }
+
+    /// The second best nationally: the best of the other letters' counting sides. D is one letter,
+    /// so that its other makers are no second best.
+    #[inline]
+    pub fn second_quote<const M: u8>(&self) -> Candidate {
+        let Leaders {
+            national, finra, ..
+        } = self.leaders;
+        if !national.stands() {
+            return Candidate::NONE;
+        }
+        let second = self.quotes.best_beside::<M>(place(national.letter()));
+        let others = |letter: &u8| *letter != national.letter() && *letter != second.letter();
+        let counting = |letter: u8| Some(self.counting_quote(letter)).filter(Candidate::stands);
+        match M {
+            mistake::REASON_OF_THIRD => {
+                let others = (b'A'..=b'Z').filter(others).filter_map(counting);
+                let third = others.reduce(|a, b| if b.beats::<M>(&a) { b } else { a });
+                third.unwrap_or(second)
+            }
+            mistake::REASON_OF_LAST => {
+                let others = (b'A'..=b'Z').filter(|&letter| letter != national.letter());
+                others.filter_map(counting).last().unwrap_or(second)
+            }
+            mistake::SECOND_MAKER if national.letter() == FINRA => {
+                let cells = 0..MAKERS_MAX;
+                let others = cells.map(|cell| self.makers.counting(cell));
+                let others = others.filter(|maker| maker.stands() && *maker != finra);
+                others.fold(second, |a, b| if b.beats::<M>(&a) { b } else { a })
+            }
+            _ => second,
+        }
     }
 
     /// The best of all letters' levels that rank.

@@ -42,14 +42,28 @@ impl<const N: usize> Ranking<N> {
         }
     }
 
-    /// The best of all that count, or none: the best price first, then the order among the
-    /// candidates at that price.
+    /// The best of all that count, or none.
     #[inline]
     pub fn best<const M: u8>(&self) -> Candidate {
+        self.best_by::<M>(&self.ranks)
+    }
+
+    /// The best of all that count but the one in this place, or none.
+    #[inline]
+    pub fn best_beside<const M: u8>(&self, place: usize) -> Candidate {
+        let mut ranks = self.ranks;
+        ranks[place] = 0;
+        self.best_by::<M>(&ranks)
+    }
+
+    /// The best of those with a rank: the best price first, then the order among the candidates at
+    /// that price.
+    #[inline]
+    fn best_by<const M: u8>(&self, ranks: &[u64; N]) -> Candidate {
         let mut best = &Candidate::NONE;
-        let top = self.top_rank();
+        let top = top_rank(ranks);
         if top > 0 {
-            let mut left = self.places_of(top);
+            let mut left = places_of(ranks, top);
             while left != 0 {
                 let candidate = &self.candidates[left.trailing_zeros() as usize];
                 if candidate.beats::<M>(best) {
@@ -60,26 +74,26 @@ impl<const N: usize> Ranking<N> {
         }
         *best
     }
+}
 
-    /// The highest rank, 0 if nothing counts. Two maxima are kept apart, and selected rather than
-    /// branched to, since the branches could not be predicted.
-    #[inline]
-    fn top_rank(&self) -> u64 {
-        let mut tops = [0; 2];
-        for pair in self.ranks.chunks_exact(2) {
-            for (top, &rank) in tops.iter_mut().zip(pair) {
-                *top = select_unpredictable(rank > *top, rank, *top);
-            }
+/// The highest rank, 0 if nothing counts. Two maxima are kept apart, and selected rather than
+/// branched to, since the branches could not be predicted.
+#[inline]
+fn top_rank<const N: usize>(ranks: &[u64; N]) -> u64 {
+    let mut tops = [0; 2];
+    for pair in ranks.chunks_exact(2) {
+        for (top, &rank) in tops.iter_mut().zip(pair) {
+            *top = select_unpredictable(rank > *top, rank, *top);
         }
-        tops[0].max(tops[1])
     }
+    tops[0].max(tops[1])
+}
 
-    /// A bit for each place with this rank.
-    #[inline]
-    fn places_of(&self, rank: u64) -> u32 {
-        let places = self.ranks.iter().enumerate();
-        places.fold(0, |bits, (place, &other)| {
-            bits | u32::from(other == rank) << place
-        })
-    }
+/// A bit for each place with this rank.
+#[inline]
+fn places_of<const N: usize>(ranks: &[u64; N], rank: u64) -> u32 {
+    let places = ranks.iter().enumerate();
+    places.fold(0, |bits, (place, &other)| {
+        bits | u32::from(other == rank) << place
+    })
 }

@@ -3,7 +3,7 @@
 use super::candidate::{Candidate, Side};
 use super::mistake;
 use super::page::Page;
-use super::page_side::PageSide;
+use super::page_side::{Leaders, PageSide};
 use crate::terms::FINRA;
 
 /// What an accepted message replaced in a page.
@@ -45,13 +45,15 @@ fn rank_side<const M: u8>(side: &mut PageSide) {
     side.leaders.finra = side.best_maker::<M>();
     side.place_finra::<M>();
     side.leaders.national = side.best_quote::<M>();
+    side.leaders.second = side.second_quote::<M>();
     if M == mistake::FINRA_ODD_BY_NATIONAL {
         side.rank_levels::<M>(FINRA, side.leaders.national.stands());
     }
     side.leaders.odd = side.best_level::<M>();
 }
 
-/// Keeps each ranking's leader and ranks a side again only when its leader worsens or leaves.
+/// Keeps each ranking's leader, and the second best nationally, and ranks a side again only when its
+/// leader or its second best worsens or leaves.
 pub struct FollowLeader;
 
 impl Update for FollowLeader {
@@ -87,10 +89,26 @@ fn follow<const M: u8>(leader: Candidate, now: Candidate, led: bool) -> Option<C
 
 #[inline]
 fn follow_quote<const M: u8>(side: &mut PageSide, letter: u8) {
-    let leader = side.leaders.national;
+    let Leaders {
+        national: leader,
+        second,
+        ..
+    } = side.leaders;
     let now = side.counting_quote(letter);
-    let followed = follow::<M>(leader, now, leader.letter() == letter);
+    let led = leader.letter() == letter;
+    let followed = follow::<M>(leader, now, led);
     side.leaders.national = followed.unwrap_or_else(|| side.best_quote::<M>());
+    let follows = match followed {
+        None => None,
+        Some(new) if new.letter() != leader.letter() => Some(leader),
+        Some(_) if led => Some(second),
+        Some(_) if M == mistake::SECOND_NOT_PASSED && second.letter() != letter => Some(second),
+        Some(_) => {
+            let was_second = second.letter() == letter && M != mistake::SECOND_STAYS;
+            follow::<M>(second, now, was_second)
+        }
+    };
+    side.leaders.second = follows.unwrap_or_else(|| side.second_quote::<M>());
 }
 
 #[inline]

@@ -16,21 +16,36 @@ struct Candidate {
     time: u64,
 }
 
-/// "Highest bid or lowest offer, then larger size, earlier time, lower maker name": less is better.
-fn order(side: Side, a: &Candidate, b: &Candidate) -> Ordering {
+/// "Highest bid or lowest offer, then larger size, earlier time, lower maker name", in this order,
+/// each with the byte that tells that it decided: less is better.
+fn steps(side: Side, a: &Candidate, b: &Candidate) -> [(Ordering, u8); 4] {
     let price = match side {
         Side::Bid => b.price.cmp(&a.price),
         Side::Offer => a.price.cmp(&b.price),
     };
-    price
-        .then(b.size.cmp(&a.size))
-        .then(a.time.cmp(&b.time))
-        .then(a.name.cmp(&b.name))
+    [
+        (price, b'P'),
+        (b.size.cmp(&a.size), b'S'),
+        (a.time.cmp(&b.time), b'T'),
+        (a.name.cmp(&b.name), b'L'),
+    ]
 }
 
-fn best(side: Side, mut candidates: Vec<Candidate>) -> Option<Candidate> {
-    candidates.sort_by(|a, b| order(side, a, b));
-    candidates.into_iter().next()
+/// "The comparison of two candidates now tells which of the four decided."
+fn compare(side: Side, a: &Candidate, b: &Candidate) -> (Ordering, u8) {
+    let mut steps = steps(side, a, b).into_iter();
+    let decided = steps.find(|(order, _)| order.is_ne());
+    decided.unwrap_or((Ordering::Equal, b'L'))
+}
+
+/// The candidates of a side, the best first.
+fn ranked(side: Side, mut candidates: Vec<Candidate>) -> Vec<Candidate> {
+    candidates.sort_by(|a, b| compare(side, a, b).0);
+    candidates
+}
+
+fn best(side: Side, candidates: Vec<Candidate>) -> Option<Candidate> {
+    ranked(side, candidates).into_iter().next()
 }
 
 /// "FINRA best: over makers' counting sides." With it goes that maker's condition.
@@ -52,10 +67,18 @@ fn finra_best(account: &Account, side: Side) -> Option<(Candidate, u8)> {
 
 /// "National best: the same over letters, D standing with its FINRA best and that maker's
 /// condition; a last tie goes to the lowest letter."
+///
+/// "The third byte of a national entry becomes P, S, T or L by the comparison with the second best,
+/// or a space if there is no second."
 fn national_best(account: &Account, side: Side) -> Option<Candidate> {
     let letters = b'A'..=b'Z';
     let candidates = letters.filter_map(|letter| national_candidate(account, side, letter));
-    best(side, candidates.collect())
+    let ranked = ranked(side, candidates.collect());
+    let mut best = ranked.first()?.clone();
+    if let Some(second) = ranked.get(1) {
+        (_, best.name[2]) = compare(side, &best, second);
+    }
+    Some(best)
 }
 
 fn national_candidate(account: &Account, side: Side, letter: u8) -> Option<Candidate> {

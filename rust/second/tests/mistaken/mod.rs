@@ -32,6 +32,8 @@ const BOOKS: &[(u8, Fresh)] = mistaken! {
     incremental: 83;
     engine: 84 85 86 87;
     incremental: 88;
+    engine: 89 90 91 92 93 94 95 96;
+    incremental: 97 98;
 };
 
 const LISTS: u64 = 400;
