@@ -1,4 +1,5 @@
 pub mod Closed
+pub mod Leading
 pub mod FinraLaws
 pub mod LengthLaws
 pub mod NoneLaws

@@ -19,6 +19,7 @@ use Rattle.review.proofs.Times as Times
 use Rattle.review.proofs.FinraOddLots as FinraOddLots
 use Rattle.review.proofs.Protected as Protected
 use Rattle.review.proofs.Closed as Closed
+use Rattle.review.proofs.Leading as Leading
 
 abbrev pub OnBook : List Row → Type 0
 OnBook [] = Unit {0}
@@ -68,3 +69,7 @@ protected = on-book Protected.table refl Protected.cases
 pub closed : OnBook Closed.table
 unfolding Closed.table blocksAreBytes every beBytes
 closed = on-book Closed.table refl Closed.cases
+
+pub leading : OnBook Leading.table
+unfolding Leading.table blocksAreBytes every beBytes
+leading = on-book Leading.table refl Leading.cases

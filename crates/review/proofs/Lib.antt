@@ -31,6 +31,7 @@ pub mod Bounds
 pub mod Times
 pub mod FinraOddLots
 pub mod Closed
+pub mod Leading
 pub mod Openings
 pub mod Statements
 pub mod BookCases
