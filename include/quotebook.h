@@ -138,8 +138,9 @@ uint8_t qb_take_block(uint8_t *book, size_t len, uint32_t line, const uint8_t *b
                       uint8_t *answer, size_t answer_len, uint64_t report[7]);
 
 /* Copies a symbol's six best entries: national bid, offer, FINRA bid, offer, odd-lot bid, offer. Answers 0, 1, 9, 10.
- * Each entry is a name of 4 bytes (national: letter, condition, two spaces; FINRA: maker; odd lots: letter, three spaces), a price of
- * 8 bytes with six implied decimals, and a size of 4 (round lots; of odd lots, shares), big-endian. None is four spaces and zeros. */
+ * Each entry is a name of 4 bytes (national: letter, condition, reason, a space; FINRA: maker; odd lots: letter, three spaces), a price of
+ * 8 bytes with six implied decimals, and a size of 4 (round lots; of odd lots, shares), big-endian. None is four spaces and zeros.
+ * The reason is what put the national leader ahead of the second best: P price, S size, T time, L letter; a space without a second best. */
 uint8_t qb_read(const uint8_t *book, size_t len, const uint8_t *symbol, size_t symbol_len,
                 uint8_t *publication, size_t publication_len);
 

@@ -4,13 +4,10 @@ use Prim.Native.Nat.{ℕ}
 use mathlib.Core.Path.{_≡_, refl}
 use mathlib.Core.Bool.{cond}
 use mathlib.Core.List.{List, [], _∷_, _++_}
-use mathlib.Core.Option.{Option, none, some}
 use lib.Dec.{eqb}
 use lib.ListN.{take, drop}
 use Rattle.lists.specs.Lists.{member}
 use Rattle.field.specs.Field.{beBytes}
-use Rattle.ranking.specs.declared.Side.the-variants.{Bid, Offer}
-use Rattle.ranking.specs.declared.Candidate.{Candidate}
 use Rattle.ranking.specs.Ranking.{comparedBy, lower, higher, byPrice, compared, better, whyAhead}
 use Rattle.quote.specs.declared.Level.{Level}
 use Rattle.quote.specs.declared.Quote.{Quote}

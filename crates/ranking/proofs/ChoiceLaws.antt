@@ -7,7 +7,7 @@ use mathlib.Core.Option.{none, some}
 use native.Mathlib.Omega.{arith}
 use native.Mathlib.Nat.{le-of-lt}
 use lib.Dec.{eqb, ltb}
-use borrow.Author.Tests.{eq-eqb, ne-eqb, eqb-true, eqb-false, lt-ltb, le-ltb, ltb-true, ltb-false}
+use borrow.Author.Tests.{eq-eqb, ne-eqb, eqb-true, lt-ltb, le-ltb, ltb-true, ltb-false}
 use Rattle.lists.proofs.Searches.{less-one}
 use Rattle.ranking.specs.declared.Side.{Side}
 use Rattle.ranking.specs.declared.Side.the-variants.{Bid, Offer}
@@ -17,9 +17,8 @@ use Rattle.ranking.specs.declared.Reason.{Reason}
 use Rattle.ranking.specs.declared.Reason.the-variants.{Price, Size, Time, Name}
 use Rattle.ranking.specs.declared.Compared.{Compared}
 use Rattle.ranking.specs.declared.Lead.{Lead}
-use Rattle.ranking.specs.Ranking.{decide}
 use Rattle.ranking.specs.Held.{noCandidate, orNone, lateness}
-use Rattle.ranking.specs.code.Choice.{rankOf, live, larger, byRest, byRank, beats, choose, bestFrom, beyondOf, later, leadBy, leadWith, leadFrom, sidesFrom, stepSides}
+use Rattle.ranking.specs.code.Choice.{rankOf, live, larger, byRest, byRank, beats, choose, bestFrom, beyondOf, leadBy, leadWith, leadFrom, sidesFrom, stepSides}
 
 -- ---- the comparison
 

@@ -10,16 +10,16 @@ use mathlib.Core.Logic.{inl, inr}
 use native.Mathlib.Omega.{arith}
 use native.Mathlib.Numerals.{add-one}
 use lib.Dec.{eqb, ltb}
-use borrow.Author.Tests.{ne-eqb, eq-eqb, lt-ltb, le-ltb, ltb-false}
-use Rattle.lists.specs.Lists.{mapOption, bindOption, consOption, collect, range}
+use borrow.Author.Tests.{ne-eqb, eq-eqb, le-ltb, ltb-false}
+use Rattle.lists.specs.Lists.{mapOption, consOption, collect, range}
 use Rattle.lists.proofs.Tests.{clash}
 use Rattle.lists.proofs.Members.{In}
 use Rattle.ranking.specs.declared.Side.{Side}
 use Rattle.ranking.specs.declared.Candidate.{Candidate}
 use Rattle.ranking.specs.declared.Reason.{Reason}
 use Rattle.ranking.specs.declared.Lead.{Lead}
-use Rattle.ranking.specs.Ranking.{compared, better, pick, best, others, second, whyAhead}
-use Rattle.ranking.specs.Held.{noCandidate, orNone, lateness, decidedAt, leadOf, noLead}
+use Rattle.ranking.specs.Ranking.{compared, better, pick, best, others, whyAhead}
+use Rattle.ranking.specs.Held.{orNone, lateness, decidedAt, leadOf, noLead}
 use Rattle.ranking.specs.code.Choice.{later, leadBy, leadWith, leadFrom}
 use Rattle.ranking.proofs.OrderLaws.{IsBest, best-is, either, best-append}
 use Rattle.ranking.proofs.RankingLaws.{better-weak, same-reason, closer-reason}

@@ -10,7 +10,7 @@ use Rattle.lists.proofs.Tests.{clash}
 use Rattle.ranking.specs.declared.Side.{Side}
 use Rattle.ranking.specs.declared.Side.the-variants.{Bid, Offer}
 use Rattle.ranking.specs.declared.Candidate.{Candidate}
-use Rattle.ranking.specs.Ranking.{ahead, comparedBy, lower, higher, byPrice, bySize, byTime, byName, pricing, sizing, timing, naming, compared, better}
+use Rattle.ranking.specs.Ranking.{ahead, comparedBy, lower, higher, byPrice, byName, pricing, sizing, timing, naming, compared, better}
 use Rattle.ranking.specs.Held.{lateness}
 use Rattle.ranking.proofs.OrderLaws.{Weak, lex, lex-left, lex-ahead, aheadBy, ahead-lex, peel, AllWeak, steps-weak, same-step, Rising, closer, low-weak, high-weak, low-tie}
 

@@ -199,24 +199,24 @@ fn lead_by(compared: Compared, lead: Lead, x: Candidate) -> Lead
     lead
 }
 
-/// The leader so far and x, which counts only if its price and size are above zero.
-pub fn lead_with(side: Side, lead: Lead, x: Candidate) -> Lead
-    ensures { λ r. ⌜ r ≡ leadWith side lead x ⌝ }
+/// The leader so far and one candidate more, which counts only if its price and size are above zero.
+pub fn lead_with(side: Side, lead: Lead, next: Candidate) -> Lead
+    ensures { λ r. ⌜ r ≡ leadWith side lead next ⌝ }
 {
-    if x.price == 0 {
+    if next.price == 0 {
         return lead;
     }
-    if x.size == 0 {
+    if next.size == 0 {
         return lead;
     }
     let best = lead.best;
     if best.price == 0 {
         return Lead {
-            best: x,
+            best: next,
             decided: 0,
         };
     }
-    lead_by(compare(side, x, best), lead, x)
+    lead_by(compare(side, next, best), lead, next)
 }
 
 /// x, if it is priced above the national bid or below the national offer, or there is none; else none.

@@ -9,11 +9,32 @@ use second::{Engine, QuoteBook, Report};
 /// each symbol once, last.
 pub fn output(tape: &[u8]) -> String {
     let mut printed = String::new();
-    let mut input = Input(tape);
-    if let Err(stop) = play(&mut input, &mut printed) {
-        print(&mut printed, stop);
+    match play(&mut Input(tape), &mut printed) {
+        Ok(Played { book, symbols }) => {
+            for symbol in symbols {
+                print_symbol(&book, symbol, &mut printed);
+            }
+        }
+        Err(stop) => print(&mut printed, stop),
     }
     printed
+}
+
+/// The symbols' publications at the end, in the order added; none if the program stops early.
+pub fn publications(tape: &[u8]) -> Vec<[u8; PUBLICATION_LEN]> {
+    match play(&mut Input(tape), &mut String::new()) {
+        Ok(Played { book, symbols }) => symbols
+            .into_iter()
+            .map(|symbol| publication(&book, symbol))
+            .collect(),
+        Err(_) => Vec::new(),
+    }
+}
+
+/// The book at the end of a tape, and its symbols in the order added.
+struct Played<'a> {
+    book: Engine,
+    symbols: Vec<&'a [u8]>,
 }
 
 /// Why the program stops before it prints the symbols.
@@ -60,7 +81,7 @@ fn print(printed: &mut String, line: impl Display) {
 /// Symbols on a tape.
 const SYMBOLS_MAX: u8 = 8;
 
-fn play(input: &mut Input, printed: &mut String) -> Result<(), Stop> {
+fn play<'a>(input: &mut Input<'a>, printed: &mut String) -> Result<Played<'a>, Stop> {
     let count = input.byte()?;
     if !(1..=SYMBOLS_MAX).contains(&count) {
         return Err(Stop::Setup(number::MAKE));
@@ -72,10 +93,7 @@ fn play(input: &mut Input, printed: &mut String) -> Result<(), Stop> {
     while !input.0.is_empty() {
         play_record(input, &mut book, printed)?;
     }
-    for symbol in symbols {
-        print_symbol(&book, symbol, printed);
-    }
-    Ok(())
+    Ok(Played { book, symbols })
 }
 
 fn add_symbols<'a>(
@@ -139,12 +157,17 @@ const ENTRIES: [&str; 6] = ["NB", "NO", "FB", "FO", "OB", "OO"];
 
 /// `sym` and the six entries of a symbol.
 fn print_symbol(book: &Engine, symbol: &[u8], printed: &mut String) {
-    let mut publication = [0; PUBLICATION_LEN];
-    book.read(symbol, &mut publication);
     print(printed, format_args!("sym {}", text(symbol)));
+    let publication = publication(book, symbol);
     for (kind, entry) in ENTRIES.iter().zip(publication.chunks_exact(ENTRY_LEN)) {
         print(printed, format_args!("{kind} {}", fields(kind, entry)));
     }
+}
+
+fn publication(book: &Engine, symbol: &[u8]) -> [u8; PUBLICATION_LEN] {
+    let mut publication = [0; PUBLICATION_LEN];
+    book.read(symbol, &mut publication);
+    publication
 }
 
 /// Name, condition, price and size of an entry.

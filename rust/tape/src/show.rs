@@ -1,11 +1,14 @@
 //! The tape program's output as tables that a person reads.
 //!
 //! Every answer, change and best price comes from the output. The tape only tells what each
-//! message was.
+//! message was, and, played on the second engine, what put the national leaders ahead: the program
+//! doesn't print that.
 
 use second::build;
+use second::terms::{ENTRY_LEN, PUBLICATION_LEN};
 
 use crate::output::{Block, Entry, Message, Output, Symbol};
+use crate::program;
 use crate::words;
 use crate::Tape;
 
@@ -16,8 +19,8 @@ pub fn tables(tape: &Tape, output: &Output) -> String {
     match &output.stopped {
         Some(stopped) => shown.push_str(&format!("\nThe program stopped early: {stopped}\n")),
         None => {
-            let best = columns("lllrlllrl", &symbol_rows(&output.symbols));
-            shown.push_str(&format!("\nTHE BEST PRICES NOW\n\n{best}"));
+            let best = columns("lllrllllrll", &symbol_rows(tape, &output.symbols));
+            shown.push_str(&format!("\nTHE BEST PRICES NOW\n\n{best}{BEST_LEGEND}"));
         }
     }
     shown
@@ -26,6 +29,10 @@ pub fn tables(tape: &Tape, output: &Output) -> String {
 const LEGEND: &str = "\
 Sizes are round lots; of odd lots, shares. A quote shows its condition, a maker its name.
 Changed: which best bids (B) and offers (O) are new: national (N), FINRA's (F), of odd lots (O).
+";
+
+const BEST_LEGEND: &str = "\
+By price, size, time or letter: what put a national leader ahead of the second best, if there is one.
 ";
 
 /// The cells of a row. Empty ones at the end may be left out.
@@ -206,19 +213,32 @@ impl OddPart {
     }
 }
 
-fn symbol_rows(symbols: &[Symbol]) -> Vec<Row> {
-    let mut rows = vec![row(["symbol", "best", "bid", "", "", "", "offer"])];
+fn symbol_rows(tape: &Tape, symbols: &[Symbol]) -> Vec<Row> {
+    let mut rows = vec![row(["symbol", "best", "bid", "", "", "", "", "offer"])];
+    let reasons = program::publications(&tape.bytes());
+    let mut reasons = reasons.iter().map(national_reasons);
     for Symbol { name, entries } in symbols {
-        let kinds = [(name.as_str(), "national"), ("", "FINRA"), ("", "odd lots")];
-        for ((name, kind), pair) in kinds.into_iter().zip(entries.chunks_exact(2)) {
+        let [bid, offer] = reasons.next().unwrap_or_default();
+        let kinds = [
+            (name.as_str(), "national", [bid, offer]),
+            ("", "FINRA", [""; 2]),
+            ("", "odd lots", [""; 2]),
+        ];
+        for ((name, kind, by), pair) in kinds.into_iter().zip(entries.chunks_exact(2)) {
             let mut cells = row([name, kind]);
             cells.extend(entry_cells(&pair[0]));
-            cells.push(String::new());
+            cells.extend(row([by[0], ""]));
             cells.extend(entry_cells(&pair[1]));
+            cells.push(by[1].to_string());
             rows.push(cells);
         }
     }
     rows
+}
+
+/// What put the national bid and offer of a publication ahead, by the third bytes of their names.
+fn national_reasons(publication: &[u8; PUBLICATION_LEN]) -> [&'static str; 2] {
+    [2, ENTRY_LEN + 2].map(|at| words::reason(publication[at]))
 }
 
 /// Name with condition, price, size.

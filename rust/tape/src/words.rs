@@ -47,6 +47,17 @@ pub fn changed(flags: u8) -> String {
     changed.join(" ")
 }
 
+/// What put a national leader ahead of the second best, by the third byte of its entry.
+pub fn reason(byte: u8) -> &'static str {
+    match byte {
+        b'P' => "by price",
+        b'S' => "by size",
+        b'T' => "by time",
+        b'L' => "by letter",
+        _ => "",
+    }
+}
+
 /// A price of six implied decimals, of which zeros behind the second are left out.
 pub fn decimal(price: u64) -> String {
     let (whole, millionths) = (price / 1_000_000, price % 1_000_000);

@@ -2,7 +2,7 @@
 -- proofs/Bridge.antt: this is `best` of the list of those that count, proofs/LeadLaws.antt: and `whyAhead` of it.
 -- Assumes nothing.
 use Prim.Native.Nat.{ℕ, zero, suc, _+_, _-_}
-use mathlib.Core.Bool.{Bool, true, false, cond}
+use mathlib.Core.Bool.{Bool, false, cond}
 use mathlib.Core.Option.{Option, none, some}
 use lib.Dec.{eqb, ltb}
 use Rattle.ranking.specs.declared.Side.{Side}

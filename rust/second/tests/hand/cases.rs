@@ -26,7 +26,7 @@ fn p1_larger_size_wins() {
     each_desk(|desk| {
         desk.code(N, quote(&round(N, (TEN, 3), NOTHING)));
         desk.code(P, quote(&round(P, (TEN, 5), NOTHING)));
-        assert_eq!(desk.national_bid(), entry("PR", TEN, 5));
+        assert_eq!(desk.national_bid(), entry("PRS", TEN, 5));
     });
 }
 
@@ -38,7 +38,7 @@ fn p2_earlier_time_wins() {
         p.time = 6;
         desk.code(N, quote(&n));
         desk.code(P, quote(&p));
-        assert_eq!(desk.national_bid(), entry("PR", TEN, 3));
+        assert_eq!(desk.national_bid(), entry("PRT", TEN, 3));
     });
 }
 
@@ -49,7 +49,7 @@ fn a_larger_size_wins_before_an_earlier_time() {
         n.time = 6;
         desk.code(N, quote(&n));
         desk.code(P, quote(&round(P, (TEN, 5), NOTHING)));
-        assert_eq!(desk.national_bid(), entry("PR", TEN, 5));
+        assert_eq!(desk.national_bid(), entry("PRS", TEN, 5));
     });
 }
 
@@ -58,7 +58,7 @@ fn p3_lowest_letter_wins() {
     each_desk(|desk| {
         desk.code(P, quote(&round(P, (TEN, 3), NOTHING)));
         desk.code(N, quote(&round(N, (TEN, 3), NOTHING)));
-        assert_eq!(desk.national_bid(), entry("NR", TEN, 3));
+        assert_eq!(desk.national_bid(), entry("NRL", TEN, 3));
     });
 }
 

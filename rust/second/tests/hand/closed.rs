@@ -218,7 +218,7 @@ fn levels_of_d_beside_other_letters() {
         assert_eq!(desk.message(N, quote(&round(N, BID, OFFER))), (0, 1 | 2));
         assert_eq!(seen_of(desk, "D", "ZT"), [false, false]);
         let behind = maker("AA", (TEN - CENT, 1), NOTHING);
-        assert_eq!(desk.message(D, behind), (0, 4 | 16));
+        assert_eq!(desk.message(D, behind), (0, 1 | 4 | 16));
         assert_eq!(seen_of(desk, "D", "ZT"), [true, false]);
         assert_eq!(desk.message(N, shows_nothing(b'C', N)), (0, 1 | 2));
         assert_eq!(seen_of(desk, "D", "ZT"), [true, false]);
@@ -243,13 +243,12 @@ fn finra_close_and_open_in_every_symbol() {
         assert_eq!(desk.message(D, in_yy(of_d())), (0, 0));
         let bid = maker("AA", (TEN - CENT, 1), NOTHING);
         let offer = maker("AA", NOTHING, (TEN + 4 * CENT, 1));
-        assert_eq!(desk.message(D, in_yy(offer)), (0, 8 | 32));
-        assert_eq!(desk.message(D, control(b'C', D)), (0, 8 | 32));
-        assert_eq!(desk.message(D, control(b'O', D)), (0, 8 | 32));
-        assert_eq!(desk.message(D, bid), (0, 4 | 16));
+        assert_eq!(desk.message(D, in_yy(offer)), (0, 2 | 8 | 32));
+        assert_eq!(desk.message(D, control(b'C', D)), (0, 2 | 8 | 32));
+        assert_eq!(desk.message(D, control(b'O', D)), (0, 2 | 8 | 32));
+        assert_eq!(desk.message(D, bid), (0, 1 | 4 | 16));
         for (message, seen) in [(b'C', false), (b'O', true)] {
-            let flags = 4 | 8 | 16 | 32;
-            assert_eq!(desk.message(D, control(message, D)), (0, flags));
+            assert_eq!(desk.message(D, control(message, D)), (0, 63));
             assert_eq!(seen_of(desk, "D", "ZT"), [seen, false]);
             assert_eq!(seen_of(desk, "D", "YY"), [false, seen]);
             assert_eq!(desk.message(D, control(message, D)), (0, 0));

@@ -41,9 +41,9 @@ fn offers_rank_by_the_lowest_price() {
         for (line, price) in [(A, u64::MAX), (N, TEN), (P, TEN + 1)] {
             desk.code(line, quote(&round(line, NOTHING, (price, 1))));
         }
-        assert_eq!(desk.national_offer(), entry("NR", TEN, 1));
+        assert_eq!(desk.national_offer(), entry("NRP", TEN, 1));
         desk.code(N, quote(&round(N, NOTHING, NOTHING)));
-        assert_eq!(desk.national_offer(), entry("PR", TEN + 1, 1));
+        assert_eq!(desk.national_offer(), entry("PRP", TEN + 1, 1));
         desk.code(P, quote(&round(P, NOTHING, (1, 0))));
         assert_eq!(desk.national_offer(), entry("AR", u64::MAX, 1));
     });
@@ -55,15 +55,15 @@ fn d_stands_with_its_finra_best() {
         assert_eq!(desk.message(D, maker_at("ZZ", 7, b'R', (TEN, 3))), (0, 5));
         assert_eq!(desk.national_bid(), entry("DR", TEN, 3));
         desk.code(N, quote(&round(N, (TEN, 3), NOTHING)));
-        assert_eq!(desk.national_bid(), entry("DR", TEN, 3));
+        assert_eq!(desk.national_bid(), entry("DRL", TEN, 3));
         desk.code(A, quote(&round(A, (TEN, 3), NOTHING)));
-        assert_eq!(desk.national_bid(), entry("AR", TEN, 3));
+        assert_eq!(desk.national_bid(), entry("ARL", TEN, 3));
         // A better maker changes the FINRA entry alone while D does not lead.
         assert_eq!(desk.message(D, maker_at("YY", 7, b'R', (TEN, 3))), (0, 4));
         // Resent, it keeps its time; an earlier one of another maker brings D in front.
         assert_eq!(desk.message(D, maker_at("YY", 6, b'R', (TEN, 3))), (0, 0));
         assert_eq!(desk.message(D, maker_at("YZ", 6, b'R', (TEN, 3))), (0, 5));
-        assert_eq!(desk.national_bid(), entry("DR", TEN, 3));
+        assert_eq!(desk.national_bid(), entry("DRT", TEN, 3));
     });
 }
 

@@ -43,12 +43,12 @@ fn a_resent_quote_keeps_its_place() {
     each_desk(|desk| {
         let (bid, offer) = ((TEN, 3), (TEN + CENT, 2));
         assert_eq!(desk.message(N, quote_at(N, 5, bid, offer)), (0, 3));
-        assert_eq!(desk.message(P, quote_at(P, 6, bid, offer)), (0, 0));
+        assert_eq!(desk.message(P, quote_at(P, 6, bid, offer)), (0, 3));
         // The leader stays, and nobody is told of a change.
         assert_eq!(desk.message(N, quote_at(N, 7, bid, offer)), (0, 0));
         assert_eq!(desk.message(P, quote_at(P, 4, bid, offer)), (0, 0));
-        assert_eq!(desk.national_bid(), entry("NR", TEN, 3));
-        assert_eq!(desk.national_offer(), entry("NR", TEN + CENT, 2));
+        assert_eq!(desk.national_bid(), entry("NRT", TEN, 3));
+        assert_eq!(desk.national_offer(), entry("NRT", TEN + CENT, 2));
     });
 }
 
@@ -117,12 +117,12 @@ fn each_side_has_its_own_time() {
         // The offer moves to a larger size, the bid stays; then the bid moves, the offer stays.
         desk.code(N, quote_at(N, 30, bid, (TEN + CENT, 3)));
         desk.code(P, quote_at(P, 20, bid, (TEN + CENT, 3)));
-        assert_eq!(desk.national_bid().0, "NR");
-        assert_eq!(desk.national_offer().0, "PR");
+        assert_eq!(desk.national_bid().0, "NRT");
+        assert_eq!(desk.national_offer().0, "PRT");
         desk.code(P, quote_at(P, 31, (TEN, 4), (TEN + CENT, 3)));
         desk.code(N, quote_at(N, 29, (TEN, 4), (TEN + CENT, 3)));
-        assert_eq!(desk.national_bid().0, "NR");
-        assert_eq!(desk.national_offer().0, "PR");
+        assert_eq!(desk.national_bid().0, "NRT");
+        assert_eq!(desk.national_offer().0, "PRT");
     });
 }
 
@@ -140,7 +140,7 @@ fn a_part_that_is_not_taken_plays_no_part() {
         assert_eq!(desk.code(N, partly), 61);
         desk.code(N, quote_at(N, 9, (TEN, 6), NOTHING));
         desk.code(P, quote_at(P, 30, (TEN, 6), NOTHING));
-        assert_eq!(desk.national_bid().0, "PR");
+        assert_eq!(desk.national_bid().0, "PRT");
     });
 }
 
@@ -229,8 +229,8 @@ fn d_has_the_time_of_its_bests_side() {
         desk.code(D, maker_at("AA", 10, (TEN, 3), (TEN + CENT, 2)));
         desk.code(D, maker_at("AA", 30, (TEN, 3), (TEN + CENT, 3)));
         desk.code(P, quote_at(P, 20, (TEN, 3), (TEN + CENT, 3)));
-        assert_eq!(desk.national_bid(), entry("DR", TEN, 3));
-        assert_eq!(desk.national_offer(), entry("PR", TEN + CENT, 3));
+        assert_eq!(desk.national_bid(), entry("DRT", TEN, 3));
+        assert_eq!(desk.national_offer(), entry("PRT", TEN + CENT, 3));
     });
 }
 
