@@ -55,6 +55,6 @@ pub use field_error::FieldError;
 pub use number::{Number, Refusal};
 pub use price::Price;
 pub use protection::{Protected, Protection, Side};
-pub use publication::{Entry, Name, Publication};
+pub use publication::{Entry, Name, Publication, Reason};
 pub use report::{Answer, Changes, Report, Taken};
 pub use writer::{write_block, Written};

@@ -207,7 +207,10 @@ fn a_quote_behind_the_best() {
     let standing = after(book(), N, quote(b'N', &Odd::IDLE));
     let round = Round::regular(b'P', 8, "ZT", (TEN - CENT, 1), (TEN + 3 * CENT, 1));
     let behind = build::round_lot(&round, &Odd::IDLE);
-    check(standing, P, behind, (0, 3), QUOTED);
+    let mut entries = QUOTED;
+    entries[0] = "N R 10.00 x 3, ahead by price";
+    entries[1] = "N R 10.02 x 2, ahead by price";
+    check(standing, P, behind, (0, 3), entries);
 }
 
 #[test]

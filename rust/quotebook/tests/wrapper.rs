@@ -4,7 +4,9 @@
 use std::collections::HashSet;
 
 use quotebook::lent::{self, PUBLICATION_LEN};
-use quotebook::{Answer, Book, Code, Number, Price, Protection, Publication, Refusal, Side};
+use quotebook::{
+    Answer, Book, Code, Number, Price, Protection, Publication, Reason, Refusal, Side,
+};
 use second::build::{self, Odd, Round};
 use second::{generate, terms, Call};
 
@@ -183,18 +185,49 @@ fn a_publication_is_decoded() -> Result<(), Refusal> {
     let publication = book.read("ZT")?;
     let bid = publication.national_bid.expect("a national bid");
     assert_eq!(
-        (bid.condition, bid.price, bid.size),
-        (Some(b'R'), Price(10_000_000), 3)
+        (bid.condition, bid.reason, bid.price, bid.size),
+        (Some(b'R'), Some(Reason::Price), Price(10_000_000), 3)
     );
     assert!(bid.name == "N" && publication.finra_bid.is_some_and(|bid| bid.name == "AB"));
-    let shown = "national bid   N R 10.00 x 3\n\
-                 national offer D R 10.015 x 9\n\
+    let shown = "national bid   N R 10.00 x 3, ahead by price\n\
+                 national offer D R 10.015 x 9, ahead by price\n\
                  FINRA bid      AB 9.99 x 1\n\
                  FINRA offer    AB 10.015 x 9\n\
                  odd bid        N 10.01 x 40\n\
                  odd offer      none\n";
     assert_eq!(publication.to_string(), shown);
     Ok(())
+}
+
+#[test]
+fn a_reason_is_decoded() {
+    for (byte, reason, words) in [
+        (b' ', None, "N R 10.00 x 3"),
+        (b'P', Some(Reason::Price), "N R 10.00 x 3, ahead by price"),
+        (b'S', Some(Reason::Size), "N R 10.00 x 3, ahead by size"),
+        (b'T', Some(Reason::Time), "N R 10.00 x 3, ahead by time"),
+        (b'L', Some(Reason::Letter), "N R 10.00 x 3, ahead by letter"),
+    ] {
+        let entry = [
+            b'N', b'R', byte, b' ', 0, 0, 0, 0, 0, 0x98, 0x96, 0x80, 0, 0, 0, 3,
+        ];
+        let bytes: Vec<u8> = [entry; 6].concat();
+        let decoded = Publication::from_bytes(&bytes.try_into().expect("96 bytes"));
+        for entry in [decoded.national_bid, decoded.national_offer] {
+            let entry = entry.expect("an entry");
+            assert_eq!(entry.reason, reason);
+            assert_eq!(entry.to_string(), words);
+        }
+        // Other entries have none, whatever their names.
+        for entry in [
+            decoded.finra_bid,
+            decoded.finra_offer,
+            decoded.odd_bid,
+            decoded.odd_offer,
+        ] {
+            assert_eq!(entry.expect("an entry").reason, None);
+        }
+    }
 }
 
 #[test]

@@ -5,7 +5,7 @@ mod common;
 
 use common::*;
 use second::build::{self, Odd};
-use tape::Tape;
+use tape::{program, Tape};
 
 /// A tape of the desk with these records prints these `block` lines.
 fn blocks(what: &str, records: &[(u8, Vec<u8>)], expected: &[&str]) {
@@ -281,6 +281,24 @@ fn finra_odd_lots() {
     ] {
         assert!(printed.contains(line), "{line} in\n{printed}");
     }
+}
+
+/// A quote behind the leader sets its flags, by what put the leader ahead, which no line tells (T-08).
+#[test]
+fn a_quote_behind_the_leader() {
+    let behind = build::round_lot(&round(b'P', (1, 1), (u64::MAX, 1)), &Odd::IDLE);
+    let mut tape = desk();
+    tape.send(N, 1, &[quote(b'N')]);
+    tape.send(P, 1, &[behind.clone(), behind]);
+    let printed = agreed("a quote behind the leader", &tape.bytes());
+    let alone = program::output(&{
+        let mut tape = desk();
+        tape.send(N, 1, &[quote(b'N')]);
+        tape.bytes()
+    });
+    assert!(printed.contains("block 6 0 0 3\nmsg 0 0 3\nmsg 1 0 0\n"));
+    let symbols = |printed: &str| printed[printed.find("sym").expect("a symbol")..].to_string();
+    assert_eq!(symbols(&printed), symbols(&alone));
 }
 
 /// 45 messages in a block, of 20 bytes each; fifteen quotes, which fit, and sixteen.
