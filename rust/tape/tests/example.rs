@@ -60,8 +60,9 @@ fn sample_of_the_demo() {
         "REFUSED: a duplicate (35)",
         "REJECTED: the symbol is not listed (45)",
         "PARTLY ACCEPTED: a fifth odd-lot price (64)",
-        "        odd lots  D         11.0415  x 40     D          11.049  x 25",
-        "BRK.A   national  D    R  741420.00  x 1      P    E  741950.00  x 1",
+        "        odd lots  D         11.0415  x 40               D          11.049  x 25",
+        "F       national  D    R      11.04  x 600  by size     Q    R      11.05  x 120  by size",
+        "BRK.A   national  D    R  741420.00  x 1    by price    P    E  741950.00  x 1    by price",
     ] {
         assert!(shown.contains(word), "not shown: {word}\n{shown}");
     }

@@ -149,7 +149,7 @@ impl PageSide {
             }
             mistake::REASON_OF_LAST => {
                 let others = (b'A'..=b'Z').filter(|&letter| letter != national.letter());
-                others.filter_map(counting).last().unwrap_or(second)
+                others.filter_map(counting).next_back().unwrap_or(second)
             }
             mistake::SECOND_MAKER if national.letter() == FINRA => {
                 let cells = 0..MAKERS_MAX;
