@@ -1,0 +1,160 @@
+-- Parts of two letters on a book of any bytes: in either order they leave the same bytes, and neither moves the code of the other's messages.
+-- Assumes nothing.
+use Prim.Native.Nat.{ℕ, zero, suc, _+_, _*_, _≤_, _<_}
+use mathlib.Core.Path.{_≡_, refl, sym, ap, _∙_}
+use mathlib.Core.Bool.{Bool, true, false, cond}
+use mathlib.Core.List.{List, _++_}
+use native.Mathlib.Omega.{arith}
+use lib.Dec.{eqb}
+use lib.ListN.{length}
+use Rattle.field.specs.Field.{part}
+use Rattle.field.proofs.Laws.{part-join, part-all}
+use Rattle.lists.specs.Lists.{upper}
+use Rattle.lists.specs.declared.Found.{Found}
+use Rattle.lists.specs.declared.Found.the-variants.{At, Nothing}
+use Rattle.lists.proofs.Tests.{Cut, equal, apart, cut}
+use Rattle.message.specs.Message.{symbolOf, Part, roundPart, oddPart, makerPart, finraPart}
+use Rattle.page.specs.Layout.{pageLength, pageSymbol}
+use Rattle.update.specs.Parts.{roundOn, oddOnPage, makerOn, finraOn}
+use Rattle.update.proofs.EntryLaws.{Kept}
+use Rattle.update.proofs.SlotLaws.{round-kept, odd-kept}
+use Rattle.update.proofs.MakerLaws.{maker-kept, finra-kept}
+use Rattle.update.proofs.WorkLaws.{pageCode}
+use Rattle.opening.specs.Layout.{openingLength, bookLength, pageStart}
+use Rattle.opening.specs.Opening.{pageAt, pagePlace, onPage}
+use Rattle.opening.proofs.OpeningLaws.{Sound, length-page}
+use Rattle.opening.proofs.PageLaws.{OpeningKept, kept-sound, opening-then, place-hit, at-same, nowhere, on-same, on-other, each-page}
+use Rattle.work.specs.Work.{partOn, codeOn}
+use Rattle.work.proofs.PartLaws.{part-kept}
+use Rattle.work.proofs.PlaceLaws.{place-same, code-at, code-nowhere}
+use Rattle.regions.proofs.PartLaws.{changes, Sent, sent-shaped, round-changes, odd-changes, maker-changes, finra-changes}
+use Rattle.regions.proofs.CodeLaws.{symbol-stays, page-code-stays, page-swap}
+
+-- ---- books by their openings and pages
+
+module _ (n : ℕ) (b c : List ℕ) (opening : part b 0 openingLength ≡ part c 0 openingLength) (pages : (k : ℕ) → k < n → pageAt b k ≡ pageAt c k) where
+  up-to : (m : ℕ) → m ≤ n → part b 0 (bookLength m) ≡ part c 0 (bookLength m)
+  unfolding pageAt
+  up-to zero h = let z : bookLength 0 ≡ openingLength = omega arith in rw z opening
+  up-to (suc m) h =
+      let z : bookLength (suc m) ≡ bookLength m + pageLength = omega arith in
+      let a : 0 + bookLength m ≡ pageStart m = omega arith in
+      let r : part b 0 (bookLength m + pageLength) ≡ part c 0 (bookLength m + pageLength) =
+      part-join b 0 (bookLength m) pageLength
+      ∙ (λ k. up-to m (omega arith) k ++ (ap (λ (x : ℕ). part b x pageLength) a ∙ pages m (omega arith) ∙ ap (λ (x : ℕ). part c x pageLength) (sym a)) k)
+      ∙ sym (part-join c 0 (bookLength m) pageLength) in
+      rw z r
+
+  pub same-book : length b ≡ bookLength n → length c ≡ bookLength n → b ≡ c
+  same-book v w = sym (part-all b) ∙ ap (part b 0) v ∙ up-to n (omega arith) ∙ ap (part c 0) (sym w) ∙ part-all c
+
+-- ---- a part on a book, page by page
+
+abbrev pub hitBy : Found → ℕ → Bool
+hitBy (At j) k = eqb j k
+hitBy Nothing k = false
+
+-- whether it changes page k
+abbrev pub hits : Part → List ℕ → ℕ → Bool
+hits (roundPart s l q) b k = hitBy (pagePlace b s) k
+hits (oddPart s l o) b k = hitBy (pagePlace b s) k
+hits (makerPart s m q) b k = hitBy (pagePlace b s) k
+hits (finraPart c) b k = true
+
+abbrev pub onHit : Part → Bool → List ℕ → List ℕ
+onHit r t p = cond t (changes r p) p
+
+module _ (n : ℕ) (b : List ℕ) (sd : Sound n b) where
+  on-after : (s : ℕ) (h : List ℕ → List ℕ) → ((p : List ℕ) → length p ≡ pageLength → Kept p (h p)) → (k : ℕ)
+      → pageAt (onPage s h b) k ≡ cond (hitBy (pagePlace b s) k) (h (pageAt b k)) (pageAt b k)
+  on-after s h keeps k = go (pagePlace b s) refl
+    where
+      one : (j : ℕ) → pagePlace b s ≡ At j → Cut j k → pageAt (onPage s h b) k ≡ cond (eqb j k) (h (pageAt b k)) (pageAt b k)
+      one j e (equal t z) = rw t (on-same n b sd s h keeps k (e ∙ ap At z))
+      one j e (apart t z) = rw t (on-other n b sd s h keeps k (λ y. z (at-same j k (sym e ∙ y))))
+
+      go : (r : Found) → pagePlace b s ≡ r → pageAt (onPage s h b) k ≡ cond (hitBy r k) (h (pageAt b k)) (pageAt b k)
+      go (At j) e = one j e (cut j k)
+      go Nothing e = on-other n b sd s h keeps k (λ y. nowhere k (sym e ∙ y))
+
+module _ (n : ℕ) (b : List ℕ) (sd : Sound n b) (l : ℕ) (u : upper l ≡ true) (r : Part) (x : Sent l r) where
+  pub sent-kept : OpeningKept b (partOn r b)
+  sent-kept = part-kept n r b sd (sent-shaped l u r x)
+
+  pub sent-sound : Sound n (partOn r b)
+  sent-sound = kept-sound b (partOn r b) sent-kept n sd
+
+pub page-after : (n : ℕ) (b : List ℕ) → Sound n b → (l : ℕ) → upper l ≡ true → (r : Part) → Sent l r → (k : ℕ) → k < n
+    → pageAt (partOn r b) k ≡ onHit r (hits r b k) (pageAt b k)
+unfolding partOn
+page-after n b sd l u (roundPart s j q) x k h =
+    on-after n b sd s (roundOn j q) (λ p w. round-kept p w j (rw x u) q) k
+    ∙ ap (λ (z : List ℕ). cond (hitBy (pagePlace b s) k) z (pageAt b k)) (round-changes s j q (pageAt b k))
+page-after n b sd l u (oddPart s j o) x k h =
+    on-after n b sd s (oddOnPage j o) (λ p w. odd-kept p w j (rw x u) o) k
+    ∙ ap (λ (z : List ℕ). cond (hitBy (pagePlace b s) k) z (pageAt b k)) (odd-changes s j o (pageAt b k))
+page-after n b sd l u (makerPart s m q) x k h =
+    on-after n b sd s (makerOn m q) (λ p w. maker-kept m q p w) k
+    ∙ ap (λ (z : List ℕ). cond (hitBy (pagePlace b s) k) z (pageAt b k)) (maker-changes s m q (pageAt b k))
+page-after n b sd l u (finraPart c) x k h = each-page n (finraOn c) (λ p w. finra-kept c p w) b sd k h ∙ finra-changes c (pageAt b k)
+
+module _ (n : ℕ) (b : List ℕ) (sd : Sound n b) (l : ℕ) (u : upper l ≡ true) (r : Part) (x : Sent l r) where
+  -- every symbol stays where it is
+  pub place-stays : (s : ℕ) → pagePlace (partOn r b) s ≡ pagePlace b s
+  place-stays s = place-same n b sd (partOn r b) s (sent-kept n b sd l u r x) (λ j h. one j (omega (arith, sd .count)))
+    where
+      one : (j : ℕ) → j < n → pageSymbol (pageAt (partOn r b) j) ≡ pageSymbol (pageAt b j)
+      one j h = ap (λ (p : List ℕ). pageSymbol p) (page-after n b sd l u r x j h) ∙ go (hits r b j)
+        where
+          go : (t : Bool) → pageSymbol (onHit r t (pageAt b j)) ≡ pageSymbol (pageAt b j)
+          go true = symbol-stays l u r x (pageAt b j) (length-page n b sd j h)
+          go false = refl
+
+  pub hits-stay : (t : Part) (k : ℕ) → hits t (partOn r b) k ≡ hits t b k
+  hits-stay (roundPart s j q) k = ap (λ (z : Found). hitBy z k) (place-stays s)
+  hits-stay (oddPart s j o) k = ap (λ (z : Found). hitBy z k) (place-stays s)
+  hits-stay (makerPart s m q) k = ap (λ (z : Found). hitBy z k) (place-stays s)
+  hits-stay (finraPart c) k = refl
+
+  -- the code of a message of another letter stays
+  pub code-stays : (j : ℕ) → upper j ≡ true → (l ≡ j → ⊥) → (m : List ℕ) → codeOn j m (partOn r b) ≡ codeOn j m b
+  code-stays j v d m = go (pagePlace b (symbolOf m)) refl
+    where
+      one : (k : ℕ) → k < n → (t : Bool) → pageCode j m (onHit r t (pageAt b k)) ≡ pageCode j m (pageAt b k)
+      one k h true = page-code-stays l u r x (pageAt b k) (length-page n b sd k h) j v d m
+      one k h false = refl
+
+      go : (o : Found) → pagePlace b (symbolOf m) ≡ o → codeOn j m (partOn r b) ≡ codeOn j m b
+      go (At k) e =
+          let h : k < n = omega (arith, place-hit b (symbolOf m) k e .0, sd .count) in
+          code-at j m (partOn r b) k (place-stays (symbolOf m) ∙ e)
+          ∙ ap (pageCode j m) (page-after n b sd l u r x k h) ∙ one k h (hits r b k)
+          ∙ sym (code-at j m b k e)
+      go Nothing e = code-nowhere j m (partOn r b) (place-stays (symbolOf m) ∙ e) ∙ sym (code-nowhere j m b e)
+
+-- one after the other, page by page
+twice : (n : ℕ) (b : List ℕ) → Sound n b → (l j : ℕ) → upper l ≡ true → upper j ≡ true → (r t : Part) → Sent l r → Sent j t → (k : ℕ) → k < n
+    → pageAt (partOn t (partOn r b)) k ≡ onHit t (hits t b k) (onHit r (hits r b k) (pageAt b k))
+twice n b sd l j u v r t x y k h =
+    page-after n (partOn r b) (sent-sound n b sd l u r x) j v t y k h
+    ∙ (λ i. onHit t (hits-stay n b sd l u r x t k i) (page-after n b sd l u r x k h i))
+
+module _ (n : ℕ) (b : List ℕ) (sd : Sound n b) (l j : ℕ) (u : upper l ≡ true) (v : upper j ≡ true) (d : l ≡ j → ⊥) (r t : Part) (x : Sent l r) (y : Sent j t) where
+  pages-swap : (k : ℕ) → k < n → pageAt (partOn t (partOn r b)) k ≡ pageAt (partOn r (partOn t b)) k
+  pages-swap k h = twice n b sd l j u v r t x y k h ∙ go (hits r b k) (hits t b k) ∙ sym (twice n b sd j l v u t r y x k h)
+    where
+      go : (p q : Bool) → onHit t q (onHit r p (pageAt b k)) ≡ onHit r p (onHit t q (pageAt b k))
+      go true true = sym (page-swap l u r x (pageAt b k) (length-page n b sd k h) j v d t y)
+      go true false = refl
+      go false true = refl
+      go false false = refl
+
+  -- two letters' parts, in either order
+  pub part-swap : partOn t (partOn r b) ≡ partOn r (partOn t b)
+  part-swap =
+      let s : Sound n (partOn r b) = sent-sound n b sd l u r x in
+      let s′ : Sound n (partOn t b) = sent-sound n b sd j v t y in
+      let q : OpeningKept b (partOn t (partOn r b)) = opening-then b (partOn r b) (partOn t (partOn r b)) (sent-kept n b sd l u r x) (sent-kept n (partOn r b) s j v t y) in
+      let q′ : OpeningKept b (partOn r (partOn t b)) = opening-then b (partOn t b) (partOn r (partOn t b)) (sent-kept n b sd j v t y) (sent-kept n (partOn t b) s′ l u r x) in
+      same-book n (partOn t (partOn r b)) (partOn r (partOn t b)) (q .front 0 openingLength (omega arith) ∙ sym (q′ .front 0 openingLength (omega arith))) pages-swap
+      (q .size ∙ sd .size) (q′ .size ∙ sd .size)

@@ -1,0 +1,192 @@
+-- Each part of a message writes what is its letter's own, by what stands there, and then the entries are worked out.
+-- Assumes nothing.
+use Prim.Native.Nat.{ℕ, zero, suc, _+_, _*_, _≤_, _<_}
+use mathlib.Core.Path.{_≡_, refl, sym, ap, subst}
+use mathlib.Core.Bool.{Bool, true, false, not, cond}
+use mathlib.Core.List.{List}
+use mathlib.Core.Option.{Option}
+use native.Mathlib.Omega.{arith}
+use lib.ListN.{length}
+use Rattle.field.specs.Field.{part, splice}
+use Rattle.field.specs.Ascii.{D}
+use Rattle.field.proofs.Laws.{length-part}
+use Rattle.lists.specs.Lists.{upper, isSome}
+use Rattle.lists.specs.declared.Found.{Found}
+use Rattle.lists.specs.declared.Found.the-variants.{At, Nothing}
+use Rattle.lists.proofs.Tests.{upper-low}
+use Rattle.quote.specs.declared.Quote.{Quote}
+use Rattle.quote.specs.Quote.{emptyQuote, noQuote, quoteIn, quoteBytes, quoteOver, quoteLength}
+use Rattle.quote.proofs.QuoteLaws.{length-quote}
+use Rattle.levels.specs.Levels.{Odd, idleOdd, levelsIn, levelsBytes, levelsLength, noLevels}
+use Rattle.levels.proofs.SideLaws.{length-levels}
+use Rattle.message.specs.Message.{Part, roundPart, oddPart, makerPart, finraPart}
+use Rattle.message.proofs.SpokenLaws.{Shaped}
+use Rattle.entries.specs.Entries.{Maker}
+use Rattle.page.specs.Layout.{slotLength, cellLength, makerCount, cellsAt, pageLength, slotAt, cellAt}
+use Rattle.page.specs.Page.{quotesIn, levelsFor, makerIn, makersIn, refreshed}
+use Rattle.makers.specs.Makers.{named, findMaker, cellOf, makerPlace, freePlace, cellFor, putAt, putMakerBy, putMaker, makerOver, markCell, markCells}
+use Rattle.update.specs.Parts.{putRound, roundOn, putLevels, putOdd, oddOnPage, makerOn, finraOn}
+use Rattle.update.proofs.EntryLaws.{makers-same}
+use Rattle.update.proofs.SearchLaws.{first-same}
+use Rattle.update.proofs.SlotLaws.{afterOdd}
+use Rattle.update.proofs.CellLaws.{length-for, mark-length}
+use Rattle.update.proofs.MakerLaws.{maker-hit, free-hit}
+use Rattle.regions.proofs.RegionLaws.{in-within, Covers, stretch, Reads, Local, local-none, local-then, local-wider, local-choose, local-splice}
+use Rattle.regions.proofs.OwnLaws.{slotOf, cells, own, slot-own, cells-own}
+
+-- ---- a part: what it writes, then the entries
+
+abbrev pub writes : Part → List ℕ → List ℕ
+writes (roundPart s l q) p = putRound l (quoteOver (quotesIn p l) q) p
+writes (oddPart s l o) p = putOdd l o p
+writes (makerPart s m q) p = putMaker m (makerOver (findMaker m (makersIn p)) q) p
+writes (finraPart c) p = markCells c 0 makerCount p
+
+abbrev pub changes : Part → List ℕ → List ℕ
+changes r p = refreshed (writes r p)
+
+pub round-changes : (s l : ℕ) (q : Quote) (p : List ℕ) → roundOn l q p ≡ changes (roundPart s l q) p
+unfolding roundOn
+round-changes s l q p = refl
+
+pub odd-changes : (s l : ℕ) (o : Odd) (p : List ℕ) → oddOnPage l o p ≡ changes (oddPart s l o) p
+unfolding oddOnPage
+odd-changes s l o p = refl
+
+pub maker-changes : (s m : ℕ) (q : Quote) (p : List ℕ) → makerOn m q p ≡ changes (makerPart s m q) p
+unfolding makerOn
+maker-changes s m q p = refl
+
+pub finra-changes : (c : ℕ) (p : List ℕ) → finraOn c p ≡ changes (finraPart c) p
+unfolding finraOn
+finra-changes c p = refl
+
+-- sent on the line of a letter: makers' quotes, FINRA Close and Open come on D's line
+abbrev pub Sent : ℕ → Part → Type 0
+Sent l (roundPart s k q) = k ≡ l
+Sent l (oddPart s k o) = k ≡ l
+Sent l (makerPart s m q) = l ≡ D
+Sent l (finraPart c) = l ≡ D
+
+pub sent-shaped : (l : ℕ) → upper l ≡ true → (r : Part) → Sent l r → Shaped r
+sent-shaped l u (roundPart s k q) e = rw e u
+sent-shaped l u (oddPart s k o) e = rw e u
+sent-shaped l u (makerPart s m q) e = tt
+sent-shaped l u (finraPart c) e = tt
+
+-- ---- a slot
+
+module _ (l : ℕ) where
+  quote-in : Covers (slotOf l) (slotAt l) quoteLength
+  quote-in i lo hi = in-within (slotAt l) slotLength i lo (omega arith)
+
+  levels-in : Covers (slotOf l) (slotAt l + quoteLength) levelsLength
+  levels-in i lo hi = in-within (slotAt l) slotLength i (omega arith) (omega arith)
+
+  pub quotes-read : Reads pageLength (slotOf l) (λ p. quotesIn p l)
+  unfolding quotesIn
+  quotes-read p q v w a = ap (λ (x : List ℕ). cond (upper l) (quoteIn x) noQuote) (stretch (slotOf l) p q a quoteLength (slotAt l) quote-in)
+
+  pub levels-read : Reads pageLength (slotOf l) (λ p. levelsFor p l)
+  unfolding levelsFor
+  levels-read p q v w a = ap (λ (x : List ℕ). cond (upper l) (levelsIn x) noLevels) (stretch (slotOf l) p q a levelsLength (slotAt l + quoteLength) levels-in)
+
+  module _ (u : upper l ≡ true) where
+    slot-end : slotAt l + slotLength ≤ pageLength
+    slot-end = omega (arith, upper-low l u .0, upper-low l u .1)
+
+    round-local : (s : ℕ) (q : Quote) → Local pageLength (slotOf l) (writes (roundPart s l q))
+    unfolding putRound
+    round-local s q =
+        local-splice pageLength (slotOf l) (slotAt l) quoteLength (λ p. quoteBytes (quoteOver (quotesIn p l) q)) (omega (arith, slot-end)) quote-in
+        (λ p w. length-quote (quoteOver (quotesIn p l) q)) (λ p x v w a. λ k. quoteBytes (quoteOver (quotes-read p x v w a k) q))
+
+    levels-local : (o : Odd) → Local pageLength (slotOf l) (putLevels l o)
+    unfolding putLevels
+    levels-local o =
+        local-splice pageLength (slotOf l) (slotAt l + quoteLength) levelsLength (λ p. levelsBytes (afterOdd o (levelsFor p l))) (omega (arith, slot-end)) levels-in
+        (λ p w. length-levels (afterOdd o (levelsFor p l))) (λ p x v w a. λ k. levelsBytes (afterOdd o (levels-read p x v w a k)))
+
+    odd-local : (s : ℕ) (o : Odd) → Local pageLength (slotOf l) (writes (oddPart s l o))
+    unfolding putOdd
+    odd-local s o = go (idleOdd o)
+      where
+        go : (t : Bool) → Local pageLength (slotOf l) (λ p. cond t p (putLevels l o p))
+        go true = local-none pageLength (slotOf l)
+        go false = levels-local o
+
+-- ---- the makers' cells
+
+cell-in : (k : ℕ) → k < makerCount → Covers cells (cellAt k) cellLength
+cell-in k h i lo hi = in-within cellsAt (makerCount * cellLength) i (omega arith) (omega arith)
+
+cell-part : (k : ℕ) → k < makerCount → Reads pageLength cells (λ p. part p (cellAt k) cellLength)
+cell-part k h p q v w a = stretch cells p q a cellLength (cellAt k) (cell-in k h)
+
+cell-read : (k : ℕ) → k < makerCount → Reads pageLength cells (λ p. cellOf p k)
+cell-read k h p q v w a = ap makerIn (cell-part k h p q v w a)
+
+pub makers-read : Reads pageLength cells makersIn
+makers-read p q v w a = makers-same q p (λ k h. cell-part k h p q v w a)
+
+cell-local : (k : ℕ) → k < makerCount → (f : List ℕ → List ℕ) → ((c : List ℕ) → length c ≡ cellLength → length (f c) ≡ cellLength)
+    → Local pageLength cells (λ p. splice p (cellAt k) (f (part p (cellAt k) cellLength)))
+cell-local k h f n =
+    local-splice pageLength cells (cellAt k) cellLength (λ p. f (part p (cellAt k) cellLength)) (omega arith) (cell-in k h)
+    (λ p w. n (part p (cellAt k) cellLength) (length-part p (cellAt k) cellLength (omega arith))) (λ p q v w a. ap f (cell-part k h p q v w a))
+
+module _ (m : ℕ) (q : Quote) where
+  place-read : Reads pageLength cells (λ p. makerPlace p m)
+  unfolding makerPlace
+  place-read p x v w a = first-same (λ k. named m (cellOf p k)) (λ k. named m (cellOf x k)) makerCount 0 (λ k l h. ap (named m) (cell-read k (omega arith) p x v w a))
+
+  free-read : Reads pageLength cells freePlace
+  unfolding freePlace
+  free-read p x v w a =
+      first-same (λ k. not (isSome (cellOf p k))) (λ k. not (isSome (cellOf x k))) makerCount 0 (λ k l h. ap (λ (c : Option Maker). not (isSome c)) (cell-read k (omega arith) p x v w a))
+
+  put-local : (k : ℕ) → k < makerCount → Local pageLength cells (λ p. splice p (cellAt k) (cellFor m q))
+  put-local k h = cell-local k h (λ c. cellFor m q) (λ c w. length-for m q)
+
+  free-local : Local pageLength cells (λ p. putAt p (freePlace p) (cellFor m q))
+  free-local = local-choose pageLength cells (λ r p. putAt p r (cellFor m q)) freePlace free-read (λ p. go p (freePlace p) refl)
+    where
+      go : (p : List ℕ) (r : Found) → freePlace p ≡ r → Local pageLength cells (λ x. putAt x r (cellFor m q))
+      go p (At k) e = put-local k (free-hit p k e .0)
+      go p Nothing e = local-none pageLength cells
+
+  new-local : (t : Bool) → Local pageLength cells (λ p. cond t p (putAt p (freePlace p) (cellFor m q)))
+  new-local true = local-none pageLength cells
+  new-local false = free-local
+
+  put-maker-local : Local pageLength cells (putMaker m q)
+  unfolding putMaker
+  put-maker-local = local-choose pageLength cells (λ r p. putMakerBy m q p r) (λ p. makerPlace p m) place-read (λ p. go p (makerPlace p m) refl)
+    where
+      go : (p : List ℕ) (r : Found) → makerPlace p m ≡ r → Local pageLength cells (λ x. putMakerBy m q x r)
+      go p (At k) e = put-local k (maker-hit p m k e .0)
+      go p Nothing e = new-local (emptyQuote q)
+
+maker-local : (s m : ℕ) (q : Quote) → Local pageLength cells (writes (makerPart s m q))
+maker-local s m q =
+    local-choose pageLength cells (λ x p. putMaker m x p) (λ p. makerOver (findMaker m (makersIn p)) q)
+    (λ p x v w a. λ k. makerOver (findMaker m (makers-read p x v w a k)) q) (λ p. put-maker-local m (makerOver (findMaker m (makersIn p)) q))
+
+marks-local : (c i k : ℕ) → i + k ≤ makerCount → Local pageLength cells (markCells c i k)
+unfolding markCells
+marks-local c i zero h = local-none pageLength cells
+marks-local c i (suc k) h =
+    local-then pageLength cells (λ p. splice p (cellAt i) (markCell c (part p (cellAt i) cellLength))) (markCells c (i + 1) k)
+    (cell-local i (omega arith) (markCell c) (mark-length c)) (marks-local c (i + 1) k (omega arith))
+
+-- ---- every part
+
+pub part-local : (l : ℕ) → upper l ≡ true → (r : Part) → Sent l r → Local pageLength (own l) (writes r)
+part-local l u (roundPart s k q) e =
+    subst (λ (j : ℕ). Local pageLength (own l) (writes (roundPart s j q))) (sym e)
+    (local-wider pageLength (slotOf l) (own l) (writes (roundPart s l q)) (slot-own l) (round-local l u s q))
+part-local l u (oddPart s k o) e =
+    subst (λ (j : ℕ). Local pageLength (own l) (writes (oddPart s j o))) (sym e)
+    (local-wider pageLength (slotOf l) (own l) (writes (oddPart s l o)) (slot-own l) (odd-local l u s o))
+part-local l u (makerPart s m q) e = local-wider pageLength cells (own l) (writes (makerPart s m q)) (cells-own l e) (maker-local s m q)
+part-local l u (finraPart c) e = local-wider pageLength cells (own l) (writes (finraPart c)) (cells-own l e) (marks-local c 0 makerCount (omega arith))
