@@ -60,7 +60,7 @@ unfolding part
 nothing a = splice-part a 0 0 (omega arith)
 
 -- a block moves no letter
-letter-stays : (r : Line) (k : List ℕ) → advanced r k .letter ≡ r .letter
+pub letter-stays : (r : Line) (k : List ℕ) → advanced r k .letter ≡ r .letter
 unfolding advanced
 letter-stays r k = go _ (idleBlock k)
   where

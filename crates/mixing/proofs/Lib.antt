@@ -5,3 +5,6 @@ pub mod StepLaws
 pub mod BlockSwaps
 pub mod MoveLaws
 pub mod Mixings
+pub mod OneLine
+pub mod Cases
+pub mod BookCases

@@ -1,12 +1,11 @@
 -- A line's record written before or after the messages of a block: the same bytes, and the same is told.
 -- Assumes nothing.
-use Prim.Native.Nat.{ℕ, _+_, _*_, _<_}
+use Prim.Native.Nat.{ℕ, _<_}
 use mathlib.Core.Path.{_≡_, refl, sym, ap, _∙_}
 use mathlib.Core.Bool.{Bool, true, false}
 use mathlib.Core.List.{List, [], _∷_, map}
 use native.Mathlib.Omega.{arith}
 use lib.Dec.{eqb, ltb}
-use lib.ListN.{length}
 use borrow.Author.Tests.{ltb-true, ltb-false}
 use Rattle.field.specs.Field.{part, splice}
 use Rattle.lists.specs.Lists.{upper}
@@ -16,10 +15,10 @@ use Rattle.page.specs.Layout.{pageSymbol}
 use Rattle.update.specs.Parts.{Reading, knownOf}
 use Rattle.update.proofs.SearchLaws.{first-same}
 use Rattle.opening.specs.declared.Line.{Line}
-use Rattle.opening.specs.Layout.{linesAt, lineLength, lineCount, openingLength, bookLength, lineAt}
+use Rattle.opening.specs.Layout.{lineLength, lineCount, openingLength, bookLength, lineAt}
 use Rattle.opening.specs.Opening.{lineBytes, countOf, pageAt, pagePlace}
 use Rattle.opening.proofs.OpeningLaws.{Sound, count-by}
-use Rattle.opening.proofs.PageLaws.{OpeningKept, kept-sound}
+use Rattle.opening.proofs.PageLaws.{OpeningKept}
 use Rattle.opening.proofs.LineLaws.{length-line, lined-sound, lined-page, lined-pages}
 use Rattle.work.specs.Work.{findReading, partOn, partsOn, codeOn, messageOn, messagesOn, toldOn}
 use Rattle.regions.proofs.RegionLaws.{Region, within, in-within, of-within, Apart, within-apart, Alike, stretch, part-read, Local, local-splice, local-swap, local-reads}

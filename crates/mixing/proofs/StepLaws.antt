@@ -1,6 +1,6 @@
 -- One block on a book of any bytes: by the day and its line alone, and what it leaves of the opening.
 -- Assumes nothing.
-use Prim.Native.Nat.{ℕ, _+_, _*_, _≤_, _<_}
+use Prim.Native.Nat.{ℕ, _+_, _≤_, _<_}
 use mathlib.Core.Path.{_≡_, refl, sym, ap, _∙_}
 use mathlib.Core.Bool.{Bool, true, false, cond}
 use mathlib.Core.List.{List, [], _∷_, map}
@@ -13,21 +13,21 @@ use Rattle.field.proofs.Laws.{be-beBytes, part-put, field-part-0}
 use Rattle.lists.specs.Lists.{upper}
 use Rattle.lists.proofs.Tests.{clash, Cut, equal, apart, cut, upper-low}
 use Rattle.text.specs.Form.{letterGood}
-use Rattle.block.specs.Block.{messagesOf, idleBlock, sequenceIn, countIn, answerLength}
-use Rattle.block.specs.Sequence.{arrivalOf}
+use Rattle.block.specs.Block.{messagesOf, answerLength}
 use Rattle.told.specs.declared.Told.{Told}
 use Rattle.told.specs.Told.{isAccepted, isPartly, isRejected, quads, tally}
 use Rattle.opening.specs.declared.Line.{Line}
 use Rattle.opening.specs.Layout.{dayAt, lineLength, lineCount, openingLength, bookLength, lineAt}
-use Rattle.opening.specs.Opening.{lineIn, lineBytes, linesIn, restIn, lineAfter}
+use Rattle.opening.specs.Opening.{lineIn, lineBytes, linesIn, restIn}
 use Rattle.opening.proofs.OpeningLaws.{Sound, sound-is}
 use Rattle.opening.proofs.PageLaws.{OpeningKept, kept-sound}
 use Rattle.opening.proofs.LineLaws.{length-line, line-upper, line-open}
-use Rattle.line.specs.Line.{onLine, done, nextBy, gapTold, advanced}
+use Rattle.line.specs.Line.{onLine, done, gapTold, advanced}
 use Rattle.work.specs.Work.{messagesOn, toldOn}
 use Rattle.work.proofs.KeptLaws.{messages-kept}
 use Rattle.calls.specs.Call.{take, Answer, bare, report, lineAnswer, letterOf, numberOf, answerOf, advanceOn, afterCall, numberOn, call}
 use Rattle.calls.proofs.NumberLaws.{number-same}
+use Rattle.calls.proofs.TakenLaws.{letter-stays}
 use Rattle.regions.proofs.RegionLaws.{within, in-within, of-within, Apart, within-apart, part-read, local-reads}
 use Rattle.mixing.specs.Mixing.{unflagged, withoutFlags, OneLineEach}
 use Rattle.mixing.proofs.MessageSwaps.{quiet}
@@ -200,14 +200,6 @@ letter-of b i r e = go (ltb i lineCount) (letterGood (field (part b (lineAt i) l
     go true false e = clash (cc)
     go false u e = clash (cc)
 
-advanced-letter : (r : Line) (k : List ℕ) → advanced r k .letter ≡ r .letter
-unfolding advanced
-advanced-letter r k = go (idleBlock k)
-  where
-    go : (t : Bool) → (cond {A = Line} t r (lineAfter r (nextBy (r .expected) (arrivalOf (sequenceIn k) (r .expected) (countIn k))) (countIn k))) .letter ≡ r .letter
-    go true = refl
-    go false = refl
-
 bytes-letter : (a : Line) → field (lineBytes a) 0 1 ≡ be (beBytes 1 (a .letter))
 unfolding lineBytes beBytes field part
 bytes-letter a = refl
@@ -242,7 +234,7 @@ module _ (n : ℕ) (b : List ℕ) (sd : Sound n b) (i : ℕ) (k : List ℕ) (day
       set r e =
           let a : Line = advanced r k in
           let m : List ℕ = messagesOn (r .letter) (messagesOf k) b in
-          let l : a .letter ≡ r .letter = advanced-letter r k in
+          let l : a .letter ≡ r .letter = letter-stays r k in
           sym (field-part-0 (lineSet i a m) (lineAt i) lineLength 1 (lit≤ tt))
           ∙ ap (λ (z : List ℕ). field z 0 1) (part-put m (lineAt i) (lineBytes a) lineLength (length-line a) (omega (arith, mid-sound n b sd i k r e .size)))
           ∙ bytes-letter a

@@ -1,13 +1,13 @@
 -- What two letters' parts and codes have to do with each other on one page: nothing. Parts in either order leave the same page, and no code moves.
 -- Assumes nothing.
-use Prim.Native.Nat.{ℕ, _+_, _<_}
+use Prim.Native.Nat.{ℕ}
 use mathlib.Core.Path.{_≡_, refl, ap, _∙_}
 use mathlib.Core.Bool.{true, cond}
 use mathlib.Core.List.{List}
 use native.Mathlib.Omega.{arith}
 use lib.Dec.{eqb, ltb}
 use lib.ListN.{length}
-use Rattle.field.specs.Field.{be, part, field}
+use Rattle.field.specs.Field.{be, field}
 use Rattle.field.specs.Ascii.{D}
 use Rattle.lists.specs.Lists.{upper, isSome}
 use Rattle.text.specs.Form.{symbolLength}
@@ -17,12 +17,12 @@ use Rattle.message.specs.declared.Message.{Message}
 use Rattle.message.specs.declared.Message.the-variants as says
 use Rattle.message.specs.Message.{oddOf, messageOf, Known, makerCode, codeBy, codeOf, Part}
 use Rattle.page.specs.Layout.{symbolAt, lotAt, headLength, pageLength, pageSymbol, pageLot}
-use Rattle.page.specs.Page.{levelsFor, makersIn, occupied}
+use Rattle.page.specs.Page.{makersIn, occupied}
 use Rattle.makers.specs.Makers.{findMaker}
 use Rattle.update.specs.Parts.{readingOf, knownBy}
 use Rattle.update.proofs.WorkLaws.{pageCode}
-use Rattle.regions.proofs.RegionLaws.{in-within, Covers, Alike, stretch, Reads, local-reads}
-use Rattle.regions.proofs.RefreshLaws.{refreshed-size, refreshed-reads, refresh-swap}
+use Rattle.regions.proofs.RegionLaws.{in-within, Covers, stretch, Reads, local-reads}
+use Rattle.regions.proofs.RefreshLaws.{refreshed-reads, refresh-swap}
 use Rattle.regions.proofs.OwnLaws.{head, own, seen, slot-own, cells-own, head-seen, own-seen, own-head, own-entries, own-apart, entries-head, entries-seen, seen-apart}
 use Rattle.regions.proofs.PartLaws.{writes, changes, Sent, levels-read, makers-read, part-local}
 use Rattle.regions.proofs.SentLaws.{Speaks, speaks}

@@ -3,19 +3,18 @@
 -- Assumes nothing.
 use Prim.Native.Nat.{ℕ}
 use mathlib.Core.Path.{_≡_, refl, sym, ap, _∙_}
-use mathlib.Core.Bool.{false}
 use mathlib.Core.List.{List}
 use native.Mathlib.Omega.{arith}
 use lib.ListN.{length}
-use Rattle.field.specs.Field.{part, splice}
+use Rattle.field.specs.Field.{splice}
 use Rattle.entries.specs.Entries.{Entries}
 use Rattle.entries.specs.Publication.{publication, publicationLength}
 use Rattle.entries.proofs.LengthLaws.{length-publication}
 use Rattle.page.specs.Layout.{entriesAt, pageLength}
 use Rattle.page.specs.Page.{pageEntries, refreshed}
-use Rattle.page.proofs.FrameLaws.{entries-kept, refreshed-length}
+use Rattle.page.proofs.FrameLaws.{entries-kept}
 use Rattle.update.proofs.RefreshLaws.{splice-over}
-use Rattle.regions.proofs.RegionLaws.{Region, within, in-within, not-true, Apart, Reads, Local, local-splice, local-swap, local-reads}
+use Rattle.regions.proofs.RegionLaws.{Region, within, in-within, Apart, Reads, Local, local-splice, local-swap, local-reads}
 
 -- where a page keeps its entries
 abbrev pub entriesKept : Region
@@ -28,9 +27,6 @@ written e p = splice p entriesAt e
 written-local : (e : List ℕ) → length e ≡ publicationLength → Local pageLength entriesKept (written e)
 written-local e n =
     local-splice pageLength entriesKept entriesAt publicationLength (λ p. e) (omega arith) (in-within entriesAt publicationLength) (λ p w. n) (λ p q v w a. refl)
-
-pub refreshed-size : (p : List ℕ) → length p ≡ pageLength → length (refreshed p) ≡ pageLength
-refreshed-size p w = refreshed-length p (omega arith) ∙ w
 
 -- what is not read of the entries stays
 pub refreshed-reads : {A : Type 0} (R : Region) (f : List ℕ → A) → Reads pageLength R f → Apart entriesKept R → (p : List ℕ) → length p ≡ pageLength → f (refreshed p) ≡ f p

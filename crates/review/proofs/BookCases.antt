@@ -26,11 +26,11 @@ OnBook [] = Unit {0}
 OnBook (r ∷ rs) =
     ((m : List ℕ) → call m (make (r .n)) .answer .number ≡ 0 → allTold (answers (call m (make (r .n)) .bytes) (r .calls)) ≡ r .answers) × OnBook rs
 
-abbrev rowsAreBytes : List Row → Bool
+abbrev pub rowsAreBytes : List Row → Bool
 rowsAreBytes [] = true
 rowsAreBytes (r ∷ rs) = blocksAreBytes (r .calls) && rowsAreBytes rs
 
-on-book : (rs : List Row) → rowsAreBytes rs ≡ true → Answered rs → OnBook rs
+pub on-book : (rs : List Row) → rowsAreBytes rs ≡ true → Answered rs → OnBook rs
 unfolding answered
 on-book rs z end = tt
 on-book rs z (_▹_ {r = r} {rs = rest} a more) =
