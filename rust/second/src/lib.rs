@@ -7,6 +7,7 @@
 //! - [`writer`] makes a block of messages.
 //! - [`generate`] makes random lists of calls, [`compare`] runs a list on several books, [`shrink`]
 //!   makes a list short on which they differ, and [`coverage`] counts what the lists reach.
+//! - [`mixing`] gives the blocks of several lines to books in different orders (T-09).
 //!
 //! Engine and reviewer share the constants of [`terms`] and the answers of [`quote_book`],
 //! nothing else: every check and every rule is written twice.
@@ -20,6 +21,7 @@ pub mod compare;
 pub mod coverage;
 pub mod engine;
 pub mod generate;
+pub mod mixing;
 pub mod quote_book;
 pub mod reviewer;
 pub mod shrink;
