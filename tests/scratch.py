@@ -49,8 +49,9 @@ def made(top, crate):
     names = crates(crate)
     for c in names:
         src, dst = os.path.join(ROOT, "crates", c), os.path.join(top, "crates", c)
-        shutil.copytree(os.path.join(src, "specs"), os.path.join(dst, "specs"))
         os.makedirs(os.path.join(dst, "src"))
+        if os.path.isdir(os.path.join(src, "specs")):
+            shutil.copytree(os.path.join(src, "specs"), os.path.join(dst, "specs"))
         open(os.path.join(dst, "src", "lib.rt"), "w").write(types(open(os.path.join(src, "src", "lib.rt")).read()))
     return names
 

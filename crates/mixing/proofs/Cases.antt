@@ -4,7 +4,6 @@
 use Prim.Native.Nat.{ℕ}
 use mathlib.Core.Path.{_≡_, refl}
 use mathlib.Core.List.{List, [], _∷_, _++_}
-use mathlib.Core.Option.{some}
 use native.Mathlib.Omega.{arith}
 use lib.ListN.{replicate, set}
 use Rattle.field.specs.Field.{be, part, field}
@@ -161,13 +160,6 @@ linesOfN = replicate 80 0 ++ ((78 ∷ replicate 12 0) ++ (78 ∷ replicate 12 0)
 abbrev recordOfN : Line
 recordOfN = record { letter = 78; expected = 0; count = 0 }
 
-pub line-5 : linesIn linesOfN 5 ≡ some recordOfN
-unfolding linesIn lineIn field part be
-line-5 = refl
-
-pub line-6 : linesIn linesOfN 6 ≡ some recordOfN
-unfolding linesIn lineIn field part be
-line-6 = refl
-
 pub not-one-each : OneLineEach linesOfN → ⊥
-not-one-each o = let e : _≡_ {A = ℕ} 5 6 = o 5 6 recordOfN recordOfN line-5 line-6 refl in omega arith
+unfolding linesIn lineIn field part be
+not-one-each o = let e : _≡_ {A = ℕ} 5 6 = o 5 6 recordOfN recordOfN refl refl refl in omega arith
