@@ -46,11 +46,11 @@ module _ (c : Candidate) (n : ℕ) where
       go true = refl
       go false = ap (λ (b : List ℕ). b ++ (beBytes 8 (c .price) ++ beBytes 4 (c .size))) e
 
-pub national-name : (n c r d : ℕ) → c < 256 → r < 256 → r ≡ reasonByte (reasonOf d)
-    → beBytes 4 (n % 256 * 16777216 + c * 65536 + r * 256 + 32) ≡ beBytes 1 n ++ beBytes 1 c ++ (reasonByte (reasonOf d) ∷ 32 ∷ [])
+pub national-name : (n c r d : ℕ) → r < 256 → r ≡ reasonByte (reasonOf d)
+    → beBytes 4 (n % 256 * 16777216 + c % 256 * 65536 + r * 256 + 32) ≡ beBytes 1 n ++ beBytes 1 c ++ (reasonByte (reasonOf d) ∷ 32 ∷ [])
 unfolding beBytes
-national-name n c r d h k er =
-    let v = n % 256 * 16777216 + c * 65536 + r * 256 + 32 in
+national-name n c r d k er =
+    let v = n % 256 * 16777216 + c % 256 * 65536 + r * 256 + 32 in
     let a : v / 16777216 % 256 ≡ n / 1 % 256 = omega arith in
     let b : v / 65536 % 256 ≡ c / 1 % 256 = omega arith in
     let x : v / 256 % 256 ≡ r = omega arith in

@@ -79,7 +79,7 @@ fn named(name: u32, c: Candidate) -> Entry
 }
 
 // The byte for what put a leader ahead: price, size, time or letter; a space if there is no second.
-fn reason_byte(decided: u8) -> u8
+fn reason_byte(decided: u32) -> u8
     ensures { λ r. ⌜ r ≡ reasonByte (reasonOf decided) ⌝ }
 {
     match decided {
@@ -98,10 +98,7 @@ fn national_entry(lead: Lead) -> Entry
     let c = lead.best;
     let reason = reason_byte(lead.decided);
     named(
-        (c.name % 256) * 0x1000000
-            + (c.condition as u32) * 0x10000
-            + (reason as u32) * 0x100
-            + 0x20,
+        (c.name % 256) * 0x1000000 + (c.condition % 256) * 0x10000 + (reason as u32) * 0x100 + 0x20,
         c,
     )
 }

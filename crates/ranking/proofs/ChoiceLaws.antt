@@ -7,7 +7,7 @@ use mathlib.Core.Option.{none, some}
 use native.Mathlib.Omega.{arith}
 use native.Mathlib.Nat.{le-of-lt}
 use lib.Dec.{eqb, ltb}
-use borrow.Author.Tests.{eq-eqb, ne-eqb, eqb-true, lt-ltb, le-ltb, ltb-true, ltb-false}
+use borrow.Author.Tests.{eq-eqb, ne-eqb, eqb-true, eqb-false, lt-ltb, le-ltb, ltb-true, ltb-false}
 use Rattle.lists.proofs.Searches.{less-one}
 use Rattle.ranking.specs.declared.Side.{Side}
 use Rattle.ranking.specs.declared.Side.the-variants.{Bid, Offer}
@@ -197,6 +197,19 @@ module _ (c : Compared) (l : Lead) (x : Candidate) (d : ℕ) (e : d ≡ lateness
 pub lead-none : (s : Side) (l : Lead) → l ≡ leadWith s l noCandidate
 unfolding leadWith
 lead-none s l = refl
+
+-- once there is a second, a price behind the leader's changes nothing
+pub lead-behind : (s : Side) (l : Lead) (x : Candidate) (t : Bool) → t ≡ ltb (rankOf s (x .price)) (rankOf s (l .best .price)) → t ≡ true → 0 < l .decided → l ≡ leadWith s l x
+lead-behind s l x t e h d = go (eqb (x .price) 0) refl (eqb (x .size) 0) refl
+  where
+    stands : l .best .price ≡ 0 → ⊥
+    stands z = omega (arith, ltb-true (rankOf s (x .price)) (rankOf s (l .best .price)) (sym e ∙ h), ap (rankOf s) z ∙ rank-zero s)
+
+    go : (u : Bool) → eqb (x .price) 0 ≡ u → (v : Bool) → eqb (x .size) 0 ≡ v → l ≡ leadWith s l x
+    go true p v q = lead-priceless s l x (eqb-true _ _ p)
+    go false p true q = lead-sizeless s l x (eqb-true _ _ q)
+    go false p false q =
+        lead-compared s l x (eqb-false _ _ p) (eqb-false _ _ q) (by false Price) l stands (rank-behind s x (l .best) t e h) (lead-stays (by false Price) l x 1 refl refl (omega (arith, d)))
 
 pub lead-live : (s : Side) (l : Lead) (x : Candidate) → leadWith s l x ≡ leadWith s l (orNone (live x))
 unfolding live

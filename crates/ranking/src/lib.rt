@@ -11,13 +11,14 @@ pub enum Side {
 }
 
 /// What is ranked: a counting side of a quote, or an odd-lot level, under a name (a letter, or the four bytes of a maker).
-/// Price 0 is none. The condition is carried along for the publication and is not ranked.
+/// Price 0 is none. The condition is carried along for the publication and is not ranked. It is wider than a byte, and the fields stand in this order,
+/// so that no seven bytes are left over: such a rest is copied through memory with every candidate.
 pub struct Candidate {
     pub name: u32,
+    pub condition: u32,
     pub price: u64,
-    pub size: u32,
     pub time: u64,
-    pub condition: u8,
+    pub size: u32,
 }
 
 impl Candidate {
@@ -61,7 +62,7 @@ pub struct Compared {
 /// 0 if there is no second.
 pub struct Lead {
     pub best: Candidate,
-    pub decided: u8,
+    pub decided: u32,
 }
 
 impl Lead {
@@ -171,7 +172,7 @@ pub fn choose(side: Side, best: Candidate, x: Candidate) -> Candidate
     best
 }
 
-fn lateness(by: Reason) -> u8
+fn lateness(by: Reason) -> u32
     ensures { λ r. ⌜ r ≡ lateness by ⌝ }
 {
     match by {

@@ -21,7 +21,7 @@ use Rattle.ranking.specs.declared.Lead.{Lead}
 use Rattle.ranking.specs.declared.Leads.{Leads}
 use Rattle.ranking.specs.Held.{noCandidate, orNone}
 use Rattle.ranking.specs.code.Choice.{rankOf, live, choose, stepSides, sidesFrom, bestFrom, leadWith, stepLeads, leadsFrom, leadFrom}
-use Rattle.ranking.proofs.ChoiceLaws.{choose-none, choose-live, choose-behind, lead-none, lead-live}
+use Rattle.ranking.proofs.ChoiceLaws.{choose-none, choose-live, choose-behind, lead-none, lead-live, lead-behind}
 use Rattle.quote.specs.declared.Quote.{Quote}
 use Rattle.quote.specs.Quote.{isQuoted, sideOf, admits, counts, levelCandidate, candidateOf, levelIn, quoteIn, quoteLength, levelLength}
 use Rattle.quote.proofs.QuoteLaws.{level-at}
@@ -36,14 +36,14 @@ use Rattle.text.specs.Form.{nameLength}
 
 -- ---- a level
 
-module _ (s : Side) (b : Candidate) (p : List ℕ) (at n c : ℕ) where
-  pub level-behind : (q : ℕ) (t : Bool) → q ≡ low p at 8 → t ≡ ltb (rankOf s q) (rankOf s (b .price)) → t ≡ true
+module _ (p : List ℕ) (at n c : ℕ) where
+  level-behind : (s : Side) (b : Candidate) (q : ℕ) (t : Bool) → q ≡ low p at 8 → t ≡ ltb (rankOf s q) (rankOf s (b .price)) → t ≡ true
       → b ≡ choose s b (levelCandidate n c (levelIn (part p at levelLength)))
-  level-behind q t e f h = rw (level-at p at) (choose-behind s b _ t (f ∙ ap (λ (v : ℕ). ltb (rankOf s v) (rankOf s (b .price))) e) h)
+  level-behind s b q t e f h = rw (level-at p at) (choose-behind s b _ t (f ∙ ap (λ (v : ℕ). ltb (rankOf s v) (rankOf s (b .price))) e) h)
 
-  pub level-read : (r : Candidate) (q z t : ℕ) → q ≡ low p at 8 → z ≡ low p (at + 8) 4 → t ≡ low p (at + 12) 8
-      → r ≡ choose s b (record { name = n; price = q; size = z; time = t; condition = c }) → r ≡ choose s b (levelCandidate n c (levelIn (part p at levelLength)))
-  level-read r q z t ep ez et er = rw (level-at p at, ← ep, ← ez, ← et) er
+  pub level-read : (q z t : ℕ) → q ≡ low p at 8 → z ≡ low p (at + 8) 4 → t ≡ low p (at + 12) 8
+      → record { name = n; price = q; size = z; time = t; condition = c } ≡ levelCandidate n c (levelIn (part p at levelLength))
+  level-read q z t ep ez et = rw (level-at p at, ← ep, ← ez, ← et)
 
 -- ---- a side of a quote
 
@@ -87,6 +87,22 @@ module _ (s : Side) (n : ℕ) (p : List ℕ) (at o : ℕ) (eo : o ≡ inQuote s)
             let a : ltb 0 v ≡ true = lt-ltb 0 v (omega (arith, hv)) in
             let b : ltb 0 z ≡ true = lt-ltb 0 z (omega (arith, hz)) in
             rw (side-at, ← ev, ← ez, ← ew, ← quote-condition p at, ← ec, ← et, h, a, b)
+
+    -- beside a leader that has a second, a price behind the leader's does as much as none
+    pub beside-behind : (l : Lead) (t : Bool) → 0 < l .decided → t ≡ ltb (rankOf s v) (rankOf s (l .best .price)) → t ≡ true
+        → leadWith s l noCandidate ≡ leadWith s l (orNone (candidateOf s n quote))
+    unfolding candidateOf
+    beside-behind l t d et e = sym (lead-none s l) ∙ go (counts s quote)
+      where
+        shown : Candidate
+        shown = levelCandidate n (quote .condition) (sideOf s quote)
+
+        rank-at : t ≡ ltb (rankOf s (shown .price)) (rankOf s (l .best .price))
+        rank-at = et ∙ ap (λ (w : ℕ). ltb (rankOf s w) (rankOf s (l .best .price))) (ev ∙ sym (λ i. side-at i .price))
+
+        go : (u : Bool) → l ≡ leadWith s l (orNone (cond u (some shown) none))
+        go true = lead-behind s l shown t rank-at e d
+        go false = lead-none s l
 
 -- ---- a maker
 
@@ -146,10 +162,10 @@ module _ (p : List ℕ) (k : ℕ) (t : Sides) (a : ℕ) (ea : a ≡ cellAt k) (c
 -- ---- a letter's national candidate, beside the leader
 
 -- both sides of a step, each beside its leader
-leads-read : (f : Side → ℕ → Candidate) (k : ℕ) (t : Leads) (xb xo : Candidate) (rb ro : Lead) → xb ≡ f Bid k → xo ≡ f Offer k
-    → rb ≡ leadWith Bid (t .bid) xb → ro ≡ leadWith Offer (t .offer) xo → _≡_ {A = Leads} (record { bid = rb; offer = ro }) (stepLeads f k t)
+leads-read : (f : Side → ℕ → Candidate) (k : ℕ) (t : Leads) (rb ro : Lead) → rb ≡ leadWith Bid (t .bid) (f Bid k) → ro ≡ leadWith Offer (t .offer) (f Offer k)
+    → _≡_ {A = Leads} (record { bid = rb; offer = ro }) (stepLeads f k t)
 unfolding stepLeads
-leads-read f k t xb xo rb ro fb fo eb eo = λ i. record { bid = (eb ∙ ap (leadWith Bid (t .bid)) fb) i; offer = (eo ∙ ap (leadWith Offer (t .offer)) fo) i }
+leads-read f k t rb ro eb eo = λ i. record { bid = eb i; offer = eo i }
 
 -- a step in which neither side has a candidate
 leads-none : (f : Side → ℕ → Option Candidate) (k : ℕ) (t : Leads) → ((s : Side) → f s k ≡ none) → t ≡ stepLeads (asked f) k t
@@ -181,12 +197,14 @@ d-read f t db da rb ro edb eda eb eo = λ i. record { bid = (eb ∙ ap (leadWith
 
 module _ (p : List ℕ) (l : ℕ) (t : Leads) where
   pub slot-read : (a : ℕ) (qb qo : Candidate) (rb ro : Lead) → A ≤ l → l ≤ Z → a ≡ slotAt l
-      → qb ≡ orNone (candidateOf Bid l (quoteIn (part p a quoteLength))) → qo ≡ orNone (candidateOf Offer l (quoteIn (part p a quoteLength)))
+      → leadWith Bid (t .bid) qb ≡ leadWith Bid (t .bid) (orNone (candidateOf Bid l (quoteIn (part p a quoteLength))))
+      → leadWith Offer (t .offer) qo ≡ leadWith Offer (t .offer) (orNone (candidateOf Offer l (quoteIn (part p a quoteLength))))
       → rb ≡ leadWith Bid (t .bid) qb → ro ≡ leadWith Offer (t .offer) qo → _≡_ {A = Leads} (record { bid = rb; offer = ro }) (stepLeads (asked (quotedAt p)) l t)
   unfolding quotedAt
   slot-read a qb qo rb ro h k ea fb fo eb eo =
       let q : quoteIn (part p a quoteLength) ≡ quotesIn p l = ap (λ (i : ℕ). quoteIn (part p i quoteLength)) ea ∙ sym (quotes-at p l h k) in
-      leads-read (asked (quotedAt p)) l t qb qo rb ro (fb ∙ ap (λ (x : Quote). orNone (candidateOf Bid l x)) q) (fo ∙ ap (λ (x : Quote). orNone (candidateOf Offer l x)) q) eb eo
+      leads-read (asked (quotedAt p)) l t rb ro (eb ∙ fb ∙ ap (λ (x : Quote). leadWith Bid (t .bid) (orNone (candidateOf Bid l x))) q)
+      (eo ∙ fo ∙ ap (λ (x : Quote). leadWith Offer (t .offer) (orNone (candidateOf Offer l x))) q)
 
   module _ (f : Sides) (r : Leads) where
     pub national-d : l ≡ D → r ≡ withD f t → r ≡ stepLeads (asked (nationalAt p f)) l t
@@ -240,27 +258,28 @@ module _ (p : List ℕ) (l : ℕ) (s : Side) (fb : Option Candidate) (b : Candid
   abbrev first : Candidate
   first = levelCandidate l 32 (levelIn (part p (a + quoteLength + o) levelLength))
 
-  first-by : (v : Bool) → ranks s (quotesIn p) fb l ≡ v → cond v (choose s b first) b ≡ choose s b (orNone (firstBy p s fb l))
+  first-by : (v : Bool) → ranks s (quotesIn p) fb l ≡ v → choose s b (cond v first noCandidate) ≡ choose s b (orNone (firstBy p s fb l))
   first-by v e = rw (first-at p l h k s fb n, e, ← ea, ← eo) (go v)
     where
-      go : (v : Bool) → cond v (choose s b first) b ≡ choose s b (orNone (cond v (live first) none))
+      go : (v : Bool) → choose s b (cond v first noCandidate) ≡ choose s b (orNone (cond v (live first) none))
       go true = choose-live s b first
-      go false = choose-none s b
+      go false = refl
 
-  pub first-yes : (t : Bool) (r : Candidate) → t ≡ ranks s (quotesIn p) fb l → t ≡ true → r ≡ choose s b first → r ≡ choose s b (orNone (firstBy p s fb l))
-  first-yes t r et e er = er ∙ first-by true (sym et ∙ e)
+  pub first-yes : (t : Bool) (r : Candidate) → t ≡ ranks s (quotesIn p) fb l → t ≡ true → r ≡ first → choose s b r ≡ choose s b (orNone (firstBy p s fb l))
+  first-yes t r et e er = ap (choose s b) er ∙ first-by true (sym et ∙ e)
 
-  pub first-no : (t : Bool) → t ≡ ranks s (quotesIn p) fb l → t ≡ false → b ≡ choose s b (orNone (firstBy p s fb l))
+  pub first-no : (t : Bool) → t ≡ ranks s (quotesIn p) fb l → t ≡ false → choose s b noCandidate ≡ choose s b (orNone (firstBy p s fb l))
   first-no t et e = first-by false (sym et ∙ e)
 
-  pub first-behind : (v : ℕ) (t : Bool) → v ≡ low p (a + quoteLength + o) 8 → t ≡ ltb (rankOf s v) (rankOf s (b .price)) → t ≡ true → b ≡ choose s b (orNone (firstBy p s fb l))
+  pub first-behind : (v : ℕ) (t : Bool) → v ≡ low p (a + quoteLength + o) 8 → t ≡ ltb (rankOf s v) (rankOf s (b .price)) → t ≡ true
+      → choose s b noCandidate ≡ choose s b (orNone (firstBy p s fb l))
   first-behind v t ev et e = go (ranks s (quotesIn p) fb l) refl
     where
       behind : b ≡ choose s b first
-      behind = level-behind s b p (a + quoteLength + o) l 32 v t ev et e
+      behind = level-behind p (a + quoteLength + o) l 32 s b v t ev et e
 
-      go : (u : Bool) → ranks s (quotesIn p) fb l ≡ u → b ≡ choose s b (orNone (firstBy p s fb l))
-      go true q = behind ∙ first-by true q
+      go : (u : Bool) → ranks s (quotesIn p) fb l ≡ u → choose s b noCandidate ≡ choose s b (orNone (firstBy p s fb l))
+      go true q = sym (choose-none s b) ∙ behind ∙ first-by true q
       go false q = first-by false q
 
 -- ---- one letter more, and all of them
@@ -271,11 +290,12 @@ module _ (p : List ℕ) (f : Sides) where
   letter-none l t e =
       λ i. record { national = leads-none (nationalAt p f) l (t .national) (λ s. rw e) i; odd = sides-none (firstAt p f) l (t .odd) (λ s. rw e) i }
 
-  pub letter-read : (l : ℕ) (t : Tops) (n : Leads) (ob oa : Candidate) → n ≡ stepLeads (asked (nationalAt p f)) l (t .national)
-      → ob ≡ choose Bid (t .odd .bid) (orNone (firstBy p Bid (live (f .bid)) l)) → oa ≡ choose Offer (t .odd .offer) (orNone (firstBy p Offer (live (f .offer)) l))
-      → _≡_ {A = Tops} (record { national = n; odd = record { bid = ob; offer = oa } }) (stepTops p f l t)
+  pub letter-read : (l : ℕ) (t : Tops) (n : Leads) (xb xo ob oa : Candidate) → n ≡ stepLeads (asked (nationalAt p f)) l (t .national)
+      → choose Bid (t .odd .bid) xb ≡ choose Bid (t .odd .bid) (orNone (firstBy p Bid (live (f .bid)) l))
+      → choose Offer (t .odd .offer) xo ≡ choose Offer (t .odd .offer) (orNone (firstBy p Offer (live (f .offer)) l))
+      → ob ≡ choose Bid (t .odd .bid) xb → oa ≡ choose Offer (t .odd .offer) xo → _≡_ {A = Tops} (record { national = n; odd = record { bid = ob; offer = oa } }) (stepTops p f l t)
   unfolding stepTops
-  letter-read l t n ob oa en eb ea = λ i. record { national = en i; odd = sides-read (asked (firstAt p f)) l (t .odd) ob oa eb ea i }
+  letter-read l t n xb xo ob oa en fb fo eb ea = λ i. record { national = en i; odd = sides-read (asked (firstAt p f)) l (t .odd) ob oa (eb ∙ fb) (ea ∙ fo) i }
 
   module _ (n : ℕ) (w : Tops) where
     tops-step : (i : ℕ) (t : Tops) → i < n → topsFrom p f i (n - i) t ≡ topsFrom p f (i + 1) (n - (i + 1)) (stepTops p f i t)

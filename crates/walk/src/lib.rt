@@ -6,7 +6,7 @@ ghost use Rattle.field.specs.Field.{part};
 ghost use Rattle.field.specs.Ascii as ascii;
 ghost use Rattle.ranking.specs.Held.{orNone, noSides};
 ghost use Rattle.lists.specs.Lists.{isSome};
-ghost use Rattle.ranking.specs.code.Choice.{live, choose, stepSides, sidesFrom, stepLeads};
+ghost use Rattle.ranking.specs.code.Choice.{live, choose, stepSides, sidesFrom, leadWith, stepLeads};
 ghost use Rattle.quote.specs.Quote.{levelIn, quoteIn, levelCandidate, candidateOf, quoteLength, levelLength};
 ghost use Rattle.entries.specs.Entries.{asD, ranks};
 ghost use Rattle.page.specs.Page.{quotesIn, pageEntries};
@@ -19,6 +19,7 @@ use page::Letter;
 use page::Page;
 use page::Slot;
 use ranking::Candidate;
+use ranking::Lead;
 use ranking::Leads;
 use ranking::Side;
 use ranking::Sides;
@@ -36,36 +37,22 @@ pub struct BestEntries {
     pub odd: Sides,
 }
 
-// The better of the best so far and the level at `at`. The price is read first: most levels go no further.
-fn with_level(
-    page: &[u8],
-    at: usize,
-    side: Side,
-    name: u32,
-    condition: u8,
-    best: Candidate,
-) -> Candidate
+// The level at `at` under a name.
+fn level(page: &[u8], at: usize, name: u32) -> Candidate
     requires { ⌜ at + levelLength ≤ length (now page) ⌝ }
-    ensures { λ r. ⌜ r ≡ choose side best (levelCandidate name condition (levelIn (part (now (page .entry)) at levelLength))) ⌝ }
+    ensures { λ r. ⌜ r ≡ levelCandidate name ascii.space (levelIn (part (now (page .entry)) at levelLength)) ⌝ }
 {
     // price 8, size 4, time 8
     let price = field::low64(page, at);
-    if ranking::is_behind(side, price, best) {
-        return best;
-    }
     let size = field::low32(page, at + 8);
     let time = field::low64(page, at + 12);
-    ranking::choose(
-        side,
-        best,
-        Candidate {
-            name,
-            price,
-            size,
-            time,
-            condition,
-        },
-    )
+    Candidate {
+        name,
+        price,
+        size,
+        time,
+        condition: 0x20,
+    }
 }
 
 // A side of the quote at `at` under a name, none if that side doesn't count.
@@ -91,10 +78,24 @@ fn quoted(page: &[u8], at: usize, side: Side, name: u32) -> Candidate
             price,
             size,
             time,
-            condition,
+            condition: condition as u32,
         };
     }
     Candidate::NONE
+}
+
+// A side of the quote at `at`, as far as it matters beside the leader so far: once there is a second, a price behind the leader's is not read any further.
+fn quoted_beside(page: &[u8], at: usize, side: Side, name: u32, lead: Lead) -> Candidate
+    requires { ⌜ at + quoteLength ≤ length (now page) ⌝ }
+    ensures { λ r. ⌜ leadWith side lead r ≡ leadWith side lead (orNone (candidateOf side name (quoteIn (part (now (page .entry)) at quoteLength)))) ⌝ }
+{
+    if 0 < lead.decided {
+        let price = field::low64(page, at + page::in_quote(side));
+        if ranking::is_behind(side, price, lead.best) {
+            return Candidate::NONE;
+        }
+    }
+    quoted(page, at, side, name)
 }
 
 // One maker cell more, both sides. Of the conditions of makers only R counts.
@@ -172,8 +173,10 @@ fn with_slot(page: &[u8], letter: usize, lead: Leads) -> Leads
 {
     let at = page::slot_at(letter);
     let name = letter as u32;
-    let bid = ranking::lead_with(Side::Bid, lead.bid, quoted(page, at, Side::Bid, name));
-    let offer = ranking::lead_with(Side::Offer, lead.offer, quoted(page, at, Side::Offer, name));
+    let next_bid = quoted_beside(page, at, Side::Bid, name, lead.bid);
+    let bid = ranking::lead_with(Side::Bid, lead.bid, next_bid);
+    let next_offer = quoted_beside(page, at, Side::Offer, name, lead.offer);
+    let offer = ranking::lead_with(Side::Offer, lead.offer, next_offer);
     Leads { bid, offer }
 }
 
@@ -215,8 +218,9 @@ fn ranks(page: &[u8], letter: usize, side: Side, finra: Candidate) -> bool
     true
 }
 
-// A side of one letter's odd-lot levels more. They are read best first, so the first one is enough. Its price is looked at before the condition.
-fn with_first(
+// A side of a letter's odd-lot levels, as far as it matters beside the best so far. They are read best first, so the first one is enough. Its price is
+// looked at before the condition: most go no further. The comparison is left to the caller, so that both are small enough to be put in line.
+fn first_beside(
     page: &[u8],
     letter: usize,
     side: Side,
@@ -225,16 +229,16 @@ fn with_first(
 ) -> Candidate
     requires { ⌜ length (now page) ≡ pageLength ⌝ }
     requires { ⌜ ((ascii.A ≤ letter) × (letter ≤ ascii.Z)) × (letter ≡ ascii.S → ⊥) ⌝ }
-    ensures { λ r. ⌜ r ≡ choose side best (orNone (firstBy (now (page .entry)) side (live finra) letter)) ⌝ }
+    ensures { λ r. ⌜ choose side best r ≡ choose side best (orNone (firstBy (now (page .entry)) side (live finra) letter)) ⌝ }
 {
     let at = page::slot_at(letter) + Slot::LEVELS + page::in_levels(side);
     if ranking::is_behind(side, field::low64(page, at), best) {
-        return best;
+        return Candidate::NONE;
     }
     if ranks(page, letter, side, finra) {
-        return with_level(page, at, side, letter as u32, b' ', best);
+        return level(page, at, letter as u32);
     }
-    best
+    Candidate::NONE
 }
 
 // One letter more: its quote and its levels, both sides. S, the processor, has neither.
@@ -247,8 +251,10 @@ fn with_letter(page: &[u8], letter: usize, finra: Sides, tops: Tops) -> Tops
         return tops;
     }
     let national = with_national(page, letter, finra, tops.national);
-    let odd_bid = with_first(page, letter, Side::Bid, finra.bid, tops.odd.bid);
-    let odd_offer = with_first(page, letter, Side::Offer, finra.offer, tops.odd.offer);
+    let next_bid = first_beside(page, letter, Side::Bid, finra.bid, tops.odd.bid);
+    let odd_bid = ranking::choose(Side::Bid, tops.odd.bid, next_bid);
+    let next_offer = first_beside(page, letter, Side::Offer, finra.offer, tops.odd.offer);
+    let odd_offer = ranking::choose(Side::Offer, tops.odd.offer, next_offer);
     Tops {
         national,
         odd: Sides {

@@ -10,14 +10,13 @@ returns : tie.Need-returns
 returns c =
     let r = c .before .before .before in
     let a = r .before .before .args in
-    named-as _ _ (nationalName (reasonOf (a .lead .decided))) _ (national-name _ _ _ (a .lead .decided) (search needs) (search needs) (r .reason-byte .ensures)) (c .named .ensures)
+    named-as _ _ (nationalName (reasonOf (a .lead .decided))) _ (national-name _ _ _ (a .lead .decided) (search needs) (r .reason-byte .ensures)) (c .named .ensures)
 
 pub national-entry-spec : {M : Type 1} → statement M
 national-entry-spec =
     tie.close
     (tie.spec
     (λ c κs. search needs)
-    (λ c. search needs)
     (λ c. search needs)
     (λ c. search needs)
     (λ c. search needs)

@@ -43,5 +43,6 @@ quoted-spec =
     (λ c κs. search needs)
     (λ c. search needs)
     (λ c κs. search needs)
+    (λ c. search needs)
     returns-3
     returns-4)

@@ -8,9 +8,18 @@ returns : tie.Need-returns
 returns c = letter-none _ _ _ _ (c .if1 .taken)
 
 returns-2 : tie.Need-returns-2
-returns-2 c = letter-read _ _ _ _ _ _ _ (c .before .before .with-national .ensures) (c .before .with-first .ensures) (c .with-first2 .ensures)
+returns-2 c =
+    letter-read _ _ _ _ _ _ _ _ _ (c .before .before .before .before .with-national .ensures) (c .before .before .before .first-beside .ensures)
+    (c .before .first-beside2 .ensures) (c .before .before .choose .ensures) (c .choose2 .ensures)
 
 pub with-letter-spec : {M : Type 1} → statement M
 with-letter-spec =
     tie.close
-    (tie.spec returns (λ c κs. search needs) (λ c κs. search needs) (λ c κs. search needs) returns-2)
+    (tie.spec
+    returns
+    (λ c κs. search needs)
+    (λ c κs. search needs)
+    (λ c κs. search needs)
+    (λ c κs. search needs)
+    (λ c κs. search needs)
+    returns-2)

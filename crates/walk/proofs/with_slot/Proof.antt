@@ -8,7 +8,7 @@ returns : tie.Need-returns
 returns c =
     let a = c .before .before .before .before in
     let s = a .before .before in
-    slot-read _ _ _ _ _ _ _ _ (s .pre .1 .0) (s .pre .1 .1) (a .slot-at .ensures) (c .before .before .before .quoted .ensures) (c .before .quoted2 .ensures)
+    slot-read _ _ _ _ _ _ _ _ (s .pre .1 .0) (s .pre .1 .1) (a .slot-at .ensures) (c .before .before .before .quoted-beside .ensures) (c .before .quoted-beside2 .ensures)
     (c .before .before .lead-with .ensures) (c .lead-with2 .ensures)
 
 pub with-slot-spec : {M : Type 1} → statement M

@@ -1,8 +1,8 @@
--- `walk::with_first` meets its contract.
+-- `walk::first_beside` meets its contract.
 use Rattle.walk.proofs.StepLaws.{first-behind, first-yes, first-no}
 use borrow.Author.Needs.{needs}
-use Rattle.walk.proofs.with_first.Statement.{statement}
-use Rattle.walk.proofs.with_first.Tie as tie
+use Rattle.walk.proofs.first_beside.Statement.{statement}
+use Rattle.walk.proofs.first_beside.Tie as tie
 
 returns : tie.Need-returns
 returns c =
@@ -15,7 +15,7 @@ returns-2 c =
     let r = c .before .before in
     let o = r .before .before .before .before in
     let s = o .before .before .before in
-    first-yes _ _ _ _ _ _ _ (s .pre .1 .0 .0) (s .pre .1 .0 .1) (s .pre .1 .1) (o .before .slot-at .ensures) (o .in-levels .ensures .0) _ _ (r .ranks .ensures) (c .before .if2 .taken) (c .with-level .ensures)
+    first-yes _ _ _ _ _ _ _ (s .pre .1 .0 .0) (s .pre .1 .0 .1) (s .pre .1 .1) (o .before .slot-at .ensures) (o .in-levels .ensures .0) _ _ (r .ranks .ensures) (c .before .if2 .taken) (c .level .ensures)
 
 returns-3 : tie.Need-returns-3
 returns-3 c =
@@ -24,8 +24,8 @@ returns-3 c =
     let s = o .before .before .before in
     first-no _ _ _ _ _ _ _ (s .pre .1 .0 .0) (s .pre .1 .0 .1) (s .pre .1 .1) (o .before .slot-at .ensures) (o .in-levels .ensures .0) _ (r .ranks .ensures) (c .if2 .left)
 
-pub with-first-spec : {M : Type 1} → statement M
-with-first-spec =
+pub first-beside-spec : {M : Type 1} → statement M
+first-beside-spec =
     tie.close
     (tie.spec
     (λ c κs. search needs)
