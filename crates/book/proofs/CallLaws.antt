@@ -6,7 +6,7 @@ use mathlib.Core.Bool.{Bool, true, false, _&&_, cond}
 use mathlib.Core.List.{List, [], _∷_, _++_}
 use mathlib.Core.Option.{Option, none, some}
 use native.Mathlib.Omega.{arith}
-use lib.Dec.{eqb, ltb, lit≤}
+use lib.Dec.{eqb, ltb}
 use lib.ListN.{length, length-append}
 use borrow.Author.Tests.{lt-ltb, le-ltb, lt-leb, le-leb, eq-eqb, ne-eqb}
 use borrow.Rule.Slice.PartMut.{putMid}
@@ -40,7 +40,7 @@ use Rattle.opening.specs.Layout.{nAt, countAt, dayAt, openingLength, bookLength
 
 abbrev pub bareCall : Call → Bool
 bareCall (make n) = true
-bareCall (add s k) = true
+bareCall (add s k l) = true
 bareCall (openLine i l) = true
 bareCall startDay = true
 bareCall endDay = true
@@ -52,15 +52,19 @@ either : (t : Bool) (x : ℕ) → cond t (bare (cond t x 1)) (bare 1) ≡ bare (
 either true x = refl
 either false x = refl
 
-at-most : (t : Bool) (x y : ℕ) → x ≤ 12 → y ≤ 12 → cond t x y ≤ 12
-at-most true x y h k = h
-at-most false x y h k = k
+-- no number of these calls is 70
+abbrev pub NoGap : ℕ → Type 0
+NoGap k = k ≡ 70 → ⊥
+
+no-gap : (t : Bool) (x y : ℕ) → NoGap x → NoGap y → NoGap (cond t x y)
+no-gap true x y h k = h
+no-gap false x y h k = k
 
 module _ (b : List ℕ) where
   bare-answer : (c : Call) → bareCall c ≡ true → answerOn b c ≡ bare (numberOn b c)
   unfolding numberOn answerOf
   bare-answer (make n) p = refl
-  bare-answer (add s k) p = either (sound b) (numberOf (restIn b) (listedOf (pagesIn b)) (add s k))
+  bare-answer (add s k l) p = either (sound b) (numberOf (restIn b) (listedOf (pagesIn b)) (add s k l))
   bare-answer (openLine i l) p = either (sound b) (numberOf (restIn b) (listedOf (pagesIn b)) (openLine i l))
   bare-answer startDay p = either (sound b) (numberOf (restIn b) (listedOf (pagesIn b)) startDay)
   bare-answer endDay p = either (sound b) (numberOf (restIn b) (listedOf (pagesIn b)) endDay)
@@ -74,10 +78,10 @@ module _ (b : List ℕ) where
     unfolding call
     refused k e d = rw (bare-answer c plain, ← e, d)
 
-    -- 1 to 12
-    pub turned-down : (k : ℕ) → numberOn b c ≤ 12 → k ≡ numberOn b c → (k ≡ 0 → ⊥) → record { bytes = b; answer = bare k } ≡ call b c
+    -- any number but 0
+    pub turned-down : (k : ℕ) → NoGap (numberOn b c) → k ≡ numberOn b c → (k ≡ 0 → ⊥) → record { bytes = b; answer = bare k } ≡ call b c
     unfolding done
-    turned-down k m e z = refused k e (rw (ne-eqb k 0 z, ne-eqb k 70 (λ q. omega (arith, m, e, q))))
+    turned-down k m e z = refused k e (rw (ne-eqb k 0 z, ne-eqb k 70 (λ q. m (sym e ∙ q))))
 
     pub carried-out : (b′ : List ℕ) → 0 ≡ numberOn b c → b′ ≡ afterCall b c → record { bytes = b′; answer = bare 0 } ≡ call b c
     unfolding call done
@@ -125,13 +129,13 @@ module _ (b : List ℕ) where
   unfolding dayNumber numberOn numberOf restIn
   end-judged = refl
 
-  pub start-small : numberOn b startDay ≤ 12
+  pub start-small : NoGap (numberOn b startDay)
   unfolding numberOn numberOf
-  start-small = at-most (sound b) _ 1 (at-most (restIn b .day) 11 0 (lit≤ tt) (lit≤ tt)) (lit≤ tt)
+  start-small = no-gap (sound b) _ 1 (no-gap (restIn b .day) 11 0 (λ q. omega arith) (λ q. omega arith)) (λ q. omega arith)
 
-  pub end-small : numberOn b endDay ≤ 12
+  pub end-small : NoGap (numberOn b endDay)
   unfolding numberOn numberOf
-  end-small = at-most (sound b) _ 1 (at-most (restIn b .day) 0 12 (lit≤ tt) (lit≤ tt)) (lit≤ tt)
+  end-small = no-gap (sound b) _ 1 (no-gap (restIn b .day) 0 12 (λ q. omega arith) (λ q. omega arith)) (λ q. omega arith)
 
   module _ (day number : ℕ) where
     pub day-unsound : sound b ≡ false → 1 ≡ dayNumber b day number
@@ -194,9 +198,9 @@ module _ (b : List ℕ) where
         unfolding numberOn numberOf restIn
         open-new f = rw (s, below, g, is-closed (linesIn b i) e f)
 
-    pub open-small : numberOn b (openLine i l) ≤ 12
+    pub open-small : NoGap (numberOn b (openLine i l))
     unfolding numberOn numberOf
-    open-small = at-most (sound b) _ 1 (at-most (ltb i lineCount && letterGood l) _ 7 (at-most (isSome (restIn b .lines i)) 8 0 (lit≤ tt) (lit≤ tt)) (lit≤ tt)) (lit≤ tt)
+    open-small = no-gap (sound b) _ 1 (no-gap (ltb i lineCount && letterGood l) _ 7 (no-gap (isSome (restIn b .lines i)) 8 0 (λ q. omega arith) (λ q. omega arith)) (λ q. omega arith)) (λ q. omega arith)
 
     pub open-passed : (k : ℕ) → k ≡ numberOn b (openLine i l) → k ≡ 0 → (openingLength ≤ length b) × (i < lineCount)
     unfolding numberOn done
@@ -212,41 +216,46 @@ module _ (b : List ℕ) where
 
   -- ---- a symbol added
 
-  module _ (x : List ℕ) (k : ℕ) where
+  module _ (x : List ℕ) (k p : ℕ) where
     add-number : sound b ≡ true
-        → numberOn b (add x k) ≡ cond (symbolGood x) (cond (member lots k) (cond (isAt (pagePlace b (be x))) 4 (cond (ltb (countOf b) (symbolsOf b)) 0 5)) 6) 3
+        → numberOn b (add x k p) ≡ cond (symbolGood x) (cond (member lots k) (cond (letterGood p) (cond (isAt (pagePlace b (be x))) 4 (cond (ltb (countOf b) (symbolsOf b)) 0 5)) 75) 6) 3
     unfolding numberOn numberOf restIn
     add-number s = rw (s, listed-at b (be x), listed-length (symbolsOf b) b (sound-of b s))
 
     module _ (s : sound b ≡ true) where
-      pub add-symbol : symbolGood x ≡ false → 3 ≡ numberOn b (add x k)
+      pub add-symbol : symbolGood x ≡ false → 3 ≡ numberOn b (add x k p)
       add-symbol g = sym (add-number s ∙ rw g)
 
       module _ (g : symbolGood x ≡ true) where
-        pub add-lot : member lots k ≡ false → 6 ≡ numberOn b (add x k)
+        pub add-lot : member lots k ≡ false → 6 ≡ numberOn b (add x k p)
         add-lot m = sym (add-number s ∙ rw (g, m))
 
-        module _ (m : member lots k ≡ true) (r : Found) (e : r ≡ pagePlace b (be x)) where
-          pub add-listed : (j : ℕ) → r ≡ At j → 4 ≡ numberOn b (add x k)
-          add-listed j f = sym (add-number s ∙ rw (g, m, ← e, f))
+        pub add-letter : member lots k ≡ true → letterGood p ≡ false → 75 ≡ numberOn b (add x k p)
+        add-letter m l = sym (add-number s ∙ rw (g, m, l))
+
+        module _ (m : member lots k ≡ true) (l : letterGood p ≡ true) (r : Found) (e : r ≡ pagePlace b (be x)) where
+          pub add-listed : (j : ℕ) → r ≡ At j → 4 ≡ numberOn b (add x k p)
+          add-listed j f = sym (add-number s ∙ rw (g, m, l, ← e, f))
 
           module _ (f : r ≡ Nothing) (c n : ℕ) (ce : c ≡ field b countAt 1) (ne : n ≡ field b nAt 1) where
-            pub add-new : c < n → 0 ≡ numberOn b (add x k)
+            pub add-new : c < n → 0 ≡ numberOn b (add x k p)
             unfolding countOf symbolsOf
-            add-new h = sym (add-number s ∙ rw (g, m, ← e, f, ← ce, ← ne, lt-ltb c n h))
+            add-new h = sym (add-number s ∙ rw (g, m, l, ← e, f, ← ce, ← ne, lt-ltb c n h))
 
-            pub add-full : n ≤ c → 5 ≡ numberOn b (add x k)
+            pub add-full : n ≤ c → 5 ≡ numberOn b (add x k p)
             unfolding countOf symbolsOf
-            add-full h = sym (add-number s ∙ rw (g, m, ← e, f, ← ce, ← ne, le-ltb c n h))
+            add-full h = sym (add-number s ∙ rw (g, m, l, ← e, f, ← ce, ← ne, le-ltb c n h))
 
-    pub add-small : numberOn b (add x k) ≤ 12
+    pub add-small : NoGap (numberOn b (add x k p))
     unfolding numberOn numberOf
     add-small =
-        at-most (sound b) _ 1
-        (at-most (symbolGood x) _ 3
-        (at-most (member lots k) _ 6
-        (at-most (isListed (be x) (listedOf (pagesIn b))) 4 _ (lit≤ tt) (at-most (ltb (length (listedOf (pagesIn b))) (restIn b .n)) 0 5 (lit≤ tt) (lit≤ tt))) (lit≤ tt)) (lit≤ tt))
-        (lit≤ tt)
+        no-gap (sound b) _ 1
+        (no-gap (symbolGood x) _ 3
+        (no-gap (member lots k) _ 6
+        (no-gap (letterGood p) _ 75
+        (no-gap (isListed (be x) (listedOf (pagesIn b))) 4 _ (λ q. omega arith) (no-gap (ltb (length (listedOf (pagesIn b))) (restIn b .n)) 0 5 (λ q. omega arith) (λ q. omega arith)))
+        (λ q. omega arith)) (λ q. omega arith)) (λ q. omega arith))
+        (λ q. omega arith)
 
     -- what an add that passed its checks has room for
     pub record Addable (c : ℕ) : Type 0 where
@@ -255,13 +264,13 @@ module _ (b : List ℕ) where
       pub count : c < symbolsMost
       pub room : pageStart c + pageLength ≤ length b
 
-    pub add-passed : (n : ℕ) → n ≡ numberOn b (add x k) → n ≡ 0 → Addable (countOf b)
+    pub add-passed : (n : ℕ) → n ≡ numberOn b (add x k p) → n ≡ 0 → Addable (countOf b)
     unfolding numberOn done
     add-passed n e z =
-        let o : 0 ≡ numberOn b (add x k) = sym z ∙ e in
-        let s : sound b ≡ true = number-sound b (add x k) refl o in
-        let m : numberOf (restIn b) (listedOf (pagesIn b)) (add x k) ≡ 0 = sym (rw s at o) in
-        let a : AddDone (restIn b) (listedOf (pagesIn b)) x k = add-done (restIn b) (listedOf (pagesIn b)) x k (ap done m) in
+        let o : 0 ≡ numberOn b (add x k p) = sym z ∙ e in
+        let s : sound b ≡ true = number-sound b (add x k p) refl o in
+        let m : numberOf (restIn b) (listedOf (pagesIn b)) (add x k p) ≡ 0 = sym (rw s at o) in
+        let a : AddDone (restIn b) (listedOf (pagesIn b)) x k p = add-done (restIn b) (listedOf (pagesIn b)) x k p (ap done m) in
         let sd : Sound (symbolsOf b) b = sound-of b s in
         let f : countOf b < symbolsOf b = page-free (symbolsOf b) b sd (a .room) in
         record {
@@ -271,9 +280,9 @@ module _ (b : List ℕ) where
           room = omega (arith, sd .size, cell-order pageLength (countOf b) (symbolsOf b) f);
         }
 
-    pub add-after : (b1 p : List ℕ) (c : ℕ) → length x ≡ symbolLength → c ≡ field b countAt 1 → b1 ≡ splice b countAt (beBytes 1 (c + 1)) → p ≡ blankPage (x ++ (k ∷ []))
-        → putMid (pageStart c) ((pageStart c + pageLength) - pageStart c) b1 p ≡ afterCall b (add x k)
+    pub add-after : (b1 q : List ℕ) (c : ℕ) → length x ≡ symbolLength → c ≡ field b countAt 1 → b1 ≡ splice b countAt (beBytes 1 (c + 1)) → q ≡ blankPage (x ++ (k ∷ p ∷ []))
+        → putMid (pageStart c) ((pageStart c + pageLength) - pageStart c) b1 q ≡ afterCall b (add x k p)
     unfolding afterCall countOf
-    add-after b1 p c l ce e f =
-        let w : length p ≡ pageLength = ap length f ∙ length-blank (x ++ (k ∷ [])) (length-append x (k ∷ []) ∙ ap (λ (n : ℕ). n + 1) l) in
-        page-back b1 c p w ∙ rw (e, f, ce)
+    add-after b1 q c l ce e f =
+        let w : length q ≡ pageLength = ap length f ∙ length-blank (x ++ (k ∷ p ∷ [])) (length-append x (k ∷ p ∷ []) ∙ ap (λ (n : ℕ). n + 2) l) in
+        page-back b1 c q w ∙ rw (e, f, ce)

@@ -31,11 +31,11 @@ pub fn make(book: &mut [u8], n: u32) -> u8
     0
 }
 
-/// Adds a symbol with its round lot.
-pub fn add_symbol(book: &mut [u8], symbol: &[u8], lot: u32) -> u8
-    ensures { λ r. ⌜ record { bytes = now (book .exit); answer = bare r } ≡ call (now (book .entry)) (add (now (symbol .entry)) lot) ⌝ }
+/// Adds a symbol with its round lot and its primary letter, whose line may halt it.
+pub fn add_symbol(book: &mut [u8], symbol: &[u8], lot: u32, primary: u8) -> u8
+    ensures { λ r. ⌜ record { bytes = now (book .exit); answer = bare r } ≡ call (now (book .entry)) (add (now (symbol .entry)) lot primary) ⌝ }
 {
-    let number = judge_symbol(book, symbol, lot);
+    let number = judge_symbol(book, symbol, lot, primary);
     if number != 0 {
         return number;
     }
@@ -43,25 +43,28 @@ pub fn add_symbol(book: &mut [u8], symbol: &[u8], lot: u32) -> u8
     field::put8(book, Book::COUNT, count + 1);
     let a = Book::OPENING_LEN + (count as usize) * Book::PAGE_LEN;
     let e = a + Book::PAGE_LEN;
-    update::list(&mut book[a..e], symbol, lot as u8);
+    update::list(&mut book[a..e], symbol, lot as u8, primary);
     0
 }
 
-// Checks 1, 3, 6, 4, 5.
-fn judge_symbol(book: &[u8], symbol: &[u8], lot: u32) -> u8
-    ensures { λ r. ⌜ r ≡ numberOn (now (book .entry)) (add (now (symbol .entry)) lot) ⌝ }
+// Checks 1, 3, 6, 75, 4, 5.
+fn judge_symbol(book: &[u8], symbol: &[u8], lot: u32, primary: u8) -> u8
+    ensures { λ r. ⌜ r ≡ numberOn (now (book .entry)) (add (now (symbol .entry)) lot primary) ⌝ }
 {
     if opening::is_sound(book) {
         if text::is_symbol(symbol) {
             if is_lot(lot) {
-                let place = opening::find(book, symbol);
-                if let Found::At(_) = place {
-                    return 4;
+                if text::is_letter(primary) {
+                    let place = opening::find(book, symbol);
+                    if let Found::At(_) = place {
+                        return 4;
+                    }
+                    if field::get8(book, Book::COUNT) < field::get8(book, Book::N) {
+                        return 0;
+                    }
+                    return 5;
                 }
-                if field::get8(book, Book::COUNT) < field::get8(book, Book::N) {
-                    return 0;
-                }
-                return 5;
+                return 75;
             }
             return 6;
         }

@@ -2,7 +2,7 @@
 -- Assumes nothing.
 use Prim.Native.Nat.{ℕ, zero, suc, _<_}
 use mathlib.Core.Path.{_≡_, refl, sym, ap, _∙_}
-use mathlib.Core.Bool.{Bool, true, false, _&&_, cond}
+use mathlib.Core.Bool.{Bool, true, false, not, _&&_, cond}
 use mathlib.Core.List.{List, [], _∷_}
 use mathlib.Core.Option.{none}
 use native.Mathlib.Omega.{arith}
@@ -12,7 +12,8 @@ use borrow.Author.Tests.{ltb-true, leb-true, le-leb, eqb-true, eq-eqb, ne-eqb}
 use Rattle.field.specs.Field.{Bytes, be, beBytes}
 use Rattle.field.proofs.Laws.{beBytes-be}
 use Rattle.lists.specs.Lists.{at, member, isSome, between, upper, every}
-use Rattle.lists.proofs.Tests.{clash, and-true, Cut, equal, apart, cut}
+use Rattle.lists.proofs.Tests.{clash, and-true, upper-low, Cut, equal, apart, cut}
+use Rattle.field.specs.Ascii.{S}
 use Rattle.text.specs.Form.{isSpace, padded, symbolGood, letterGood, symbolLength}
 use Rattle.update.specs.Parts.{readingOf}
 use Rattle.update.proofs.TableLaws.{length-range}
@@ -63,7 +64,7 @@ module _ (n : ℕ) (b : List ℕ) (sd : Sound n b) where
   pub number-same : (c : Call) → numberOn b c ≡ numberOf (restIn b) (listedOf (pagesIn b)) c
   unfolding numberOn
   number-same (make k) = make-number k
-  number-same (add x k) = rw (sound-is n b sd)
+  number-same (add x k l) = rw (sound-is n b sd)
   number-same (openLine i l) = rw (sound-is n b sd)
   number-same startDay = rw (sound-is n b sd)
   number-same endDay = rw (sound-is n b sd)
@@ -98,23 +99,25 @@ unsound b c e m = rw (m, e)
 -- ---- what a call that is done was
 
 module _ (r : Rest) (ls : List Listed) where
-  pub record AddDone (s : List ℕ) (k : ℕ) : Type 0 where
+  pub record AddDone (s : List ℕ) (k l : ℕ) : Type 0 where
     pub good : symbolGood s ≡ true
     pub lot : member lots k ≡ true
+    pub letter : letterGood l ≡ true
     pub new : isListed (be s) ls ≡ false
     pub room : ltb (length ls) (r .n) ≡ true
 
-  pub add-done : (s : List ℕ) (k : ℕ) → done (numberOf r ls (add s k)) ≡ true → AddDone s k
+  pub add-done : (s : List ℕ) (k l : ℕ) → done (numberOf r ls (add s k l)) ≡ true → AddDone s k l
   unfolding done numberOf
-  add-done s k = go (symbolGood s) refl (member lots k) refl (isListed (be s) ls) refl (ltb (length ls) (r .n)) refl
+  add-done s k l = go (symbolGood s) refl (member lots k) refl (letterGood l) refl (isListed (be s) ls) refl (ltb (length ls) (r .n)) refl
     where
-      go : (a : Bool) → symbolGood s ≡ a → (b : Bool) → member lots k ≡ b → (c : Bool) → isListed (be s) ls ≡ c → (d : Bool) → ltb (length ls) (r .n) ≡ d
-          → done (cond a (cond b (cond c 4 (cond d 0 5)) 6) 3) ≡ true → AddDone s k
-      go true x true w false y true z e = record { good = x; lot = w; new = y; room = z }
-      go true x true w false y false z e = clash (sym e)
-      go true x true w true y d z e = clash (sym e)
-      go true x false w c y d z e = clash (sym e)
-      go false x b w c y d z e = clash (sym e)
+      go : (a : Bool) → symbolGood s ≡ a → (b : Bool) → member lots k ≡ b → (f : Bool) → letterGood l ≡ f → (c : Bool) → isListed (be s) ls ≡ c → (d : Bool) → ltb (length ls) (r .n) ≡ d
+          → done (cond a (cond b (cond f (cond c 4 (cond d 0 5)) 75) 6) 3) ≡ true → AddDone s k l
+      go true x true w true v false y true z e = record { good = x; lot = w; letter = v; new = y; room = z }
+      go true x true w true v false y false z e = clash (sym e)
+      go true x true w true v true y d z e = clash (sym e)
+      go true x true w false v c y d z e = clash (sym e)
+      go true x false w f v c y d z e = clash (sym e)
+      go false x b w f v c y d z e = clash (sym e)
 
   pub open-done : (i l : ℕ) → done (numberOf r ls (openLine i l)) ≡ true → (i < lineCount) × (letterGood l ≡ true)
   unfolding done numberOf
@@ -160,6 +163,9 @@ module _ (r : Rest) (ls : List Listed) where
 pub lot-fits : (k : ℕ) → member lots k ≡ true → k < 256
 unfolding every
 lot-fits k e = member-below lots 256 k refl e
+
+pub letter-fits : (l : ℕ) → letterGood l ≡ true → l < 256
+letter-fits l e = omega (arith, upper-low l (and-true (upper l) (not (eqb l S)) e .0) .1)
 
 spaces : (s : List ℕ) → every isSpace s ≡ true → Bytes s
 unfolding every

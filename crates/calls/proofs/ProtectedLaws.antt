@@ -1,4 +1,5 @@
--- T-06 on any bytes: what the call answers, and that the yes is what the page's national best, worked out anew, says about the price.
+-- T-06 on any bytes: what the call answers, and that the yes is what the page's national best, worked out anew, says about the price. With T-10:
+-- of a halted page that best is none.
 -- Assumes nothing.
 use Prim.Native.Nat.{ℕ}
 use mathlib.Core.Path.{_≡_, refl, sym, ap, _∙_}
@@ -10,10 +11,11 @@ use Rattle.lists.specs.Lists.{member}
 use Rattle.lists.specs.declared.Found.{Found}
 use Rattle.lists.specs.declared.Found.the-variants.{At, Nothing}
 use Rattle.text.specs.Form.{symbolGood}
-use Rattle.page.specs.Page.{pageEntries}
+use Rattle.page.specs.Page.{haltedIn, publishedEntries}
 use Rattle.protection.specs.declared.Protection.{Protection}
-use Rattle.protection.specs.Protection.{answersYes, protection, pageCandidates}
-use Rattle.protection.proofs.ProtectionLaws.{page-best, First, protection-first}
+use Rattle.protection.specs.Protection.{answersYes, protection, pageCandidates, pageTrading}
+use Rattle.protection.proofs.ProtectionLaws.{published-best, First, protection-first}
+use Rattle.protection.proofs.HaltLaws.{look-halted}
 use Rattle.update.specs.Parts.{readingOf}
 use Rattle.update.proofs.SearchLaws.{foundBy, isAt}
 use Rattle.opening.specs.Opening.{sound, restIn, pageAt, pagesIn, pagePlace}
@@ -28,9 +30,9 @@ module _ (b x : List ℕ) (m v : ℕ) where
 
   -- what a symbol's page answers
   abbrev pub pageAnswer : ℕ → Protection
-  pageAnswer k = protection (askedSide m) v (pageCandidates (pageAt b k) (askedSide m))
+  pageAnswer k = protection (askedSide m) v (pageTrading (pageAt b k) (askedSide m))
 
-  candidates-at : (k : ℕ) → pagePlace b (be x) ≡ At k → candidatesOn b (be x) ≡ pageCandidates (pageAt b k)
+  candidates-at : (k : ℕ) → pagePlace b (be x) ≡ At k → candidatesOn b (be x) ≡ pageTrading (pageAt b k)
   unfolding readingOf pageCandidates
   candidates-at k e = ap candidatesIn (find-page b (be x) ∙ ap (foundBy (λ j. some (readingOf (pageAt b j))) none) e)
 
@@ -76,12 +78,17 @@ module _ (b x : List ℕ) (m v : ℕ) where
 
   module _ (k : ℕ) (s : sound b ≡ true) (g : symbolGood x ≡ true) (e : pagePlace b (be x) ≡ At k) (h : member sideMarks m ≡ true) where
     -- yes exactly if the national best, worked out anew from the page, reaches the price
-    pub protected-best : call b asked .answer .found ≡ cond (answersYes (askedSide m) v (pageEntries (pageAt b k) .national (askedSide m))) 1 0
-    protected-best = ap (λ (o : Outcome). o .answer .found) (sym (protected-told k s g e h)) ∙ ap (λ (t : Bool). cond t 1 0) (page-best (askedSide m) v (pageAt b k))
+    pub protected-best : call b asked .answer .found ≡ cond (answersYes (askedSide m) v (publishedEntries (pageAt b k) .national (askedSide m))) 1 0
+    protected-best = ap (λ (o : Outcome). o .answer .found) (sym (protected-told k s g e h)) ∙ ap (λ (t : Bool). cond t 1 0) (published-best (askedSide m) v (pageAt b k))
 
     -- the letters looked at: the position of the first that answers yes, or 26
     pub protected-looked : call b asked .answer .amount ≡ pageAnswer k .looked
     protected-looked = ap (λ (o : Outcome). o .answer .amount) (sym (protected-told k s g e h))
 
-    pub protected-first : First (askedSide m) v (pageCandidates (pageAt b k) (askedSide m)) (pageAnswer k)
-    protected-first = protection-first (askedSide m) v (pageCandidates (pageAt b k) (askedSide m))
+    pub protected-first : First (askedSide m) v (pageTrading (pageAt b k) (askedSide m)) (pageAnswer k)
+    protected-first = protection-first (askedSide m) v (pageTrading (pageAt b k) (askedSide m))
+
+    -- T-10: "T-06 says no with 26"
+    pub protected-halted : haltedIn (pageAt b k) ≡ true → record { bytes = b; answer = protectionTold 0 (record { yes = false; looked = 26 }) } ≡ call b asked
+    protected-halted t =
+        ap (λ (a : Protection). record { bytes = b; answer = protectionTold 0 a }) (look-halted (pageAt b k) (askedSide m) v t) ∙ protected-told k s g e h

@@ -23,7 +23,7 @@ use Rattle.opening.proofs.LineLaws.{line-upper, line-open, lined-sound, lined-b
 use Rattle.opening.proofs.DayLaws.{dayed-sound, dayed-bytes, relined-sound, relined-bytes}
 use Rattle.opening.proofs.FreshLaws.{fresh-sound, fresh-bytes, fresh-length}
 use Rattle.opening.proofs.AddLaws.{added-sound, added-bytes}
-use Rattle.calls.proofs.NumberLaws.{number-same, make-done, page-free, unsound, AddDone, add-done, open-done, take-done, lot-fits, symbol-eleven, symbol-bytes}
+use Rattle.calls.proofs.NumberLaws.{number-same, make-done, page-free, unsound, AddDone, add-done, open-done, take-done, lot-fits, letter-fits, symbol-eleven, symbol-bytes}
 use Rattle.work.proofs.KeptLaws.{messages-kept}
 use Rattle.opening.specs.Layout.{lineCount, bookLength, symbolsMost}
 use Rattle.text.specs.Form.{symbolLength}
@@ -50,11 +50,11 @@ module _ (n : ℕ) (b : List ℕ) (sd : Sound n b) where
   after-stays (make k) d =
       let e : k ≡ n = make-done n b sd k (rw (number-same n b sd (make k)) at d) in
       rw e (record { sound = fresh-sound n (sd .low) (sd .up); bytes = λ y. fresh-bytes n (sd .up) })
-  after-stays (add x l) d =
-      let g : AddDone (restIn b) (listedOf (pagesIn b)) x l = add-done (restIn b) (listedOf (pagesIn b)) x l (rw (number-same n b sd (add x l)) at d) in
+  after-stays (add x l m) d =
+      let g : AddDone (restIn b) (listedOf (pagesIn b)) x l m = add-done (restIn b) (listedOf (pagesIn b)) x l m (rw (number-same n b sd (add x l m)) at d) in
       let w : length x ≡ symbolLength = symbol-eleven x (g .good) in
       let r : countOf b < n = page-free n b sd (g .room) in
-      record { sound = added-sound n b sd x l w r; bytes = λ y. added-bytes n b sd x l w r y (symbol-bytes x (g .good)) (lot-fits l (g .lot)) }
+      record { sound = added-sound n b sd x l m w r; bytes = λ y. added-bytes n b sd x l m w r y (symbol-bytes x (g .good)) (lot-fits l (g .lot)) (letter-fits m (g .letter)) }
   after-stays (openLine i l) d =
       let g = open-done (restIn b) (listedOf (pagesIn b)) i l (rw (number-same n b sd (openLine i l)) at d) in
       let x : Line = record { letter = l; expected = 1; count = 0 } in
@@ -105,7 +105,7 @@ other-length b c m = go (sound b) refl
 -- no call changes the length
 pub call-length : (b : List ℕ) (c : Call) → length (call b c .bytes) ≡ length b
 call-length b (make n) = make-length b n
-call-length b (add s k) = other-length b (add s k) refl
+call-length b (add s k l) = other-length b (add s k l) refl
 call-length b (openLine i l) = other-length b (openLine i l) refl
 call-length b startDay = other-length b startDay refl
 call-length b endDay = other-length b endDay refl

@@ -15,7 +15,7 @@ use Rattle.text.specs.Form.{symbolGood, letterGood}
 use Rattle.ranking.specs.declared.Side.{Side}
 use Rattle.ranking.specs.declared.Side.the-variants.{Bid, Offer}
 use Rattle.ranking.specs.declared.Candidate.{Candidate}
-use Rattle.entries.specs.Entries.{candidates}
+use Rattle.entries.specs.Entries.{candidates, tradingCandidates}
 use Rattle.page.specs.Page.{occupied}
 use Rattle.protection.specs.Protection.{protection}
 use Rattle.protection.specs.declared.Protection.{Protection}
@@ -32,8 +32,8 @@ use Rattle.line.specs.Line.{onLine, done, gapTold, advanced}
 -- the raw arguments of each call
 pub data Call : Type 0 where
   make : ℕ → Call
-  -- the symbol's bytes, the round lot
-  add : List ℕ → ℕ → Call
+  -- the symbol's bytes, the round lot; T-10: the primary letter
+  add : List ℕ → ℕ → ℕ → Call
   -- line, letter
   openLine : ℕ → ℕ → Call
   startDay : Call
@@ -60,12 +60,14 @@ sideMarks = B ∷ S ∷ []
 
 unfoldable pub numberOf : Rest → List Listed → Call → ℕ
 numberOf r ls (make n) = cond (eqb n (r .n)) 0 2
-numberOf r ls (add s k) =
+-- T-10: "75 primary letter bad, after 6"
+numberOf r ls (add s k l) =
     cond (symbolGood s)
     (cond (member lots k)
+    (cond (letterGood l)
     (cond (isListed (be s) ls) 4
     (cond (ltb (length ls) (r .n)) 0 5))
-    6) 3
+    75) 6) 3
 numberOf r ls (openLine i l) = cond (ltb i lineCount && letterGood l) (cond (isSome (r .lines i)) 8 0) 7
 numberOf r ls startDay = cond (r .day) 11 0
 numberOf r ls endDay = cond (r .day) 0 12
@@ -143,7 +145,7 @@ letterOf (some x) = x .letter
 -- Book and reviewer both answer through this
 unfoldable pub answerOf : Rest → (ℕ → List (List ℕ) → List Told) → (ℕ → List ℕ) → (ℕ → Side → ℕ → Option Candidate) → ℕ → Call → Answer
 answerOf r ts p cs k (make n) = bare k
-answerOf r ts p cs k (add s l) = bare k
+answerOf r ts p cs k (add s n l) = bare k
 answerOf r ts p cs k (openLine i l) = bare k
 answerOf r ts p cs k startDay = bare k
 answerOf r ts p cs k endDay = bare k
@@ -160,10 +162,10 @@ entriesIn (some r) = r .entries
 abbrev pub publishedOn : List ℕ → ℕ → List ℕ
 publishedOn b s = entriesIn (findReading s (pagesIn b))
 
--- worked out from the page's quotes, whatever entries it keeps
+-- worked out from the page's quotes, whatever entries it keeps; none while it is halted
 abbrev pub candidatesIn : Option Reading → Side → ℕ → Option Candidate
 candidatesIn none = λ s l. none
-candidatesIn (some r) = candidates (r .quotes) (occupied (r .cells))
+candidatesIn (some r) = tradingCandidates (r .halted) (candidates (r .quotes) (occupied (r .cells)))
 
 abbrev pub candidatesOn : List ℕ → ℕ → Side → ℕ → Option Candidate
 candidatesOn b s = candidatesIn (findReading s (pagesIn b))
@@ -176,7 +178,7 @@ advanceOn i k (some r) b = splice b (lineAt i) (lineBytes (advanced r k))
 -- the bytes after a call that is done
 unfoldable pub afterCall : List ℕ → Call → List ℕ
 afterCall b (make n) = freshBytes n
-afterCall b (add s l) = setPage (splice b countAt (beBytes 1 (countOf b + 1))) (countOf b) (blankPage (s ++ (l ∷ [])))
+afterCall b (add s k l) = setPage (splice b countAt (beBytes 1 (countOf b + 1))) (countOf b) (blankPage (s ++ (k ∷ l ∷ [])))
 afterCall b (openLine i l) = splice b (lineAt i) (lineBytes (record { letter = l; expected = 1; count = 0 }))
 afterCall b startDay = splice (restartLines 0 lineCount (eachPage emptied 0 (symbolsOf b) b)) dayAt (1 ∷ [])
 afterCall b endDay = splice b dayAt (0 ∷ [])
@@ -191,7 +193,7 @@ makeGood b n = leb 1 n && (leb n symbolsMost && eqb (length b) (bookLength n))
 -- 1: "every other call: the opening or length isn't a book's"
 abbrev pub isMake : Call → Bool
 isMake (make n) = true
-isMake (add s k) = false
+isMake (add s k l) = false
 isMake (openLine i l) = false
 isMake startDay = false
 isMake endDay = false
@@ -201,7 +203,7 @@ isMake (protected s m x) = false
 
 abbrev pub madeNumber : List ℕ → Call → ℕ
 madeNumber b (make n) = cond (makeGood b n) 0 2
-madeNumber b (add s k) = 0
+madeNumber b (add s k l) = 0
 madeNumber b (openLine i l) = 0
 madeNumber b startDay = 0
 madeNumber b endDay = 0

@@ -14,13 +14,9 @@ use Rattle.ranking.specs.Ranking.{better, best, whyAhead}
 use Rattle.quote.specs.declared.Quote.{Quote}
 use Rattle.quote.specs.Quote.{noQuote, counts, candidateOf}
 use Rattle.levels.specs.Levels.{noLevels, sideLevels}
-use Rattle.entries.specs.Entries.{Entries, letters, finraBest, letterCandidate, nationalBest, nationalReason, oddCandidate, ranks, letterLevels, oddBest, entriesBy, entriesOf}
+use Rattle.entries.specs.Entries.{letters, finraBest, letterCandidate, nationalBest, nationalReason, oddCandidate, ranks, letterLevels, oddBest, entriesBy, entriesOf, noBest}
 use Rattle.entries.specs.Publication.{noEntries, publication}
 use Rattle.field.specs.Ascii.{D, S}
-
--- six entries of none
-abbrev pub noBest : Entries
-noBest = record { national = λ s. none; reason = λ s. none; finra = λ s. none; odd = λ s. none }
 
 pub none-published : publication noBest ≡ noEntries
 unfolding publication noEntries

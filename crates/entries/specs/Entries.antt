@@ -91,3 +91,15 @@ entriesBy quotes fb levels =
 
 unfoldable pub entriesOf : (ℕ → Quote) → List Maker → (ℕ → Standing) → Entries
 entriesOf quotes makers levels = entriesBy quotes (finraBest makers) levels
+
+-- ---- document 02, T-10: "While a symbol is halted all six entries are worked out as none and T-06 says no with 26"
+
+abbrev pub noBest : Entries
+noBest = record { national = λ s. none; reason = λ s. none; finra = λ s. none; odd = λ s. none }
+
+unfoldable pub unlessHalted : Bool → Entries → Entries
+unlessHalted halted e = cond halted noBest e
+
+-- the candidates that T-06 looks at
+unfoldable pub tradingCandidates : Bool → (Side → ℕ → Option Candidate) → Side → ℕ → Option Candidate
+tradingCandidates halted cs = cond halted (λ s l. none) cs

@@ -16,7 +16,7 @@ use Rattle.message.specs.declared.Kind.{Kind}
 use Rattle.message.specs.declared.Kind.the-variants as kind
 use Rattle.message.specs.declared.Message.{Message}
 use Rattle.message.specs.declared.Message.the-variants as says
-use Rattle.message.specs.Message.{kindOf, quoteAt, makerName, roundLotOdd, oddLotOdd, oddLength, roundConditions, makerConditions, quoteFault, isD, testBytes, readInquiry, readTest, readFinra, readRoundLot, misplaced, readOddLot, readMaker, readBy, isUnknown, messageOf, Known, codeBy, codeOf, Part, roundPart, oddPart, makerPart, finraPart, roundPartOf, oddPartOf, makerPartOf, partlyBy, partlyTaken, wholeBy, partsOf, headerLength, testLength, makerLength, symbolText, makerText, headerZero}
+use Rattle.message.specs.Message.{kindOf, quoteAt, makerName, roundLotOdd, oddLotOdd, oddLength, roundConditions, makerConditions, quoteFault, isD, testBytes, readInquiry, readTest, readFinra, readRoundLot, misplaced, readOddLot, readMaker, statusOf, readStatus, readBy, isUnknown, messageOf, Known, codeBy, codeOf, Part, roundPart, oddPart, makerPart, finraPart, statusPart, roundPartOf, oddPartOf, makerPartOf, statusPartOf, partlyBy, partlyTaken, wholeBy, partsOf, headerLength, testLength, makerLength, statusLength, symbolText, makerText, headerZero}
 use Rattle.field.specs.Ascii.{L, R}
 
 -- ---- what a message says
@@ -31,6 +31,7 @@ pub data Spoken (letter : ℕ) (m : List ℕ) : Message → Type 0 where
   odd : {f : Bool} → at m 2 ≡ letter → kindOf m ≡ kind.OddLot f → length m ≡ oddLength (oddLotOdd m) → Spoken letter m (says.OddLot (oddLotOdd m))
   maker : kindOf m ≡ kind.Maker → length m ≡ makerLength
       → Spoken letter m (says.Maker (quoteFault makerConditions (quoteAt m) (cond (makerGood (makerText m)) 0 48)) (makerName m) (quoteAt m))
+  status : kindOf m ≡ kind.Status → length m ≡ statusLength → Spoken letter m (says.Status (statusOf m))
 
 module _ (letter : ℕ) (m : List ℕ) where
   -- a check that refuses with k
@@ -55,7 +56,7 @@ module _ (letter : ℕ) (m : List ℕ) where
   symbol x s = check (symbolGood (symbolText m)) x 45 (omega arith) (omega arith) s
 
   read-spoken : at m 2 ≡ letter → (k : Kind) → kindOf m ≡ k → Spoken letter m (readBy letter m k)
-  unfolding readInquiry readTest readFinra readRoundLot readOddLot readMaker member
+  unfolding readInquiry readTest readFinra readRoundLot readOddLot readMaker readStatus member
   read-spoken l kind.Inquiry e = form headerLength (headerZero m) _ (λ z. idle (rw e))
   read-spoken l kind.Close e = form headerLength (headerZero m) _ (λ z. check (isD letter) _ 44 (omega arith) (omega arith) (finra L refl (rw e)))
   read-spoken l kind.Open e = form headerLength (headerZero m) _ (λ z. check (isD letter) _ 44 (omega arith) (omega arith) (finra R refl (rw e)))
@@ -65,6 +66,7 @@ module _ (letter : ℕ) (m : List ℕ) where
   read-spoken l (kind.OddLot f) e =
       form (oddLength (oddLotOdd m)) (headerZero m && (eqb (at m 34) 0 && eqb (at m 35) 0)) _ (λ z. check-not (misplaced f letter) _ 44 (omega arith) (omega arith) (symbol _ (odd l e z)))
   read-spoken l kind.Maker e = form makerLength (headerZero m) _ (λ z. check (isD letter) _ 44 (omega arith) (omega arith) (symbol _ (maker e z)))
+  read-spoken l kind.Status e = form statusLength (headerZero m) _ (λ z. symbol _ (status e z))
   read-spoken l kind.Unknown e = refused 40 (omega arith) (omega arith)
 
   pub spoken : Spoken letter m (messageOf letter m)
@@ -83,6 +85,7 @@ Shaped (roundPart s l q) = upper l ≡ true
 Shaped (oddPart s l o) = upper l ≡ true
 Shaped (makerPart s m q) = Unit {0}
 Shaped (finraPart c) = Unit {0}
+Shaped (statusPart s x) = Unit {0}
 
 abbrev pub AllShaped : List Part → Type 0
 AllShaped [] = Unit {0}
@@ -97,6 +100,7 @@ partly-no c kind.Test e = refl
 partly-no c kind.RoundLot e = e
 partly-no c (kind.OddLot f) e = refl
 partly-no c kind.Maker e = refl
+partly-no c kind.Status e = refl
 partly-no c kind.Unknown e = refl
 
 module _ (c : ℕ) (m : List ℕ) where
@@ -115,6 +119,10 @@ module _ (c : ℕ) (m : List ℕ) where
   pub parts-maker : kindOf m ≡ kind.Maker → partsOf c m ≡ cond (eqb c 0) (makerPartOf m ∷ []) []
   unfolding partsOf partlyTaken
   parts-maker k = rw k
+
+  pub parts-status : kindOf m ≡ kind.Status → partsOf c m ≡ cond (eqb c 0) (statusPartOf m ∷ []) []
+  unfolding partsOf partlyTaken
+  parts-status k = rw k
 
 pub parts-whole : (m : List ℕ) → partsOf 0 m ≡ wholeBy m (kindOf m)
 unfolding partsOf
@@ -143,6 +151,11 @@ module _ (e : Known) (letter : ℕ) (m : List ℕ) (u : upper letter ≡ true) w
   shaped-by c x q (maker k z) = rw (parts-maker c m k) (go (eqb c 0))
     where
       go : (s : Bool) → AllShaped (cond s (makerPartOf m ∷ []) [])
+      go true = (tt, tt)
+      go false = tt
+  shaped-by c x q (status k z) = rw (parts-status c m k) (go (eqb c 0))
+    where
+      go : (s : Bool) → AllShaped (cond s (statusPartOf m ∷ []) [])
       go true = (tt, tt)
       go false = tt
 

@@ -1,4 +1,4 @@
--- A message's bytes: its layout, what it says, and its code (document 01, "Messages" and numbers 40 to 49, 60 to 64).
+-- A message's bytes: its layout, what it says, and its code (document 01, "Messages" and numbers 40 to 49, 60 to 64; document 02, T-10: 76, 77).
 -- Assumes nothing.
 use Prim.Native.Nat.{ℕ, _+_, _*_}
 use mathlib.Core.Bool.{Bool, true, false, not, _&&_, cond}
@@ -7,7 +7,7 @@ use lib.Dec.{ltb, leb, eqb}
 use lib.ListN.{length, drop}
 use Rattle.quote.specs.Quote.{emptyQuote}
 use Rattle.field.specs.Field.{part, field}
-use Rattle.field.specs.Ascii.{A, B, C, D, E, F, H, I, K, L, M, N, O, Q, R, T, U, W, five, space}
+use Rattle.field.specs.Ascii.{A, B, C, D, E, F, H, I, K, L, M, N, O, Q, R, S, T, U, W, five, space}
 use Rattle.lists.specs.Lists.{at, member, all}
 use Rattle.quote.specs.declared.Level.{Level}
 use Rattle.quote.specs.declared.Quote.{Quote}
@@ -21,7 +21,7 @@ use Rattle.message.specs.declared.Message.the-variants as says
 
 -- ---- layout
 
--- the bytes of a header, of C 5, of a round part and of Q U
+-- the bytes of a header, of C 5, of a round part, of Q U and of T S
 abbrev pub headerLength : ℕ
 headerLength = 20
 
@@ -33,6 +33,9 @@ roundLength = 56
 
 abbrev pub makerLength : ℕ
 makerLength = roundLength + nameLength
+
+abbrev pub statusLength : ℕ
+statusLength = 32
 
 -- "Header: 0 category, 1 type, 2 letter, 3 zero, 4-11 timestamp, 12-19 reference number (not read)"
 unfoldable pub controlKind : ℕ → Kind
@@ -50,9 +53,16 @@ quoteKind t =
     (cond (eqb t T) (kind.OddLot true)
     (cond (eqb t U) kind.Maker kind.Unknown)))
 
--- C I, C T, C C, C O, C 5, Q K, Q M, Q T, Q U
+-- document 02, T-10: "Trading Status messages (category T type S ..)"
+unfoldable pub statusKind : ℕ → Kind
+statusKind t = cond (eqb t S) kind.Status kind.Unknown
+
+-- C I, C T, C C, C O, C 5, Q K, Q M, Q T, Q U, T S
 unfoldable pub kindOf : List ℕ → Kind
-kindOf m = cond (eqb (at m 0) C) (controlKind (at m 1)) (cond (eqb (at m 0) Q) (quoteKind (at m 1)) kind.Unknown)
+kindOf m =
+    cond (eqb (at m 0) C) (controlKind (at m 1))
+    (cond (eqb (at m 0) Q) (quoteKind (at m 1))
+    (cond (eqb (at m 0) T) (statusKind (at m 1)) kind.Unknown))
 
 unfoldable pub timeOf : List ℕ → ℕ
 timeOf m = field m 4 8
@@ -78,6 +88,13 @@ makerText m = part m roundLength nameLength
 
 unfoldable pub makerName : List ℕ → ℕ
 makerName m = field m roundLength nameLength
+
+-- T-10: "31 status H for halted or T for trading"
+abbrev pub statusOf : List ℕ → ℕ
+statusOf m = at m 31
+
+abbrev pub statuses : List ℕ
+statuses = H ∷ T ∷ []
 
 -- the clear mark at i, the counts behind it, the items from j on
 unfoldable pub oddAt : List ℕ → ℕ → ℕ → OddPart
@@ -187,6 +204,10 @@ readMaker letter m =
     (checkedSymbol m (says.Maker (quoteFault makerConditions (quoteAt m) (cond (makerGood (makerText m)) 0 48)) (makerName m) (quoteAt m)))
     (says.Refused 44))
 
+-- T-10: "header, 20-30 symbol, 31 status .., 32 bytes in all"; on any line (44 does not name it)
+unfoldable pub readStatus : List ℕ → Message
+readStatus m = checkedForm (eqb (length m) statusLength) (headerZero m) (checkedSymbol m (says.Status (statusOf m)))
+
 abbrev pub readBy : ℕ → List ℕ → Kind → Message
 readBy letter m kind.Inquiry = readInquiry m
 readBy letter m kind.Close = readFinra L letter m
@@ -195,6 +216,7 @@ readBy letter m kind.Test = readTest m
 readBy letter m kind.RoundLot = readRoundLot letter m
 readBy letter m (kind.OddLot finra) = readOddLot finra letter m
 readBy letter m kind.Maker = readMaker letter m
+readBy letter m kind.Status = readStatus m
 readBy letter m kind.Unknown = says.Refused 40
 
 abbrev pub isUnknown : Kind → Bool
@@ -205,6 +227,7 @@ isUnknown kind.Test = false
 isUnknown kind.RoundLot = false
 isUnknown (kind.OddLot finra) = false
 isUnknown kind.Maker = false
+isUnknown kind.Status = false
 isUnknown kind.Unknown = true
 
 -- "40 unknown category and type. 41 letter not the line's", then by the type
@@ -213,10 +236,12 @@ messageOf letter m = cond (isUnknown (kindOf m)) (says.Refused 40) (cond (eqb (a
 
 -- ---- the code, with what stands of the symbol
 
--- what stands of the symbol that a message names: whether it is listed, its round lot, its makers (how many, and which), and each letter's levels
+-- what stands of the symbol that a message names: whether it is listed, its round lot, its primary letter, its makers (how many, and which), and
+-- each letter's levels
 pub record Known : Type 0 where
   pub listed : Bool
   pub lot : ℕ
+  pub primary : ℕ
   pub count : ℕ
   pub stands : ℕ → Bool
   pub levels : ℕ → Standing
@@ -225,7 +250,11 @@ pub record Known : Type 0 where
 unfoldable pub makerCode : Known → ℕ → Quote → ℕ
 makerCode e name q = cond (emptyQuote q) 0 (cond (e .stands name) 0 (cond (ltb (e .count) 16) 0 49))
 
--- 45 not listed; then the faults that the message told; then 49 or the odd part
+-- T-10: "per message after 45, 76 line's letter not the primary, then 77 status"
+unfoldable pub statusCode : ℕ → ℕ → ℕ → ℕ
+statusCode primary letter status = cond (eqb primary letter) (cond (member statuses status) 0 77) 76
+
+-- 45 not listed; then the faults that the message told; then 49 or the odd part, or 76 and 77
 abbrev pub codeBy : Known → ℕ → List ℕ → Message → ℕ
 codeBy e letter m (says.Refused code) = code
 codeBy e letter m says.Idle = 0
@@ -233,12 +262,13 @@ codeBy e letter m (says.Finra condition) = 0
 codeBy e letter m (says.RoundLot fault q o) = cond (e .listed) (cond (eqb fault 0) (oddCode (e .lot) (e .levels letter) (oddOf m o)) fault) 45
 codeBy e letter m (says.OddLot o) = cond (e .listed) (oddCode (e .lot) (e .levels letter) (oddOf m o)) 45
 codeBy e letter m (says.Maker fault name q) = cond (e .listed) (cond (eqb fault 0) (makerCode e name q) fault) 45
+codeBy e letter m (says.Status status) = cond (e .listed) (statusCode (e .primary) letter status) 45
 
 -- document 01's code of a message on a line with that letter
 unfoldable pub codeOf : Known → ℕ → List ℕ → ℕ
 codeOf e letter m = codeBy e letter m (messageOf letter m)
 
--- ---- its parts: "Quote parts are round parts, odd parts and Q U"; FINRA Close and Open beside them
+-- ---- its parts: "Quote parts are round parts, odd parts and Q U"; FINRA Close and Open and, by T-10, a status beside them
 
 pub data Part : Type 0 where
   -- symbol, letter, quote
@@ -249,6 +279,8 @@ pub data Part : Type 0 where
   makerPart : ℕ → ℕ → Quote → Part
   -- condition
   finraPart : ℕ → Part
+  -- symbol, status
+  statusPart : ℕ → ℕ → Part
 
 abbrev pub roundPartOf : List ℕ → Part
 roundPartOf m = roundPart (symbolOf m) (at m 2) (quoteAt m)
@@ -259,6 +291,9 @@ oddPartOf m o = oddPart (symbolOf m) (at m 2) (oddOf m o)
 abbrev pub makerPartOf : List ℕ → Part
 makerPartOf m = makerPart (symbolOf m) (makerName m) (quoteAt m)
 
+abbrev pub statusPartOf : List ℕ → Part
+statusPartOf m = statusPart (symbolOf m) (statusOf m)
+
 -- "Q K with 60 to 64" is partly accepted
 abbrev pub partlyBy : ℕ → Kind → Bool
 partlyBy c kind.Inquiry = false
@@ -268,6 +303,7 @@ partlyBy c kind.Test = false
 partlyBy c kind.RoundLot = leb 60 c
 partlyBy c (kind.OddLot finra) = false
 partlyBy c kind.Maker = false
+partlyBy c kind.Status = false
 partlyBy c kind.Unknown = false
 
 unfoldable pub partlyTaken : ℕ → List ℕ → Bool
@@ -282,6 +318,7 @@ wholeBy m kind.Test = []
 wholeBy m kind.RoundLot = roundPartOf m ∷ oddPartOf m (roundLotOdd m) ∷ []
 wholeBy m (kind.OddLot finra) = oddPartOf m (oddLotOdd m) ∷ []
 wholeBy m kind.Maker = makerPartOf m ∷ []
+wholeBy m kind.Status = statusPartOf m ∷ []
 wholeBy m kind.Unknown = []
 
 -- with code 0 the whole; of a Q K with 60 to 64 the round part; else nothing

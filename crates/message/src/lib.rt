@@ -5,7 +5,7 @@ ghost use Prim.Native.Nat.{_+_, _*_, _≤_, _<_};
 ghost use lib.ListN.{length};
 ghost use Rattle.lists.specs.Lists.{at, member};
 ghost use Rattle.text.specs.Form.{makerGood};
-ghost use Rattle.message.specs.Message.{controlKind, quoteKind, kindOf, levelAt, quoteAt, oddAt, roundConditions, makerConditions, sideBad, priceFault, quoteFault, testBytes, readInquiry, readTest, readFinra, readRoundLot, misplaced, readOddLot, readMaker, messageOf};
+ghost use Rattle.message.specs.Message.{controlKind, quoteKind, kindOf, levelAt, quoteAt, oddAt, roundConditions, makerConditions, sideBad, priceFault, quoteFault, testBytes, readInquiry, readTest, readFinra, readRoundLot, misplaced, readOddLot, readMaker, statusKind, statuses, readStatus, messageOf};
 ghost use Rattle.levels.specs.Levels.{itemLength};
 use levels::Item;
 use quote::Level;
@@ -56,6 +56,10 @@ impl Layout {
     pub const MAKER: usize = 56;
 
     pub const MAKER_LEN: usize = Layout::MAKER + Maker::LEN;
+    /// T S.
+    pub const STATUS: usize = Layout::SYMBOL + Symbol::LEN;
+
+    pub const STATUS_LEN: usize = Layout::STATUS + 1;
 }
 
 /// The type of a message. C I and C T are alike.
@@ -68,6 +72,8 @@ pub enum Kind {
     /// Q M, or with the same layout FINRA's Q T.
     OddLot { finra: bool },
     Maker,
+    /// T S.
+    Status,
     Unknown,
 }
 
@@ -99,6 +105,8 @@ pub enum Message {
         name: u32,
         quote: Quote,
     },
+    /// Trading status: the byte that the message has for it, judged when its symbol is found.
+    Status(u8),
 }
 
 /// Checks 40 to 48 as far as the message and the letter of its line tell, and what the message says. Any bytes, any length.
@@ -120,6 +128,7 @@ pub fn read(msg: &[u8], letter: u8) -> Message
         Kind::RoundLot => read_round_lot(msg, letter),
         Kind::OddLot { finra } => read_odd_lot(msg, letter, finra),
         Kind::Maker => read_maker(msg, letter),
+        Kind::Status => read_status(msg),
         Kind::Unknown => Message::Refused(40),
     }
 }
@@ -133,6 +142,9 @@ fn kind_of(msg: &[u8]) -> Kind
     }
     if category == b'Q' {
         return quote_kind(field::byte(msg, Layout::TYPE));
+    }
+    if category == b'T' {
+        return status_kind(field::byte(msg, Layout::TYPE));
     }
     Kind::Unknown
 }
@@ -159,6 +171,15 @@ fn quote_kind(kind: u8) -> Kind
         b'U' => Kind::Maker,
         _ => Kind::Unknown,
     }
+}
+
+fn status_kind(kind: u8) -> Kind
+    ensures { λ r. ⌜ r ≡ statusKind kind ⌝ }
+{
+    if kind == b'S' {
+        return Kind::Status;
+    }
+    Kind::Unknown
 }
 
 fn read_inquiry(msg: &[u8]) -> Message
@@ -302,6 +323,32 @@ fn read_maker(msg: &[u8], letter: u8) -> Message
         return Message::Maker { fault, name, quote };
     }
     Message::Refused(45)
+}
+
+// T S, on any line.
+fn read_status(msg: &[u8]) -> Message
+    ensures { λ r. ⌜ r ≡ readStatus (now (msg .entry)) ⌝ }
+{
+    if msg.len() != Layout::STATUS_LEN {
+        return Message::Refused(42);
+    }
+    if field::byte(msg, Layout::ZERO) != 0 {
+        return Message::Refused(43);
+    }
+    if text::is_symbol(&msg[Layout::SYMBOL..Layout::STATUS]) {
+        return Message::Status(field::byte(msg, Layout::STATUS));
+    }
+    Message::Refused(45)
+}
+
+/// Whether a trading status is H, halted, or T, trading.
+pub fn is_status(status: u8) -> bool
+    ensures { λ r. ⌜ r ≡ member statuses status ⌝ }
+{
+    match status {
+        b'H' | b'T' => true,
+        _ => false,
+    }
 }
 
 // The length that the counts behind a clear mark ask for, the items starting at `items`.

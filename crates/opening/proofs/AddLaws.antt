@@ -5,7 +5,7 @@ use mathlib.Core.Path.{_≡_, refl, ap, _∙_}
 use mathlib.Core.List.{List, [], _∷_, _++_, map}
 use native.Mathlib.Omega.{arith}
 use native.Mathlib.Numerals.{add-one}
-use lib.Dec.{eqb, lit<}
+use lib.Dec.{eqb, lit<, lit≤}
 use lib.ListN.{length, length-append}
 use Rattle.field.specs.Field.{Bytes, be, part, field, splice, beBytes}
 use Rattle.field.proofs.Laws.{length-beBytes, bytes-beBytes, bytes-append, bytes-splice, length-splice, part-before, part-behind, field-put}
@@ -18,13 +18,13 @@ use Rattle.field.proofs.JoinLaws.{part-front, part-after, part-whole}
 use Rattle.update.proofs.BlankLaws.{length-blank, bytes-blank, blank-reads}
 use Rattle.opening.specs.Opening.{symbolsOf, countOf, linesIn, restIn, pageAt, setPage, pagesIn}
 use Rattle.opening.proofs.OpeningLaws.{Sound, lines-by, opening-page}
-use Rattle.page.specs.Layout.{pageLength, symbolAt, lotAt, headLength}
+use Rattle.page.specs.Layout.{pageLength, symbolAt, lotAt, primaryAt, headLength}
 use Rattle.opening.specs.Layout.{countAt, dayAt, firstPageAt, lineLength, openingLength, bookLength, nAt, pageStart, lineAt}
 use Rattle.text.specs.Form.{symbolLength}
 
-module _ (n : ℕ) (b : List ℕ) (sd : Sound n b) (s : List ℕ) (l : ℕ) (eleven : length s ≡ symbolLength) (room : countOf b < n) where
+module _ (n : ℕ) (b : List ℕ) (sd : Sound n b) (s : List ℕ) (l m : ℕ) (eleven : length s ≡ symbolLength) (room : countOf b < n) where
   abbrev head : List ℕ
-  head = s ++ (l ∷ [])
+  head = s ++ (l ∷ m ∷ [])
 
   abbrev counted : List ℕ
   counted = splice b countAt (beBytes 1 (countOf b + 1))
@@ -33,7 +33,7 @@ module _ (n : ℕ) (b : List ℕ) (sd : Sound n b) (s : List ℕ) (l : ℕ) (ele
   added = setPage counted (countOf b) (blankPage head)
 
   head-length : length head ≡ headLength
-  head-length = length-append s (l ∷ []) ∙ (omega arith)
+  head-length = length-append s (l ∷ m ∷ []) ∙ (omega arith)
 
   wide : length (blankPage head) ≡ pageLength
   wide = length-blank head head-length
@@ -93,15 +93,16 @@ module _ (n : ℕ) (b : List ℕ) (sd : Sound n b) (s : List ℕ) (l : ℕ) (ele
         day = rw added-day (sd .day);
       }
 
-  one-byte : l < 256 → Bytes (l ∷ [])
-  one-byte h zero = h
-  one-byte h (suc i) = lit< tt
+  two-bytes : l < 256 → m < 256 → Bytes (l ∷ m ∷ [])
+  two-bytes h k zero = h
+  two-bytes h k (suc zero) = k
+  two-bytes h k (suc (suc i)) = lit< tt
 
-  pub added-bytes : Bytes b → Bytes s → l < 256 → Bytes added
+  pub added-bytes : Bytes b → Bytes s → l < 256 → m < 256 → Bytes added
   unfolding setPage
-  added-bytes y z h =
+  added-bytes y z h k =
       bytes-splice counted (pageStart (countOf b)) (blankPage head) (bytes-splice b countAt (beBytes 1 (countOf b + 1)) y (bytes-beBytes 1 (countOf b + 1)))
-      (bytes-blank head (bytes-append s (l ∷ []) z (one-byte h)))
+      (bytes-blank head (bytes-append s (l ∷ m ∷ []) z (two-bytes h k)))
 
   pub added-rest : restIn added ≡ restIn b
   unfolding restIn
@@ -120,15 +121,16 @@ module _ (n : ℕ) (b : List ℕ) (sd : Sound n b) (s : List ℕ) (l : ℕ) (ele
   unfolding pageAt setPage
   added-page = cell-same counted openingLength pageLength n (countOf b) (blankPage head) pages-room room wide
 
-  head-reads : readingOf (blankPage head) ≡ blankReading (be s) l
+  head-reads : readingOf (blankPage head) ≡ blankReading (be s) l m
   unfolding field be
   head-reads =
-      let x : be (part head symbolAt symbolLength) ≡ be s = ap be (part-front s (l ∷ []) symbolAt symbolLength (omega arith) ∙ part-whole s symbolLength eleven) in
-      let y : be (part head lotAt 1) ≡ l = ap be (part-after s (l ∷ []) symbolLength 0 1 eleven ∙ part-whole (l ∷ []) 1 refl) ∙ (omega arith) in
-      blank-reads head head-length ∙ (λ i. blankReading (x i) (y i))
+      let x : be (part head symbolAt symbolLength) ≡ be s = ap be (part-front s (l ∷ m ∷ []) symbolAt symbolLength (omega arith) ∙ part-whole s symbolLength eleven) in
+      let y : be (part head lotAt 1) ≡ l = ap be (part-after s (l ∷ m ∷ []) symbolLength 0 1 eleven ∙ part-front (l ∷ []) (m ∷ []) 0 1 (lit≤ tt) ∙ part-whole (l ∷ []) 1 refl) ∙ (omega arith) in
+      let z : be (part head primaryAt 1) ≡ m = ap be (part-after s (l ∷ m ∷ []) symbolLength 1 1 eleven ∙ part-after (l ∷ []) (m ∷ []) 1 0 1 refl ∙ part-whole (m ∷ []) 1 refl) ∙ (omega arith) in
+      blank-reads head head-length ∙ (λ i. blankReading (x i) (y i) (z i))
 
   -- one reading more: the symbol with nothing
-  pub added-pages : pagesIn added ≡ pagesIn b ++ (blankReading (be s) l ∷ [])
+  pub added-pages : pagesIn added ≡ pagesIn b ++ (blankReading (be s) l m ∷ [])
   unfolding pagesIn
   added-pages =
       let e : countOf added ≡ suc (countOf b) = added-count ∙ add-one (countOf b) in
@@ -136,5 +138,5 @@ module _ (n : ℕ) (b : List ℕ) (sd : Sound n b) (s : List ℕ) (l : ℕ) (ele
       let old : map f (range (countOf b) 0) ≡ map (λ k. readingOf (pageAt b k)) (range (countOf b) 0) =
       map-range (λ k. readingOf (pageAt b k)) f (countOf b) 0 (λ j x y. ap readingOf (added-other j (λ q. omega arith))) in
       let last : 0 + countOf b ≡ countOf b = omega arith in
-      let new : f (0 + countOf b) ≡ blankReading (be s) l = ap f last ∙ ap readingOf added-page ∙ head-reads in
+      let new : f (0 + countOf b) ≡ blankReading (be s) l m = ap f last ∙ ap readingOf added-page ∙ head-reads in
       ap (λ (k : ℕ). map f (range k 0)) e ∙ range-snoc f (countOf b) 0 ∙ (λ i. old i ++ (new i ∷ []))

@@ -56,16 +56,16 @@ restart-end i b w h inv = let z : lineCount - i ≡ 0 = omega arith in rw z at i
 -- ---- a page lent
 
 module _ (b : List ℕ) (k : ℕ) where
-  len6054 : (pageStart k + pageLength) - pageStart k ≡ pageLength
-  len6054 = omega arith
+  page-span : (pageStart k + pageLength) - pageStart k ≡ pageLength
+  page-span = omega arith
 
   pub lent-page : take ((pageStart k + pageLength) - pageStart k) (drop (pageStart k) b) ≡ pageAt b k
   unfolding pageAt part
-  lent-page = rw len6054
+  lent-page = rw page-span
 
   pub page-back : (p : List ℕ) → length p ≡ pageLength → putMid (pageStart k) ((pageStart k + pageLength) - pageStart k) b p ≡ setPage b k p
   unfolding setPage
-  page-back p w = rw len6054 (lent-back (pageStart k) pageLength b p w)
+  page-back p w = rw page-span (lent-back (pageStart k) pageLength b p w)
 
 -- ---- every page
 

@@ -1,4 +1,4 @@
--- A page with zeros from 108 on holds no quote, maker or level.
+-- A page with zeros behind its head holds no quote, maker or level.
 -- Assumes nothing.
 use Prim.Native.Nat.{ℕ, _+_, _≤_}
 use mathlib.Core.Path.{_≡_, refl, ap, _∙_, fun-ext}

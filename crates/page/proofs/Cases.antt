@@ -1,8 +1,8 @@
--- T-04's sentence on a page, stop by stop. Each row is checked by computing.
+-- T-04's sentence on a page, stop by stop, and T-10's halt at each. Each row is checked by computing.
 -- Assumes nothing.
 use Prim.Native.Nat.{ℕ, _+_}
 use mathlib.Core.Path.{_≡_, refl}
-use mathlib.Core.List.{List, _∷_, _++_}
+use mathlib.Core.List.{List, [], _∷_, _++_}
 use lib.ListN.{replicate}
 use Rattle.lists.specs.Lists.{member}
 use Rattle.field.specs.Field.{be, beBytes, part, field, splice}
@@ -11,11 +11,11 @@ use Rattle.ranking.specs.Ranking.{comparedBy, lower, higher, byPrice, compared,
 use Rattle.quote.specs.declared.Quote.{Quote}
 use Rattle.quote.specs.Quote.{noLevel, admits, counts, candidateOf, levelIn, levelBytes, quoteIn, quoteBytes}
 use Rattle.levels.specs.Levels.{ranked, cellsIn, sideIn, levelsIn}
-use Rattle.entries.specs.Entries.{letters, makerCandidate, finraBest, asD, letterCandidate, nationalBest, nationalReason, oddCandidate, ranks, letterLevels, oddBest, entriesBy, entriesOf}
+use Rattle.entries.specs.Entries.{letters, makerCandidate, finraBest, asD, letterCandidate, nationalBest, nationalReason, oddCandidate, ranks, letterLevels, oddBest, entriesBy, entriesOf, unlessHalted}
 use Rattle.entries.specs.Publication.{noEntry, publication}
-use Rattle.page.specs.Page.{quotesIn, levelsFor, makerIn, makerBytes, makersIn, pageEntries}
+use Rattle.page.specs.Page.{quotesIn, levelsFor, makerIn, makerBytes, makersIn, pageEntries, haltedIn, publishedEntries}
 use Rattle.page.specs.Cut.{noneBehind, noMakers, cut}
-use Rattle.page.specs.Layout.{pageLength, slotAt, cellAt}
+use Rattle.page.specs.Layout.{pageLength, slotAt, cellAt, statusAt}
 
 -- a bid of a price and a size, time 7
 abbrev bid : ℕ → ℕ → Quote
@@ -61,7 +61,11 @@ abbrev shown : List ℕ → List ℕ → List ℕ → List ℕ
 shown n f o = n ++ (noEntry ++ (f ++ (noEntry ++ (o ++ noEntry))))
 
 abbrev stopped : ℕ → List ℕ
-stopped l = publication (pageEntries (cut l page))
+stopped l = publication (publishedEntries (cut l page))
+
+-- T-10: the page with a status
+abbrev under : ℕ → ℕ → List ℕ
+under status l = publication (publishedEntries (cut l (splice page statusAt (status ∷ []))))
 
 pub record Cases : Type 0 where
   -- behind A and behind C: D's makers and its odd lot are not there yet, and A has no second
@@ -77,8 +81,15 @@ pub record Cases : Type 0 where
   pub behind-s : stopped 83 ≡ shown (dearer 78 22 3) (maker 21 2) (odd 78 23 5)
   -- Z is the whole page; its bid is beyond N's odd lot
   pub behind-z : stopped 90 ≡ shown (dearer 90 24 4) (maker 21 2) noEntry
+  -- halted: none at every cut
+  pub halted-a : under 72 65 ≡ shown noEntry noEntry noEntry
+  pub halted-d : under 72 68 ≡ shown noEntry noEntry noEntry
+  pub halted-z : under 72 90 ≡ shown noEntry noEntry noEntry
+  -- every other byte is trading
+  pub trading-n : under 84 78 ≡ shown (dearer 78 22 3) (maker 21 2) (odd 78 23 5)
+  pub trading-h : under 104 78 ≡ shown (dearer 78 22 3) (maker 21 2) (odd 78 23 5)
 
 pub cases : Cases
-unfolding letters makerCandidate finraBest asD letterCandidate nationalBest nationalReason oddCandidate ranks letterLevels oddBest entriesBy entriesOf noEntry publication quotesIn levelsFor makerIn makerBytes makersIn pageEntries noneBehind noMakers cut member be beBytes part field splice le leBytes low comparedBy lower higher byPrice compared better whyAhead admits counts candidateOf levelIn levelBytes quoteIn quoteBytes ranked cellsIn sideIn levelsIn
+unfolding letters makerCandidate finraBest asD letterCandidate nationalBest nationalReason oddCandidate ranks letterLevels oddBest entriesBy entriesOf noEntry publication quotesIn levelsFor makerIn makerBytes makersIn pageEntries haltedIn publishedEntries unlessHalted noneBehind noMakers cut member be beBytes part field splice le leBytes low comparedBy lower higher byPrice compared better whyAhead admits counts candidateOf levelIn levelBytes quoteIn quoteBytes ranked cellsIn sideIn levelsIn
 cases =
-    record { behind-a = refl; behind-c = refl; behind-d = refl; behind-m = refl; behind-n = refl; behind-s = refl; behind-z = refl }
+    record { behind-a = refl; behind-c = refl; behind-d = refl; behind-m = refl; behind-n = refl; behind-s = refl; behind-z = refl; halted-a = refl; halted-d = refl; halted-z = refl; trading-n = refl; trading-h = refl }

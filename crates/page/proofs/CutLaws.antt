@@ -1,4 +1,4 @@
--- A page cut behind a letter: the letters up to it read as before, those behind it hold nothing, and so do the makers if D is behind it.
+-- A page cut behind a letter: the letters up to it read as before, those behind it hold nothing, and so do the makers if D is behind it. Its status stays.
 -- Assumes nothing.
 use Prim.Native.Nat.{ℕ, _+_, _*_, _-_, _≤_, _<_}
 use mathlib.Core.Path.{_≡_, refl, ap, _∙_, fun-ext}
@@ -6,23 +6,23 @@ use mathlib.Core.Bool.{Bool, true, false, cond}
 use mathlib.Core.List.{List, map}
 use mathlib.Core.Option.{Option, none}
 use native.Mathlib.Omega.{arith}
-use lib.Dec.{ltb}
+use lib.Dec.{ltb, eqb}
 use lib.ListN.{length, replicate}
 use borrow.Author.Tests.{lt-ltb, le-ltb}
 use Rattle.lists.specs.Lists.{upper, range}
 use Rattle.lists.proofs.Tests.{is-upper}
 use Rattle.lists.proofs.Ranges.{map-range}
-use Rattle.field.specs.Field.{Bytes, part, splice}
+use Rattle.field.specs.Field.{Bytes, be, part, field, splice}
 use Rattle.field.proofs.Laws.{length-splice, bytes-splice, part-before, part-behind}
 use Rattle.field.proofs.ZeroLaws.{length-zeros, bytes-zeros, part-zeroed, splice-nothing}
 use Rattle.quote.specs.Quote.{noQuote, quoteIn, quoteLength}
 use Rattle.levels.specs.Levels.{noLevels, levelsIn, levelsLength}
 use Rattle.entries.specs.Entries.{Maker}
-use Rattle.page.specs.Page.{quotesIn, levelsFor, makerIn, makersIn}
+use Rattle.page.specs.Page.{quotesIn, levelsFor, makerIn, makersIn, haltedIn}
 use Rattle.page.specs.Cut.{noneBehind, noMakers, cut}
 use Rattle.page.proofs.BlankLaws.{no-quote-read, no-levels-read, no-maker-read}
-use Rattle.page.specs.Layout.{slotLength, cellsAt, cellLength, pageLength, makerCount, slotAt, cellAt}
-use Rattle.field.specs.Ascii.{A, D, Z}
+use Rattle.page.specs.Layout.{slotLength, cellsAt, cellLength, pageLength, makerCount, slotAt, cellAt, statusAt}
+use Rattle.field.specs.Ascii.{A, D, H, Z}
 
 -- ---- what is left of a page
 
@@ -102,6 +102,19 @@ module _ (p : List ℕ) (w : length p ≡ pageLength) (l : ℕ) (lo : A ≤ l) (
       rw (lt-ltb l D h)
       (map-range (λ k. none) (λ k. makerIn (part (splice (noneBehind l p) (cellAt 0) (replicate (makerCount * cellLength) 0)) (cellAt k) cellLength)) makerCount 0
       (λ k a z. ap makerIn (part-zeroed (noneBehind l p) (cellAt 0) (makerCount * cellLength) (cellAt k) cellLength (omega (arith, behind-length)) (omega arith) (omega arith)) ∙ no-maker-read))
+
+  -- a cut page is halted if the page is
+  cut-behind : (at m : ℕ) → statusAt ≤ at → part (cut l p) at m ≡ part p at m
+  unfolding cut noMakers
+  cut-behind at m h = go (ltb l D) ∙ behind-cells at m (omega arith)
+    where
+      go : (t : Bool) → part (cond t (splice (noneBehind l p) (cellAt 0) (replicate (makerCount * cellLength) 0)) (noneBehind l p)) at m ≡ part (noneBehind l p) at m
+      go true = part-behind (noneBehind l p) (cellAt 0) (replicate (makerCount * cellLength) 0) at m (omega (arith, length-zeros (makerCount * cellLength)))
+      go false = refl
+
+  pub cut-halted : haltedIn (cut l p) ≡ haltedIn p
+  unfolding haltedIn field
+  cut-halted = ap (λ (x : List ℕ). eqb (be x) H) (cut-behind statusAt 1 (omega arith))
 
 -- behind Z there is no letter
 pub cut-whole : (p : List ℕ) → cut Z p ≡ p

@@ -1,4 +1,4 @@
--- A symbol's page: its head, the six entries, a slot for each letter A to Z, the makers' cells. Every place and length of it is named here.
+-- A symbol's page: its head, the six entries, a slot for each letter A to Z, the makers' cells, its trading status. Every place and length of it is named here.
 -- Assumes nothing.
 use Prim.Native.Nat.{ℕ, _+_, _*_, _-_}
 use mathlib.Core.List.{List}
@@ -29,15 +29,19 @@ makerCount = 16
 
 -- ---- the page
 
--- the symbol stands first, the round lot behind it
+-- the symbol stands first, behind it the round lot and the primary letter
 abbrev pub symbolAt : ℕ
 symbolAt = 0
 
 abbrev pub lotAt : ℕ
 lotAt = symbolAt + symbolLength
 
+-- document 02, T-10: "Adding a symbol now names its primary letter"
+abbrev pub primaryAt : ℕ
+primaryAt = lotAt + 1
+
 abbrev pub headLength : ℕ
-headLength = lotAt + 1
+headLength = primaryAt + 1
 
 abbrev pub entriesAt : ℕ
 entriesAt = headLength
@@ -48,10 +52,14 @@ slotsAt = entriesAt + publicationLength
 abbrev pub cellsAt : ℕ
 cellsAt = slotsAt + letterCount * slotLength
 
-abbrev pub pageLength : ℕ
-pageLength = cellsAt + makerCount * cellLength
+-- T-10: halted or trading
+abbrev pub statusAt : ℕ
+statusAt = cellsAt + makerCount * cellLength
 
--- from the slots to the end: zeros on a page without quotes
+abbrev pub pageLength : ℕ
+pageLength = statusAt + 1
+
+-- from the slots to the end: zeros on a page without quotes, which trades
 abbrev pub quotesLength : ℕ
 quotesLength = pageLength - slotsAt
 
@@ -84,6 +92,12 @@ pageSymbol p = field p symbolAt symbolLength
 
 abbrev pub pageLot : List ℕ → ℕ
 pageLot p = field p lotAt 1
+
+abbrev pub pagePrimary : List ℕ → ℕ
+pagePrimary p = field p primaryAt 1
+
+abbrev pub pageStatus : List ℕ → ℕ
+pageStatus p = field p statusAt 1
 
 -- the entries as they stand
 abbrev pub keptEntries : List ℕ → List ℕ

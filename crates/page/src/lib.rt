@@ -3,7 +3,9 @@ ghost use mathlib.Core.Path.{_≡_};
 ghost use mathlib.Core.List.{[], _∷_};
 ghost use Prim.Native.Nat.{_≤_, _<_};
 ghost use Rattle.lists.specs.Lists.{member};
-ghost use Rattle.page.specs.Layout.{inQuote, inLevels, slotAt, cellAt, makerCount};
+ghost use lib.ListN.{length};
+ghost use Rattle.page.specs.Layout.{inQuote, inLevels, slotAt, cellAt, makerCount, pageLength};
+ghost use Rattle.page.specs.Page.{haltedIn};
 ghost use Rattle.field.specs.Ascii as ascii;
 ghost use Rattle.quote.specs.Quote.{offerAt};
 ghost use Rattle.levels.specs.Levels.{sideLength};
@@ -13,15 +15,18 @@ use ranking::Side;
 use text::Maker;
 use text::Symbol;
 
-/// The bytes of a page: symbol and round lot, six entries, a slot for each letter, the maker cells. specs/Layout.antt says the same.
+/// The bytes of a page: symbol, round lot and primary letter, six entries, a slot for each letter, the maker cells, the trading status.
+/// specs/Layout.antt says the same.
 pub struct Page {}
 
 impl Page {
     pub const SYMBOL: usize = 0;
 
     pub const LOT: usize = Page::SYMBOL + Symbol::LEN;
-    /// Symbol and round lot: what Start of Day keeps.
-    pub const HEAD: usize = Page::LOT + 1;
+
+    pub const PRIMARY: usize = Page::LOT + 1;
+    /// Symbol, round lot and primary letter: what Start of Day keeps.
+    pub const HEAD: usize = Page::PRIMARY + 1;
 
     pub const ENTRIES: usize = Page::HEAD;
 
@@ -29,7 +34,10 @@ impl Page {
 
     pub const CELLS: usize = Page::SLOTS + Letter::COUNT * Slot::LEN;
 
-    pub const LEN: usize = Page::CELLS + Page::MAKERS * Cell::LEN;
+    /// H while the symbol is halted.
+    pub const STATUS: usize = Page::CELLS + Page::MAKERS * Cell::LEN;
+
+    pub const LEN: usize = Page::STATUS + 1;
     /// The six entries of a publication: name 4, price 8, size 4.
     pub const ENTRY_LEN: usize = 16;
 
@@ -99,6 +107,14 @@ pub fn stands(condition: u8) -> bool
         b'L' | b'R' => true,
         _ => false,
     }
+}
+
+/// Whether the symbol of a page is halted (T-10).
+pub fn is_halted(page: &[u8]) -> bool
+    requires { ⌜ length (now page) ≡ pageLength ⌝ }
+    ensures { λ r. ⌜ r ≡ haltedIn (now (page .entry)) ⌝ }
+{
+    field::get8(page, Page::STATUS) == b'H'
 }
 
 /// Where a side's level stands in a quote, behind the condition.

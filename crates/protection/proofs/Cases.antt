@@ -3,7 +3,7 @@
 use Prim.Native.Nat.{ℕ}
 use mathlib.Core.Path.{_≡_, refl}
 use mathlib.Core.Bool.{true, false}
-use mathlib.Core.List.{List}
+use mathlib.Core.List.{List, [], _∷_}
 use lib.ListN.{replicate}
 use Rattle.lists.specs.Lists.{member, firstFrom}
 use Rattle.field.specs.Field.{be, beBytes, part, field, splice}
@@ -13,11 +13,12 @@ use Rattle.ranking.specs.declared.Side.the-variants.{Bid, Offer}
 use Rattle.ranking.specs.Ranking.{comparedBy, lower, higher, byPrice, compared, better}
 use Rattle.quote.specs.declared.Quote.{Quote}
 use Rattle.quote.specs.Quote.{admits, counts, candidateOf, levelIn, levelBytes, quoteIn, quoteBytes}
-use Rattle.entries.specs.Entries.{letters, makerCandidate, finraBest, asD, letterCandidate, candidates}
-use Rattle.page.specs.Page.{quotesIn, makerIn, makerBytes, makersIn}
-use Rattle.page.specs.Layout.{pageLength, slotAt, cellAt}
+use Rattle.entries.specs.Entries.{letters, makerCandidate, finraBest, asD, letterCandidate, candidates, tradingCandidates}
+use Rattle.page.specs.Page.{quotesIn, makerIn, makerBytes, makersIn, haltedIn}
+use Rattle.page.specs.Layout.{pageLength, slotAt, cellAt, statusAt}
+use Rattle.field.specs.Ascii.{H, T}
 use Rattle.protection.specs.declared.Protection.{Protection}
-use Rattle.protection.specs.Protection.{firstYes, protection, pageCandidates}
+use Rattle.protection.specs.Protection.{firstYes, protection, pageCandidates, pageTrading}
 
 -- a bid and an offer, one lot each, time 7
 abbrev quoted : ℕ → ℕ → ℕ → Quote
@@ -52,6 +53,10 @@ yes looked = record { yes = true; looked = looked }
 abbrev no : Protection
 no = record { yes = false; looked = 26 }
 
+-- T-10: the page halted; another status is trading, as a page without one is
+abbrev halted : ℕ → Side → ℕ → Protection
+halted status s x = protection s x (pageTrading (splice page statusAt (status ∷ [])) s)
+
 pub record Cases : Type 0 where
   pub bid-0 : asked Bid 0 ≡ yes 1
   pub bid-20 : asked Bid 20 ≡ yes 1
@@ -66,9 +71,13 @@ pub record Cases : Type 0 where
   pub offer-38 : asked Offer 38 ≡ yes 14
   pub offer-39 : asked Offer 39 ≡ yes 4
   pub offer-40 : asked Offer 40 ≡ yes 1
+  pub halted-bid : halted H Bid 0 ≡ no
+  pub halted-offer : halted H Offer 40 ≡ no
+  pub trading-bid : halted T Bid 21 ≡ yes 4
+  pub any-bid : halted 104 Bid 21 ≡ yes 4
 
 pub cases : Cases
-unfolding letters makerCandidate finraBest asD letterCandidate quotesIn makerIn makerBytes makersIn member firstFrom be beBytes part field splice le leBytes low comparedBy lower higher byPrice compared better admits counts candidateOf levelIn levelBytes quoteIn quoteBytes candidates firstYes protection pageCandidates
+unfolding letters makerCandidate finraBest asD letterCandidate quotesIn makerIn makerBytes makersIn member firstFrom be beBytes part field splice le leBytes low comparedBy lower higher byPrice compared better admits counts candidateOf levelIn levelBytes quoteIn quoteBytes candidates firstYes protection pageCandidates haltedIn tradingCandidates
 cases =
     record {
       bid-0 = refl;
@@ -84,4 +93,8 @@ cases =
       offer-38 = refl;
       offer-39 = refl;
       offer-40 = refl;
+      halted-bid = refl;
+      halted-offer = refl;
+      trading-bid = refl;
+      any-bid = refl;
     }

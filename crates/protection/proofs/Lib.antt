@@ -1,3 +1,4 @@
 pub mod Cases
+pub mod HaltLaws
 pub mod ProtectionLaws
 pub mod StepLaws

@@ -21,11 +21,11 @@ use Rattle.ranking.specs.Ranking.{ahead, better, best}
 use Rattle.ranking.proofs.OrderLaws.{either, best-cons}
 use Rattle.ranking.proofs.RankingLaws.{better-weak, better-not-ahead}
 use Rattle.quote.specs.declared.Quote.{Quote}
-use Rattle.entries.specs.Entries.{Maker, letters, finraBest, nationalBest, entriesBy, entriesOf, candidates}
-use Rattle.page.specs.Page.{quotesIn, makersIn, occupied, pageEntries}
+use Rattle.entries.specs.Entries.{Maker, Entries, letters, finraBest, nationalBest, entriesBy, entriesOf, candidates, noBest, unlessHalted, tradingCandidates}
+use Rattle.page.specs.Page.{quotesIn, makersIn, occupied, pageEntries, haltedIn, publishedEntries}
 use Rattle.page.specs.Layout.{letterCount}
 use Rattle.protection.specs.declared.Protection.{Protection}
-use Rattle.protection.specs.Protection.{reaches, answersYes, firstYes, lookedAt, protection, pageCandidates}
+use Rattle.protection.specs.Protection.{reaches, answersYes, firstYes, lookedAt, protection, pageCandidates, pageTrading}
 
 -- ---- the best reaches a price exactly if one of the candidates does
 
@@ -79,6 +79,20 @@ module _ (s : Side) (p : ℕ) where
   pub page-best : (b : List ℕ) → protection s p (pageCandidates b s) .yes ≡ yes (pageEntries b .national s)
   unfolding pageCandidates pageEntries entriesOf entriesBy
   page-best b = protection-best (quotesIn b) (occupied (makersIn b))
+
+  -- T-10: without a candidate it is no, all 26 looked at
+  pub none-protected : protection s p (λ l. none) ≡ record { yes = false; looked = letterCount }
+  unfolding protection firstYes firstFrom
+  none-protected = refl
+
+  -- of the page that may be halted
+  pub published-best : (b : List ℕ) → protection s p (pageTrading b s) .yes ≡ yes (publishedEntries b .national s)
+  unfolding tradingCandidates publishedEntries unlessHalted
+  published-best b = go (haltedIn b)
+    where
+      go : (t : Bool) → protection s p (cond t (λ s l. none) (pageCandidates b) s) .yes ≡ yes (cond {A = Entries} t noBest (pageEntries b) .national s)
+      go true = ap (λ (r : Protection). r .yes) none-protected
+      go false = page-best b
 
   -- ---- the letter that is found is the first
 

@@ -12,8 +12,8 @@ use Rattle.lists.specs.declared.Found.the-variants.{At, Nothing}
 use Rattle.ranking.specs.declared.Side.{Side}
 use Rattle.ranking.specs.declared.Side.the-variants.{Bid, Offer}
 use Rattle.ranking.specs.declared.Candidate.{Candidate}
-use Rattle.entries.specs.Entries.{candidates}
-use Rattle.page.specs.Page.{quotesIn, makersIn, occupied}
+use Rattle.entries.specs.Entries.{candidates, tradingCandidates}
+use Rattle.page.specs.Page.{quotesIn, makersIn, occupied, haltedIn}
 use Rattle.page.specs.Layout.{letterCount}
 use Rattle.protection.specs.declared.Protection.{Protection}
 
@@ -43,3 +43,7 @@ protection s p c = lookedAt (firstYes s p c)
 
 unfoldable pub pageCandidates : List ℕ → Side → ℕ → Option Candidate
 pageCandidates p = candidates (quotesIn p) (occupied (makersIn p))
+
+-- T-10: none while the symbol is halted, so that the search "says no with 26"
+abbrev pub pageTrading : List ℕ → Side → ℕ → Option Candidate
+pageTrading p = tradingCandidates (haltedIn p) (pageCandidates p)

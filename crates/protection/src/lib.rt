@@ -7,7 +7,7 @@ ghost use Rattle.field.specs.Ascii as ascii;
 ghost use Rattle.lists.specs.Lists.{firstFrom};
 ghost use Rattle.quote.specs.Quote.{levelIn, quoteIn, candidateOf, quoteLength, levelLength};
 ghost use Rattle.page.specs.Layout.{pageLength, makerCount};
-ghost use Rattle.protection.specs.Protection.{reaches, answersYes, pageCandidates, protection};
+ghost use Rattle.protection.specs.Protection.{reaches, answersYes, pageCandidates, pageTrading, protection};
 ghost use Rattle.protection.specs.code.Search.{levelYes, makerYes, letterYes};
 use lists::Found;
 use page::Cell;
@@ -19,6 +19,14 @@ use ranking::Side;
 pub struct Protection {
     pub yes: bool,
     pub looked: u8,
+}
+
+impl Protection {
+    /// No letter of all 26.
+    pub const NO: Protection = Protection {
+        yes: false,
+        looked: Letter::COUNT as u8,
+    };
 }
 
 // Whether a shown price is as good as the one asked for: a bid at or above it, an offer at or below it.
@@ -111,8 +119,8 @@ fn letter_yes(page: &[u8], letter: usize, side: Side, price: u64) -> bool
     quote_yes(page, page::slot_at(letter), side, price)
 }
 
-/// Looks at the letters of a page from A and stops at the first whose national candidate bids the price or more, or offers it or less.
-pub fn search(page: &[u8], side: Side, price: u64) -> Protection
+// Looks at the letters of a page from A and stops at the first whose national candidate bids the price or more, or offers it or less.
+fn search(page: &[u8], side: Side, price: u64) -> Protection
     requires { ⌜ length (now page) ≡ pageLength ⌝ }
     ensures { λ r. ⌜ r ≡ protection side price (pageCandidates (now (page .entry)) side) ⌝ }
 {
@@ -124,8 +132,16 @@ pub fn search(page: &[u8], side: Side, price: u64) -> Protection
             };
         }
     }
-    Protection {
-        yes: false,
-        looked: Letter::COUNT as u8,
+    Protection::NO
+}
+
+/// Whether a page's national candidates protect a price: no, with 26 letters looked at, while its symbol is halted (T-10), else by the search.
+pub fn look(page: &[u8], side: Side, price: u64) -> Protection
+    requires { ⌜ length (now page) ≡ pageLength ⌝ }
+    ensures { λ r. ⌜ r ≡ protection side price (pageTrading (now (page .entry)) side) ⌝ }
+{
+    if page::is_halted(page) {
+        return Protection::NO;
     }
+    search(page, side, price)
 }

@@ -21,10 +21,11 @@ use Rattle.publication.specs.declared.Published.{Published}
 use Rattle.walk.specs.declared.BestEntries.{BestEntries}
 use Rattle.entries.specs.Entries.{Entries}
 use Rattle.entries.specs.Publication.{noEntry, entryBytes, reasonByte, nationalName, finraName, oddName, publication, sameEntry, flag, changeFlags, publicationLength, entryLength}
-use Rattle.page.specs.Page.{pageEntries, refreshed}
+use Rattle.page.specs.Page.{publishedEntries, refreshed}
 use Rattle.walk.specs.Bests.{bestsOf}
 use Rattle.publication.specs.code.Entry.{priced, reasonOf, asEntries, bytesOf, publishedBytes, holds}
-use Rattle.walk.proofs.WalkLaws.{SixCount, six-count}
+use Rattle.walk.proofs.WalkLaws.{SixCount}
+use Rattle.walk.proofs.HaltLaws.{published-count}
 use Rattle.page.specs.Layout.{entriesAt, keptEntries, entryAt}
 
 -- ---- one entry
@@ -187,11 +188,11 @@ publication-back v h =
     ++ (entryBytes oddName (priced-back (v .odd Bid) (h .odd Bid) i)
     ++ entryBytes oddName (priced-back (v .odd Offer) (h .odd Offer) i)))))
 
-module _ (p : List ℕ) (b : Bytes p) (e : BestEntries) (x : Published) (ee : e ≡ bestsOf (pageEntries p)) (ex : publishedBytes x ≡ publication (asEntries e)) where
-  published-is : publishedBytes x ≡ publication (pageEntries p)
-  published-is = ex ∙ ap (λ (v : BestEntries). publication (asEntries v)) ee ∙ publication-back (pageEntries p) (six-count p b)
+module _ (p : List ℕ) (b : Bytes p) (e : BestEntries) (x : Published) (ee : e ≡ bestsOf (publishedEntries p)) (ex : publishedBytes x ≡ publication (asEntries e)) where
+  published-is : publishedBytes x ≡ publication (publishedEntries p)
+  published-is = ex ∙ ap (λ (v : BestEntries). publication (asEntries v)) ee ∙ publication-back (publishedEntries p) (published-count p b)
 
   pub renewed : (last : List ℕ) (r : ℕ) → r ≡ changeFlags (keptEntries p) (publishedBytes x) → last ≡ splice p entriesAt (publishedBytes x)
-      → (r ≡ changeFlags (keptEntries p) (publication (pageEntries p))) × (last ≡ refreshed p)
+      → (r ≡ changeFlags (keptEntries p) (publication (publishedEntries p))) × (last ≡ refreshed p)
   unfolding refreshed
   renewed last r er el = (er ∙ ap (changeFlags (keptEntries p)) published-is, el ∙ ap (splice p entriesAt) published-is)

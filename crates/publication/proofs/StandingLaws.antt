@@ -14,7 +14,7 @@ use Rattle.field.proofs.Laws.{beBytes-field, length-part, bytes-part, part-join
 use Rattle.publication.specs.declared.Published.{Published}
 use Rattle.walk.specs.declared.BestEntries.{BestEntries}
 use Rattle.entries.specs.Publication.{publication, sameEntry, flag, changeFlags, publicationLength, entryLength}
-use Rattle.page.specs.Page.{pageEntries, refreshed}
+use Rattle.page.specs.Page.{publishedEntries, refreshed}
 use Rattle.walk.specs.Bests.{bestsOf}
 use Rattle.publication.specs.code.Entry.{asEntries, publishedBytes}
 use Rattle.page.proofs.FrameLaws.{refreshed-same}
@@ -63,11 +63,11 @@ module _ (a b : List ℕ) (la : length a ≡ publicationLength) (lb : length b �
       same k h z f = entry-same k h (flag-zero k z (sameEntry a b k) f)
 
 -- the walk's entries stand already
-module _ (p : List ℕ) (w : length p ≡ pageLength) (b : Bytes p) (e : BestEntries) (x : Published) (ee : e ≡ bestsOf (pageEntries p)) (ex : publishedBytes x ≡ publication (asEntries e)) where
+module _ (p : List ℕ) (w : length p ≡ pageLength) (b : Bytes p) (e : BestEntries) (x : Published) (ee : e ≡ bestsOf (publishedEntries p)) (ex : publishedBytes x ≡ publication (asEntries e)) where
   pub renewed-none : (r : ℕ) → r ≡ changeFlags (keptEntries p) (publishedBytes x) → r ≡ 0
-      → (0 ≡ changeFlags (keptEntries p) (publication (pageEntries p))) × (p ≡ refreshed p)
+      → (0 ≡ changeFlags (keptEntries p) (publication (publishedEntries p))) × (p ≡ refreshed p)
   renewed-none r er z =
       let f = sym z ∙ renewed p b e x ee ex _ r er refl .0 in
       let s : entriesAt + publicationLength ≤ length p = omega arith in
       let t : slotsAt ≤ length p = omega arith in
-      (f, sym (refreshed-same p t (no-flag (keptEntries p) (publication (pageEntries p)) (length-part p entriesAt publicationLength s) (length-publication (pageEntries p)) (bytes-part p entriesAt publicationLength b) (bytes-publication (pageEntries p)) (sym f))))
+      (f, sym (refreshed-same p t (no-flag (keptEntries p) (publication (publishedEntries p)) (length-part p entriesAt publicationLength s) (length-publication (publishedEntries p)) (bytes-part p entriesAt publicationLength b) (bytes-publication (publishedEntries p)) (sym f))))

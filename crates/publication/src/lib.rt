@@ -5,7 +5,7 @@ ghost use Prim.Native.Nat.{_+_, _≤_};
 ghost use lib.ListN.{length};
 ghost use Rattle.field.specs.Field.{splice, beBytes};
 ghost use Rattle.entries.specs.Publication.{entryBytes, reasonByte, nationalName, finraName, oddName, publication, changeFlags, noEntries, entryLength};
-ghost use Rattle.page.specs.Page.{pageEntries, refreshed};
+ghost use Rattle.page.specs.Page.{publishedEntries, refreshed};
 ghost use Rattle.publication.specs.code.Entry.{priced, reasonOf, asEntries, bytesOf, publishedBytes, holds};
 ghost use Rattle.page.specs.Layout.{pageLength, keptEntries, entriesAt};
 use page::Letter;
@@ -190,12 +190,12 @@ fn put_entries(page: &mut [u8], p: Published)
     put_entry(page, Page::ENTRIES + 5 * Entry::LEN, p.odd.offer);
 }
 
-/// Works out a page's six entries from its quotes, writes them, and gives the flags of those that changed.
+/// Works out a page's six entries, none while it is halted, writes them, and gives the flags of those that changed.
 pub fn renew(page: &mut [u8]) -> u8
     requires { ⌜ length (now page) ≡ pageLength ⌝ }
-    ensures { λ r. ⌜ (r ≡ changeFlags (keptEntries (now (page .entry))) (publication (pageEntries (now (page .entry))))) × (now (page .exit) ≡ refreshed (now (page .entry))) ⌝ }
+    ensures { λ r. ⌜ (r ≡ changeFlags (keptEntries (now (page .entry))) (publication (publishedEntries (now (page .entry))))) × (now (page .exit) ≡ refreshed (now (page .entry))) ⌝ }
 {
-    let published = to_publish(walk::walk_page(page, Letter::Z));
+    let published = to_publish(walk::entries_behind(page, Letter::Z));
     let changed = flags(page, published);
     if changed == 0 {
         return 0; // they stand already

@@ -18,7 +18,7 @@ use Rattle.lists.proofs.Tests.{clash}
 use Rattle.text.specs.Form.{symbolGood}
 use Rattle.page.specs.Layout.{pageLength}
 use Rattle.protection.specs.declared.Protection.{Protection}
-use Rattle.protection.specs.Protection.{protection, pageCandidates}
+use Rattle.protection.specs.Protection.{protection, pageTrading}
 use Rattle.ranking.specs.declared.Side.{Side}
 use Rattle.ranking.specs.declared.Side.the-variants.{Bid, Offer}
 use Rattle.update.proofs.SearchLaws.{isAt}
@@ -122,7 +122,7 @@ module _ (b x : List ℕ) (m v : ℕ) (r : Asked) (e : r ≡ askedOf b x m) wher
   pub query-refused : (n : ℕ) → r ≡ Refused n → record { bytes = b; answer = queried n 0 0 } ≡ call b (protected x m v)
   query-refused n f = let z = refused-number b x m v r n e f in protected-refused b x m v n (z .0) (z .1)
 
-  pub query-done : (k : ℕ) (s : Side) (t : Protection) (p : List ℕ) → r ≡ Page k → s ≡ askedSide m → p ≡ pageAt b k → t ≡ protection s v (pageCandidates p s)
+  pub query-done : (k : ℕ) (s : Side) (t : Protection) (p : List ℕ) → r ≡ Page k → s ≡ askedSide m → p ≡ pageAt b k → t ≡ protection s v (pageTrading p s)
       → record { bytes = b; answer = queried 0 (cond (t .yes) 1 0) (t .looked) } ≡ call b (protected x m v)
   query-done k s t p f es ep et =
       let z : Passed b x m k = passed b x m r k e f in

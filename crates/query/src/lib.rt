@@ -89,7 +89,8 @@ fn asked_side(mark: u8) -> Side
     Side::Offer
 }
 
-/// Whether a national candidate of the symbol bids the price or more (mark B), or offers it or less (mark S), by the quotes of its page.
+/// Whether a national candidate of the symbol bids the price or more (mark B), or offers it or less (mark S), by the quotes of its page. No
+/// while the symbol is halted.
 pub fn is_protected(book: &[u8], symbol: &[u8], mark: u8, price: u64) -> Protected
     ensures { λ r. ⌜ record { bytes = now (book .entry); answer = queried (r .number) (cond (r .yes) 1 0) (r .looked) } ≡ call (now (book .entry)) (protected (now (symbol .entry)) mark price) ⌝ }
 {
@@ -103,7 +104,7 @@ pub fn is_protected(book: &[u8], symbol: &[u8], mark: u8, price: u64) -> Protect
         Asked::Page(k) => {
             let a = Book::OPENING_LEN + k * Book::PAGE_LEN;
             let e = a + Book::PAGE_LEN;
-            let found = protection::search(&book[a..e], asked_side(mark), price);
+            let found = protection::look(&book[a..e], asked_side(mark), price);
             Protected {
                 number: 0,
                 yes: found.yes,

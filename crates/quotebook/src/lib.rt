@@ -32,10 +32,10 @@ pub extern "C" fn qb_make(book: &mut [u8], n: u32) -> u8
 }
 
 #[no_mangle]
-pub extern "C" fn qb_add_symbol(book: &mut [u8], symbol: &[u8], lot: u32) -> u8
-    ensures { λ r. ⌜ record { bytes = now (book .exit); answer = bare r } ≡ call (now (book .entry)) (add (now (symbol .entry)) lot) ⌝ }
+pub extern "C" fn qb_add_symbol(book: &mut [u8], symbol: &[u8], lot: u32, primary: u8) -> u8
+    ensures { λ r. ⌜ record { bytes = now (book .exit); answer = bare r } ≡ call (now (book .entry)) (add (now (symbol .entry)) lot primary) ⌝ }
 {
-    book::add_symbol(book, symbol, lot)
+    book::add_symbol(book, symbol, lot, primary)
 }
 
 #[no_mangle]

@@ -23,7 +23,7 @@ use Rattle.opening.proofs.LineLaws.{line-upper, line-open}
 use Rattle.calls.proofs.NumberLaws.{number-same, read-done, protected-done}
 use Rattle.review.specs.Reviewer.{parts, reviewed, candidatesR, toldR, Review, reviewAnswer}
 use Rattle.review.specs.Lists.{blockIsBytes}
-use Rattle.review.proofs.Agree.{good-reviewed, good-candidates, Core, ReadingOf, missing, found, reading-of}
+use Rattle.review.proofs.Agree.{good-reviewed, good-trading, Core, ReadingOf, missing, found, reading-of}
 use Rattle.review.proofs.WorkLaws.{told-same}
 use Rattle.review.proofs.BytesLaws.{messages-bytes, told-done}
 use Rattle.review.proofs.CallLaws.{Agrees, viewOf, view-is}
@@ -46,7 +46,7 @@ module _ (n : ℕ) (b : List ℕ) (h : List (List ℕ)) (sd : Sound n b) (y : By
     where
       go : ReadingOf s (parts h) (pagesIn b) → candidatesIn (findReading s (pagesIn b)) ≡ candidatesR h s
       go (missing u v) = clash (sym e ∙ v)
-      go (found r u v w g) = rw (u, sym w) (good-candidates (parts h) r g)
+      go (found r u v w g) = rw (u, sym w) (good-trading (parts h) r g)
 
   pub told-line : (i : ℕ) (r : Line) (x : List ℕ) → linesIn b i ≡ some r → Bytes x → toldOn b (r .letter) (messagesOf x) ≡ toldR ls h (r .letter) (messagesOf x)
   told-line i r x e z =
@@ -58,7 +58,7 @@ module _ (n : ℕ) (b : List ℕ) (h : List (List ℕ)) (sd : Sound n b) (y : By
       ≡ answerOf (restIn b) (toldR ls h) (reviewed h) (candidatesR h) (numberOf (restIn b) ls k) k
   unfolding answerOf restIn
   answer-same (make k) z = refl
-  answer-same (add x l) z = refl
+  answer-same (add x l m) z = refl
   answer-same (openLine i l) z = refl
   answer-same startDay z = refl
   answer-same endDay z = refl
@@ -89,7 +89,7 @@ module _ (n : ℕ) (b : List ℕ) (h : List (List ℕ)) (sd : Sound n b) (y : By
   answer-sound : (k : Call) → answerOn b k ≡ answerOf (restIn b) (toldOn b) (publishedOn b) (candidatesOn b) (numberOn b k) k
   unfolding answerOf
   answer-sound (make k) = refl
-  answer-sound (add x l) = rw (sound-is n b sd)
+  answer-sound (add x l m) = rw (sound-is n b sd)
   answer-sound (openLine i l) = rw (sound-is n b sd)
   answer-sound startDay = rw (sound-is n b sd)
   answer-sound endDay = rw (sound-is n b sd)

@@ -20,6 +20,7 @@ use Rattle.review.proofs.FinraOddLots as FinraOddLots
 use Rattle.review.proofs.Protected as Protected
 use Rattle.review.proofs.Closed as Closed
 use Rattle.review.proofs.Leading as Leading
+use Rattle.review.proofs.Halts as Halts
 
 abbrev pub OnBook : List Row → Type 0
 OnBook [] = Unit {0}
@@ -73,3 +74,7 @@ closed = on-book Closed.table refl Closed.cases
 pub leading : OnBook Leading.table
 unfolding Leading.table blocksAreBytes every beBytes
 leading = on-book Leading.table refl Leading.cases
+
+pub halts : OnBook Halts.table
+unfolding Halts.table blocksAreBytes every beBytes
+halts = on-book Halts.table refl Halts.cases

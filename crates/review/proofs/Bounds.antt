@@ -69,13 +69,13 @@ table =
     (accepted 2 1 3 ∷ accepted 2 1 3 ∷ accepted 3 2 3 ∷ shown (leading 80 78 82 4294967297 65537) (leading 80 80 82 10020000 2) nothing nothing nothing nothing ∷ [])
     -- no other lot, no other condition; symbols and lines may come on an open day; a maker may be named S
     ∷ fromMake 2
-    (startDay ∷ add zt 5 ∷ add zt 100 ∷ openLine 5 78 ∷ openLine 5 78 ∷ openLine 7 68 ∷ onN 1 (roundOf 78 7 68 1 1 2 1 noOdd ∷ []) ∷ onD 1 (makerOf 7 69 1 1 2 1 65 ∷ [])
+    (startDay ∷ add zt 5 78 ∷ add zt 100 78 ∷ openLine 5 78 ∷ openLine 5 78 ∷ openLine 7 68 ∷ onN 1 (roundOf 78 7 68 1 1 2 1 noOdd ∷ []) ∷ onD 1 (makerOf 7 69 1 1 2 1 65 ∷ [])
     ∷ onD 2 (makerOf 7 82 1 1 2 1 83 ∷ []) ∷ [])
     (only 0 ∷ only 6 ∷ only 0 ∷ only 0 ∷ only 8 ∷ only 0 ∷ rejected 2 1 46 ∷ rejected 2 1 46
     ∷ accepted 3 2 15 ∷ [])
     -- one flag in two symbols is one flag
     ∷ fromMake 2
-    (add zt 100 ∷ add ab 10 ∷ openLine 7 68 ∷ startDay ∷ onD 1 (bidIn zt ∷ []) ∷ onD 2 (bidIn ab ∷ []) ∷ onD 3 (control 67 68 ∷ []) ∷ [])
+    (add zt 100 78 ∷ add ab 10 78 ∷ openLine 7 68 ∷ startDay ∷ onD 1 (bidIn zt ∷ []) ∷ onD 2 (bidIn ab ∷ []) ∷ onD 3 (control 67 68 ∷ []) ∷ [])
     (only 0 ∷ only 0 ∷ only 0 ∷ only 0 ∷ accepted 2 1 5 ∷ accepted 3 2 5 ∷ accepted 4 3 5 ∷ [])
     -- a gap of 1
     ∷ inDay
@@ -87,7 +87,7 @@ table =
     (accepted 2 1 32 ∷ rejected 3 2 64 ∷ accepted 4 3 0 ∷ [])
     -- two symbols keep apart, each with its round lot; an empty Q K withdraws the quote; FINRA Open opens a maker's own L
     ∷ fromMake 2
-    (add zt 100 ∷ add ab 10 ∷ openLine 5 78 ∷ openLine 7 68 ∷ startDay ∷ onN 1 (plain 78 7 3 (odds 32 1 0 (0 ∷ []) (item 10010000 9)) ∷ []) ∷ read ab 96
+    (add zt 100 78 ∷ add ab 10 78 ∷ openLine 5 78 ∷ openLine 7 68 ∷ startDay ∷ onN 1 (plain 78 7 3 (odds 32 1 0 (0 ∷ []) (item 10010000 9)) ∷ []) ∷ read ab 96
     ∷ onN 2 (oddLot 78 8 ab (odds 32 1 0 (0 ∷ 0 ∷ []) (item 7 10)) ∷ []) ∷ onN 3 (roundOf 78 7 82 0 0 0 0 noOdd ∷ []) ∷ onD 1 (makerOf 7 76 5 1 0 0 65 ∷ []) ∷ onD 2 (control 79 68 ∷ []) ∷ [])
     (only 0 ∷ only 0 ∷ only 0 ∷ only 0 ∷ only 0 ∷ accepted 2 1 19 ∷ none
     ∷ rejected 3 2 63 ∷ accepted 4 3 3 ∷ accepted 2 1 0 ∷ accepted 3 2 5 ∷ [])

@@ -12,8 +12,8 @@ use Rattle.field.proofs.Laws.{bytes-part}
 use Rattle.lists.specs.Lists.{at, upper}
 use Rattle.lists.proofs.Tests.{Cut, equal, apart, cut}
 use Rattle.message.specs.declared.Message.{Message}
-use Rattle.message.specs.Message.{symbolOf, oddAt, oddLength, messageOf, Known, codeBy, codeOf, Part, roundPartOf, oddPartOf, makerPartOf, partlyTaken, partsOf, roundLotOdd, oddLotOdd, roundLength, roundLotItems, oddLotItems}
-use Rattle.message.proofs.SpokenLaws.{Spoken, refused, idle, finra, round, odd, maker, spoken, parts-refused, parts-whole, parts-round, parts-odd, parts-maker}
+use Rattle.message.specs.Message.{symbolOf, oddAt, oddLength, messageOf, Known, codeBy, codeOf, Part, roundPartOf, oddPartOf, makerPartOf, statusPartOf, partlyTaken, partsOf, roundLotOdd, oddLotOdd, roundLength, roundLotItems, oddLotItems}
+use Rattle.message.proofs.SpokenLaws.{Spoken, refused, idle, finra, round, odd, maker, status, spoken, parts-refused, parts-whole, parts-round, parts-odd, parts-maker, parts-status}
 use Rattle.block.specs.Block.{countIn, messageAt, messagesFrom, messagesOf}
 use Rattle.update.specs.Parts.{Reading, knownOf}
 use Rattle.opening.specs.Opening.{pagesIn}
@@ -64,6 +64,11 @@ module _ (e : Known) (letter : ℕ) (m : List ℕ) (u : upper letter ≡ true) (
       go (equal t z) =
           rw t ((name-fits m by (omega (arith, n)), quote-fits m by (omega (arith, n)), maker-taken e letter m c (takes-whole c z) q .condition), tt)
       go (apart t z) = rw t tt
+  good-by x q (status k n) = rw (parts-status c m k) (go (eqb c 0))
+    where
+      go : (t : Bool) → AllPartGood (cond t (statusPartOf m ∷ []) [])
+      go true = (by 31, tt)
+      go false = tt
 
   parts-good : codeOf e letter m ≡ c → AllPartGood (partsOf c m)
   unfolding codeOf

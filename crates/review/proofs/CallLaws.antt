@@ -116,14 +116,14 @@ module _ (n : ℕ) (b : List ℕ) (h : List (List ℕ)) (sd : Sound n b) (y : By
   unfolding afterCall restAfter symbolsAfter historyAfter listedOf parts
   after-make k d = record { rest = fresh-rest k; listed = ap listedOf (fresh-pages k); core = rw (fresh-pages k) core-none }
 
-  after-add : (x : List ℕ) (l : ℕ) → IsDone (add x l) → Then (add x l)
+  after-add : (x : List ℕ) (l m : ℕ) → IsDone (add x l m) → Then (add x l m)
   unfolding afterCall restAfter symbolsAfter historyAfter
-  after-add x l d =
-      let g : AddDone (restIn b) ls x l = add-done (restIn b) ls x l d in
+  after-add x l m d =
+      let g : AddDone (restIn b) ls x l m = add-done (restIn b) ls x l m d in
       let w : length x ≡ symbolLength = symbol-eleven x (g .good) in
       let r : countOf b < n = page-free n b sd (g .room) in
-      let p : pagesIn (added n b sd x l w r) ≡ pagesIn b ++ (blankReading (be x) l ∷ []) = added-pages n b sd x l w r in
-      record { rest = added-rest n b sd x l w r; listed = ap listedOf p ∙ added-listed (pagesIn b) (be x) l; core = rw p (core-added (parts h) (pagesIn b) (be x) l c (g .new)) }
+      let p : pagesIn (added n b sd x l m w r) ≡ pagesIn b ++ (blankReading (be x) l m ∷ []) = added-pages n b sd x l m w r in
+      record { rest = added-rest n b sd x l m w r; listed = ap listedOf p ∙ added-listed (pagesIn b) (be x) l m; core = rw p (core-added (parts h) (pagesIn b) (be x) l m c (g .new)) }
 
   after-open : (i l : ℕ) → IsDone (openLine i l) → Then (openLine i l)
   unfolding afterCall restAfter symbolsAfter historyAfter
@@ -200,7 +200,7 @@ module _ (n : ℕ) (b : List ℕ) (h : List (List ℕ)) (sd : Sound n b) (y : By
 
   after : (k : Call) → blockIsBytes k ≡ true → IsDone k → Then k
   after (make k) z d = after-make k d
-  after (add x l) z d = after-add x l d
+  after (add x l m) z d = after-add x l m d
   after (openLine i l) z d = after-open i l d
   after startDay z d = after-start
   after endDay z d = after-end

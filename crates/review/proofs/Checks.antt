@@ -21,22 +21,24 @@ named name = makerBy 68 82 1 1 2 1 name
 
 unfoldable pub table : List Row
 table =
-    -- add: 3, 6, 4, 5 in this order
+    -- add: 3, 6, 75, 4, 5 in this order
     fromMake 1
-    (add (symbol [] 11) 7 ∷ add zt 7 ∷ add zt 100 ∷ add zt 7 ∷ add zt 100 ∷ add (symbol (65 ∷ []) 10) 7 ∷ add (symbol (65 ∷ []) 10) 1 ∷ [])
-    (only 3 ∷ only 6 ∷ only 0 ∷ only 6 ∷ only 4 ∷ only 6 ∷ only 5 ∷ [])
+    (add (symbol [] 11) 7 83 ∷ add zt 7 83 ∷ add zt 100 83 ∷ add zt 100 78 ∷ add zt 7 83 ∷ add zt 100 83 ∷ add zt 100 78 ∷ add (symbol (65 ∷ []) 10) 7 83
+    ∷ add (symbol (65 ∷ []) 10) 1 83 ∷ add (symbol (65 ∷ []) 10) 1 78 ∷ [])
+    (only 3 ∷ only 6 ∷ only 75 ∷ only 0 ∷ only 6 ∷ only 75 ∷ only 4 ∷ only 6
+    ∷ only 75 ∷ only 5 ∷ [])
     -- round lots 1, 10, 25, 50, 100; symbols of one to eleven bytes, A to Z first, then 33 to 126
     ∷ fromMake 5
-    (add (symbol (65 ∷ []) 10) 1 ∷ add (symbol (90 ∷ replicate 10 126) 0) 10 ∷ add (symbol (83 ∷ 33 ∷ 97 ∷ []) 8) 25 ∷ add (symbol (68 ∷ []) 10) 50 ∷ add zt 0 ∷ add zt 2 ∷ add zt 99
-    ∷ add zt 101 ∷ add zt 356 ∷ add (symbol (64 ∷ []) 10) 1 ∷ add (symbol (91 ∷ []) 10) 1 ∷ add (symbol (97 ∷ []) 10) 1 ∷ add (symbol (66 ∷ 32 ∷ 66 ∷ []) 8) 1 ∷ add (symbol (66 ∷ 127 ∷ []) 9) 1
-    ∷ add (symbol (66 ∷ 31 ∷ []) 9) 1 ∷ add (symbol (66 ∷ []) 9) 1 ∷ add (symbol (66 ∷ []) 11) 1 ∷ add [] 1 ∷ add zt 100 ∷ [])
+    (add (symbol (65 ∷ []) 10) 1 78 ∷ add (symbol (90 ∷ replicate 10 126) 0) 10 78 ∷ add (symbol (83 ∷ 33 ∷ 97 ∷ []) 8) 25 78 ∷ add (symbol (68 ∷ []) 10) 50 78 ∷ add zt 0 78 ∷ add zt 2 78 ∷ add zt 99 78
+    ∷ add zt 101 78 ∷ add zt 356 78 ∷ add (symbol (64 ∷ []) 10) 1 78 ∷ add (symbol (91 ∷ []) 10) 1 78 ∷ add (symbol (97 ∷ []) 10) 1 78 ∷ add (symbol (66 ∷ 32 ∷ 66 ∷ []) 8) 1 78 ∷ add (symbol (66 ∷ 127 ∷ []) 9) 1 78
+    ∷ add (symbol (66 ∷ 31 ∷ []) 9) 1 78 ∷ add (symbol (66 ∷ []) 9) 1 78 ∷ add (symbol (66 ∷ []) 11) 1 78 ∷ add [] 1 78 ∷ add zt 100 78 ∷ [])
     (only 0 ∷ only 0 ∷ only 0 ∷ only 0 ∷ only 6 ∷ only 6 ∷ only 6
     ∷ only 6 ∷ only 6 ∷ only 3 ∷ only 3 ∷ only 3 ∷ only 3 ∷ only 3
     ∷ only 3 ∷ only 3 ∷ only 3 ∷ only 3 ∷ only 0 ∷ [])
     -- open: 7 then 8; days: 11 and 12; read: 9 then 10; make: 2
     ∷ fromMake 1
     (openLine 64 78 ∷ openLine 5 83 ∷ openLine 5 64 ∷ openLine 5 91 ∷ openLine 5 78 ∷ openLine 5 80 ∷ openLine 5 83 ∷ openLine 63 90 ∷ openLine 0 65 ∷ openLine 6 78
-    ∷ endDay ∷ startDay ∷ startDay ∷ endDay ∷ endDay ∷ read [] 95 ∷ read [] 96 ∷ read zt 96 ∷ add zt 1 ∷ read zt 95 ∷ read zt 96 ∷ read zt 1000 ∷ make 0 ∷ make 65 ∷ make 2 ∷ [])
+    ∷ endDay ∷ startDay ∷ startDay ∷ endDay ∷ endDay ∷ read [] 95 ∷ read [] 96 ∷ read zt 96 ∷ add zt 1 78 ∷ read zt 95 ∷ read zt 96 ∷ read zt 1000 ∷ make 0 ∷ make 65 ∷ make 2 ∷ [])
     (only 7 ∷ only 7 ∷ only 7 ∷ only 7 ∷ only 0 ∷ only 8 ∷ only 7 ∷ only 0 ∷ only 0 ∷ only 0
     ∷ only 12 ∷ only 0 ∷ only 11 ∷ only 0 ∷ only 12 ∷ only 9 ∷ only 10 ∷ only 10 ∷ only 0 ∷ only 9 ∷ none ∷ none ∷ only 2 ∷ only 2 ∷ only 2 ∷ [])
     -- blocks on a closed day: 9, 21, 30 to 34, 20; C I, C T and C 5 skip 20 and move nothing, C C and an unknown C type do not skip
@@ -97,7 +99,7 @@ table =
     ∷ rejected 10 9 62 ∷ partly 11 10 62 3 ∷ rejected 12 11 63 ∷ shown (78 ∷ 82 ∷ 32 ∷ 32 ∷ (beBytes 8 10000000 ++ beBytes 4 3)) (78 ∷ 82 ∷ 32 ∷ 32 ∷ (beBytes 8 10020000 ++ beBytes 4 2)) nothing nothing nothing nothing ∷ [])
     -- 62 and 63 of a later item go before 64 of an earlier one; with a round lot of 1 only zero shares pass
     ∷ fromMake 1
-    (add zt 1 ∷ openLine 5 78 ∷ startDay ∷ onN 1 (levels 32 1 0 (item 7 1) ∷ []) ∷ onN 2 (levels 32 1 0 (item 7 0) ∷ []) ∷ [])
+    (add zt 1 78 ∷ openLine 5 78 ∷ startDay ∷ onN 1 (levels 32 1 0 (item 7 1) ∷ []) ∷ onN 2 (levels 32 1 0 (item 7 0) ∷ []) ∷ [])
     (only 0 ∷ only 0 ∷ only 0 ∷ rejected 2 1 63 ∷ accepted 3 2 0 ∷ [])
     ∷ inDay
     (onN 1 (levels 32 4 0 (item 1 1 ++ (item 2 1 ++ (item 3 1 ++ item 4 1))) ∷ []) ∷ onN 2 (levels 32 2 0 (item 5 1 ++ item 0 1) ∷ []) ∷ onN 3 (levels 32 1 1 (item 5 1 ++ item 5 100) ∷ []) ∷ onN 4 (levels 32 1 1 (item 5 1 ++ item 5 99) ∷ []) ∷ [])

@@ -111,7 +111,7 @@ table =
     (accepted 2 1 48 ∷ accepted 2 1 0 ∷ accepted 3 2 0 ∷ alone bid offer ∷ accepted 3 2 48 ∷ alone nothing nothing ∷ [])
     -- each symbol by itself
     ∷ fromMake 2
-    (add zt 100 ∷ add ab 100 ∷ openLine 5 78 ∷ startDay ∷ onN 1 (levelsBy 78 8 32 1 1 two ∷ []) ∷ onN 2 (oddLot 78 8 ab (odds 32 1 1 (0 ∷ 0 ∷ []) two) ∷ [])
+    (add zt 100 78 ∷ add ab 100 78 ∷ openLine 5 78 ∷ startDay ∷ onN 1 (levelsBy 78 8 32 1 1 two ∷ []) ∷ onN 2 (oddLot 78 8 ab (odds 32 1 1 (0 ∷ 0 ∷ []) two) ∷ [])
     ∷ onN 3 (roundLot 78 9 (quoted ab 67 0 0 0 0) noOdd ∷ []) ∷ look ∷ read ab 96 ∷ [])
     (only 0 ∷ only 0 ∷ only 0 ∷ only 0 ∷ accepted 2 1 48 ∷ accepted 3 2 48 ∷ accepted 4 3 48 ∷ alone bid offer ∷ alone nothing nothing ∷ [])
     -- the latest quote by its place, not by its time; on another line of the letter too
@@ -148,7 +148,7 @@ table =
     (accepted 2 1 0 ∷ accepted 2 1 3 ∷ besides nothing nothing ∷ accepted 3 2 21 ∷ behindBid (by 65 9000000 1) dBid ∷ accepted 4 3 21 ∷ besides nothing nothing ∷ [])
     -- FINRA Close and Open in several symbols: the odd bid of ZT, where a maker bids, and the odd offer of AB, where one offers; before it, AB's alone
     ∷ fromMake 2
-    (add zt 100 ∷ add ab 100 ∷ openLine 5 78 ∷ openLine 7 68 ∷ startDay ∷ onN 1 (plain 78 7 3 noOdd ∷ []) ∷ onN 2 (roundLot 78 7 (quoted ab 82 10000000 3 10020000 2) noOdd ∷ [])
+    (add zt 100 78 ∷ add ab 100 78 ∷ openLine 5 78 ∷ openLine 7 68 ∷ startDay ∷ onN 1 (plain 78 7 3 noOdd ∷ []) ∷ onN 2 (roundLot 78 7 (quoted ab 82 10000000 3 10020000 2) noOdd ∷ [])
     ∷ onD 1 (finra ∷ []) ∷ onD 2 (finraAB ∷ []) ∷ onD 3 (makerAB 0 0 10030000 1 ∷ []) ∷ onD 4 (control 67 68 ∷ []) ∷ onD 5 (control 79 68 ∷ []) ∷ look ∷ read ab 96
     ∷ onD 6 (makerOf 7 82 9990000 1 0 0 65 ∷ []) ∷ onD 7 (control 67 68 ∷ []) ∷ look ∷ read ab 96 ∷ onD 8 (control 79 68 ∷ []) ∷ look ∷ read ab 96 ∷ [])
     (only 0 ∷ only 0 ∷ only 0 ∷ only 0 ∷ only 0 ∷ accepted 2 1 3 ∷ accepted 3 2 3

@@ -17,7 +17,7 @@ use Rattle.message.specs.declared.Message.{Message}
 use Rattle.message.specs.declared.Message.the-variants as says
 use Rattle.message.specs.declared.OddPart.{OddPart}
 use Rattle.message.specs.Message.{kindOf, quoteAt, makerName, oddAt, oddOf, sideBad, roundConditions, makerConditions, priceFault, quoteFault, messageOf, Known, makerCode, codeBy, codeOf, Part, wholeBy, makerText, roundLotItems}
-use Rattle.message.proofs.SpokenLaws.{Spoken, refused, idle, finra, round, odd, maker, spoken}
+use Rattle.message.proofs.SpokenLaws.{Spoken, refused, idle, finra, round, odd, maker, status, spoken}
 
 -- ---- checks that were passed
 
@@ -86,6 +86,10 @@ module _ (e : Known) (letter : ℕ) (m : List ℕ) (c : ℕ) (t : Takes c) where
       let b = fault makerConditions (quoteAt m) (makerGood (makerText m)) _ (a .1) in
       record { known = a .0; condition = b .0; room = b .1 }
 
+  -- of a T S
+  pub status-taken : (x : ℕ) → codeBy e letter m (says.Status x) ≡ c → e .listed ≡ true
+  status-taken x q = listed (e .listed) _ q .0
+
   -- a Q K that is taken has 60 bytes or more; it alone has two parts
   pub long : codeOf e letter m ≡ c → kindOf m ≡ kind.RoundLot → roundLotItems ≤ length m
   unfolding codeOf oddAt Takes
@@ -101,3 +105,4 @@ module _ (e : Known) (letter : ℕ) (m : List ℕ) (c : ℕ) (t : Takes c) where
       go y q (round l k n) = omega (arith, n)
       go y q (odd l k n) = absurd (omega (arith, count (kind.OddLot _) k))
       go y q (maker k n) = absurd (omega (arith, count kind.Maker k))
+      go y q (status k n) = absurd (omega (arith, count kind.Status k))

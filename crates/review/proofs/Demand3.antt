@@ -13,13 +13,13 @@ use lib.ListN.{length}
 use Rattle.field.specs.Field.{beBytes}
 use Rattle.lists.specs.Lists.{member}
 use Rattle.lists.proofs.Members.{In}
-use Rattle.entries.specs.Entries.{entriesOf}
+use Rattle.entries.specs.Entries.{entriesOf, unlessHalted}
 use Rattle.entries.proofs.LengthLaws.{length-publication}
 use Rattle.line.specs.Line.{done}
 use Rattle.calls.specs.Call.{Call, make, read, protected, numberOf, call, answers, bytesAfter}
 use Rattle.calls.proofs.ProtectedLaws.{protected-keeps}
 use Rattle.work.specs.Work.{Listed}
-use Rattle.review.specs.Reviewer.{quoteOf, makersOf, levelsOf, parts, reviewedBy, reviewed, Review, freshReview, restAfter, symbolsAfter, historyAfter, reviewCall, reviewAnswers, reviewAfter}
+use Rattle.review.specs.Reviewer.{quoteOf, makersOf, levelsOf, haltedOf, parts, reviewedBy, reviewed, Review, freshReview, restAfter, symbolsAfter, historyAfter, reviewCall, reviewAnswers, reviewAfter}
 use Rattle.review.specs.Lists.{blocksAreBytes}
 use Rattle.review.specs.Numbers.{numbersOf}
 use Rattle.review.proofs.RunLaws.{answers-agree, reads-agree}
@@ -48,7 +48,7 @@ demand3 m n made cs bytes = record { told = answers-agree m n made cs bytes; sho
 -- those bytes are 96
 pub reviewed-length : (h : List (List ℕ)) (s : ℕ) → length (reviewed h s) ≡ publicationLength
 unfolding reviewedBy
-reviewed-length h s = length-publication (entriesOf (quoteOf (parts h) s) (makersOf (parts h) s) (levelsOf (parts h) s))
+reviewed-length h s = length-publication (unlessHalted (haltedOf (parts h) s) (entriesOf (quoteOf (parts h) s) (makersOf (parts h) s) (levelsOf (parts h) s)))
 
 -- ---- beside it, for any bytes and any call
 

@@ -69,7 +69,7 @@ table =
     (accepted 2 1 15 ∷ accepted 3 2 16 ∷ only 0 ∷ besides (odd 68 9003000 4) nothing ∷ only 0 ∷ accepted 2 1 15 ∷ besides nothing nothing ∷ accepted 3 2 16 ∷ besides (odd 68 9004000 5) nothing ∷ [])
     -- it names its symbol, and goes by that symbol's round lot; every line of letter D is D's line
     ∷ fromMake 2
-    (add zt 100 ∷ add ab 10 ∷ openLine 7 68 ∷ openLine 8 68 ∷ startDay ∷ onD 1 (finraLot 68 8 ab (odds 32 1 0 (0 ∷ 0 ∷ []) (item 7 10)) ∷ [])
+    (add zt 100 78 ∷ add ab 10 78 ∷ openLine 7 68 ∷ openLine 8 68 ∷ startDay ∷ onD 1 (finraLot 68 8 ab (odds 32 1 0 (0 ∷ 0 ∷ []) (item 7 10)) ∷ [])
     ∷ onD 2 (maker 68 7 (quoted ab 82 5 1 0 0) (65 ∷ 32 ∷ 32 ∷ 32 ∷ []) ∷ []) ∷ onD 3 (finraLot 68 8 ab (odds 32 1 0 (0 ∷ 0 ∷ []) (item 7 9)) ∷ []) ∷ look ∷ read ab 96
     ∷ onD 4 (far ∷ []) ∷ take 8 (block 1 (finra 32 4 0 fourBids ∷ [])) 180 ∷ onD 5 (finra 32 1 0 (item 9004000 1) ∷ []) ∷ [])
     (only 0 ∷ only 0 ∷ only 0 ∷ only 0 ∷ only 0 ∷ rejected 2 1 63

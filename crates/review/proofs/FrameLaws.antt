@@ -12,12 +12,13 @@ use Rattle.lists.specs.Lists.{upper}
 use Rattle.lists.proofs.Tests.{clash, Cut, equal, apart, cut}
 use Rattle.message.specs.declared.Kind.{Kind}
 use Rattle.message.specs.declared.Kind.the-variants as kind
-use Rattle.message.specs.Message.{kindOf, symbolOf, Part, roundPart, oddPart, makerPart, finraPart, roundPartOf, partlyTaken, wholeBy, partsOf}
+use Rattle.message.specs.Message.{kindOf, symbolOf, Part, roundPart, oddPart, makerPart, finraPart, statusPart, roundPartOf, partlyTaken, wholeBy, partsOf}
 use Rattle.block.specs.Block.{messagesOf}
-use Rattle.update.specs.Parts.{knownOf, roundOn, oddOnPage, makerOn}
+use Rattle.update.specs.Parts.{knownOf, roundOn, oddOnPage, makerOn, statusOn}
 use Rattle.update.proofs.EntryLaws.{Kept}
 use Rattle.update.proofs.SlotLaws.{round-kept, odd-kept}
 use Rattle.update.proofs.MakerLaws.{maker-kept}
+use Rattle.update.proofs.StatusLaws.{status-kept}
 use Rattle.message.proofs.SpokenLaws.{Shaped, AllShaped, shaped}
 use Rattle.opening.specs.declared.Line.{Line}
 use Rattle.opening.specs.Opening.{symbolsOf, sound, linesIn, restIn, pageAt, pagesIn, onPage}
@@ -41,6 +42,7 @@ partTouches (roundPart t l q) s = eqb t s
 partTouches (oddPart t l o) s = eqb t s
 partTouches (makerPart t m q) s = eqb t s
 partTouches (finraPart c) s = true
+partTouches (statusPart t x) s = eqb t s
 
 abbrev NoneTouches : List Part → ℕ → Type 0
 NoneTouches [] s = Unit {0}
@@ -59,6 +61,7 @@ module _ (n j : ℕ) where
   part-framed (oddPart t l o) b sd u e = on-framed b sd t (oddOnPage l o) (λ p w. odd-kept p w l u o) e
   part-framed (makerPart t m q) b sd u e = on-framed b sd t (makerOn m q) (λ p w. maker-kept m q p w) e
   part-framed (finraPart c) b sd u e = clash e
+  part-framed (statusPart t x) b sd u e = on-framed b sd t (statusOn x) (λ p w. status-kept x p w) e
 
   parts-framed : (ps : List Part) (b : List ℕ) → Sound n b → AllShaped ps → (s : ℕ) → s ≡ symbolHere b → NoneTouches ps s → pageAt (partsOn ps b) j ≡ pageAt b j
   unfolding partsOn
@@ -77,6 +80,7 @@ whole-none m s kind.Test e = tt
 whole-none m s kind.RoundLot e = (e, (e, tt))
 whole-none m s (kind.OddLot f) e = (e, tt)
 whole-none m s kind.Maker e = (e, tt)
+whole-none m s kind.Status e = (e, tt)
 whole-none m s kind.Unknown e = tt
 
 -- accepted or partly accepted

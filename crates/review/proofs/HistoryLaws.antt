@@ -14,7 +14,7 @@ use Rattle.lists.proofs.Members.{In, Distinct, in-collect, collect-in, same-len
 use Rattle.quote.specs.declared.Quote.{Quote}
 use Rattle.quote.specs.Quote.{emptyQuote, withCondition, withTimes}
 use Rattle.levels.specs.Levels.{Odd}
-use Rattle.message.specs.Message.{Part, roundPart, oddPart, makerPart, finraPart}
+use Rattle.message.specs.Message.{Part, roundPart, oddPart, makerPart, finraPart, statusPart}
 use Rattle.entries.specs.Entries.{Maker, finraBest}
 use Rattle.page.specs.Page.{occupied}
 use Rattle.makers.specs.Makers.{findMaker, makerOver}
@@ -66,6 +66,10 @@ maker-round t k q h s m = refl
 pub maker-odd : (t k : ℕ) (o : Odd) (h : List Part) (s m : ℕ) → makerOf (oddPart t k o ∷ h) s m ≡ makerOf h s m
 unfolding makerOf makerQuotes conditionOf
 maker-odd t k o h s m = refl
+
+pub maker-status : (t x : ℕ) (h : List Part) (s m : ℕ) → makerOf (statusPart t x ∷ h) s m ≡ makerOf h s m
+unfolding makerOf makerQuotes conditionOf
+maker-status t x h s m = refl
 
 -- ---- which makers the history has
 
@@ -127,6 +131,7 @@ last-named (makerPart t k r ∷ h) s m q e = go (eqb t s) (cut k m) (last-named 
     go true (apart u p) down e = name-old k m (namesOf h s) (down (rw u at e))
     go false c down e = down e
 last-named (finraPart c ∷ h) s m q e = last-named h s m q e
+last-named (statusPart t x ∷ h) s m q e = last-named h s m q e
 
 pub names-distinct : (h : List Part) (s : ℕ) → Distinct (λ (k : ℕ). k) (namesOf h s)
 unfolding namesOf
@@ -139,6 +144,7 @@ names-distinct (makerPart t k r ∷ h) s = go (eqb t s) (names-distinct h s)
     go true d = name-distinct k (namesOf h s) d
     go false d = d
 names-distinct (finraPart c ∷ h) s = names-distinct h s
+names-distinct (statusPart t x ∷ h) s = names-distinct h s
 
 -- a maker that stands has its name, and its name is among the history's
 standing-name : (m : ℕ) (c : ℕ → ℕ) (o : Option Quote) (x : Maker) → mapOption (standingMaker m c) o ≡ some x → (x .name ≡ m) × ((q : Quote) × (o ≡ some q))

@@ -66,6 +66,7 @@ parts-whole m h = go (kindOf m)
     go kind.RoundLot l = let n : roundLotItems ≤ length m = l refl in rw (ne-eqb (length m) roundLength (λ z. omega arith))
     go (kind.OddLot f) l = refl
     go kind.Maker l = refl
+    go kind.Status l = refl
     go kind.Unknown l = refl
 
 -- only a Q K with 60 or more is partly taken
@@ -77,6 +78,7 @@ partly-round c kind.Test e = clash (sym e)
 partly-round c kind.RoundLot e = (refl, leb-true 60 c e)
 partly-round c (kind.OddLot f) e = clash (sym e)
 partly-round c kind.Maker e = clash (sym e)
+partly-round c kind.Status e = clash (sym e)
 partly-round c kind.Unknown e = clash (sym e)
 
 pub partly-is : (c : ℕ) (m : List ℕ) → partlyTaken c m ≡ true → (kindOf m ≡ kind.RoundLot) × (60 ≤ c)

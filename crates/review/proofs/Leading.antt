@@ -75,7 +75,7 @@ table =
     ∷ accepted 4 3 13 ∷ shown (leading 83 68 82 10000000 4) (leading 84 68 82 10020000 2) (by 65 10000000 4) (by 66 10020000 2) nothing nothing ∷ [])
     -- FINRA Close takes D out of the race in every symbol, FINRA Open brings it back: N has no second, then one
     ∷ fromMake 2
-    (add zt 100 ∷ add ab 100 ∷ openLine 5 78 ∷ openLine 7 68 ∷ startDay ∷ onN 1 (bidBy 78 7 10000000 3 ∷ []) ∷ onN 2 (roundLot 78 7 (quoted ab 82 0 0 10020000 2) noOdd ∷ [])
+    (add zt 100 78 ∷ add ab 100 78 ∷ openLine 5 78 ∷ openLine 7 68 ∷ startDay ∷ onN 1 (bidBy 78 7 10000000 3 ∷ []) ∷ onN 2 (roundLot 78 7 (quoted ab 82 0 0 10020000 2) noOdd ∷ [])
     ∷ onD 1 (makerOf 8 82 10000000 3 0 0 65 ∷ []) ∷ onD 2 (maker 68 8 (quoted ab 82 0 0 10030000 9) (65 ∷ 32 ∷ 32 ∷ 32 ∷ []) ∷ []) ∷ look ∷ read ab 96
     ∷ onD 3 (control 67 68 ∷ []) ∷ look ∷ read ab 96 ∷ onD 4 (control 79 68 ∷ []) ∷ look ∷ read ab 96 ∷ [])
     (only 0 ∷ only 0 ∷ only 0 ∷ only 0 ∷ only 0 ∷ accepted 2 1 1 ∷ accepted 3 2 2

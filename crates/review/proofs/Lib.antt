@@ -18,6 +18,7 @@ pub mod QuotedLaws
 pub mod FrameLaws
 pub mod PlaceLaws
 pub mod Protected
+pub mod Halts
 pub mod AgreedFrame
 pub mod Frame
 pub mod NumberLaws

@@ -16,22 +16,23 @@ use Rattle.update.proofs.Model.{worked, blankReading, blanked}
 use Rattle.work.specs.Work.{Listed, isListed, listing, listedOf}
 use Rattle.review.proofs.CellLaws.{empty-find, empty-sole}
 use Rattle.review.proofs.TimeLaws.{held}
-use Rattle.review.proofs.SilentLaws.{Silent, silent-rounds, silent-maker, silent-levels}
+use Rattle.review.proofs.SilentLaws.{Silent, silent-rounds, silent-maker, silent-levels, silent-halted}
 use Rattle.review.proofs.Agree.{Good, AllGood, Apart, Core}
 use Rattle.review.proofs.PartLaws.{map-listed}
 use Rattle.page.specs.Layout.{makerCount}
 
 -- ---- a symbol with nothing
 
-blank-good : (s k : ℕ) (h : List Part) → Silent s h → Good h (blankReading s k)
+blank-good : (s k p : ℕ) (h : List Part) → Silent s h → Good h (blankReading s k p)
 unfolding blankReading worked held
-blank-good s k h q =
+blank-good s k p h q =
     record {
       quotes = λ l. sym (ap held (silent-rounds s l h q));
       sole = empty-sole makerCount;
       size = length-replicate {A = Option Maker} makerCount none;
       makers = λ m. empty-find m makerCount ∙ sym (silent-maker s m h q);
       levels = λ l. sym (silent-levels s l h q);
+      halted = sym (silent-halted s h q);
       entries = refl;
     }
 
@@ -43,7 +44,7 @@ core-none = record { good = tt; once = tt; quiet = λ s e. tt }
 
 blanks-good : (rs : List Reading) → AllGood [] (map blanked rs)
 blanks-good [] = tt
-blanks-good (r ∷ rs) = (blank-good (r .symbol) (r .lot) [] tt, blanks-good rs)
+blanks-good (r ∷ rs) = (blank-good (r .symbol) (r .lot) (r .primary) [] tt, blanks-good rs)
 
 pub emptied-listed : (rs : List Reading) → listedOf (map blanked rs) ≡ listedOf rs
 unfolding blankReading worked
@@ -95,14 +96,14 @@ snoc-apart (y ∷ xs) x a e = go (cut (y .symbol) (x .symbol)) (snoc-apart xs x 
     go (equal t p) down e = clash (rw t at e)
     go (apart t p) down e = (rw (listed-snoc (y .symbol) xs x, a .0) (ne-eqb (x .symbol) (y .symbol) (λ z. p (sym z))), down (rw t at e))
 
-pub added-listed : (rs : List Reading) (s k : ℕ) → listedOf (rs ++ (blankReading s k ∷ [])) ≡ listedOf rs ++ (record { symbol = s; lot = k } ∷ [])
+pub added-listed : (rs : List Reading) (s k p : ℕ) → listedOf (rs ++ (blankReading s k p ∷ [])) ≡ listedOf rs ++ (record { symbol = s; lot = k; primary = p } ∷ [])
 unfolding blankReading worked
-added-listed rs s k = snoc-listed rs (blankReading s k)
+added-listed rs s k p = snoc-listed rs (blankReading s k p)
 
-pub core-added : (h : List Part) (rs : List Reading) (s k : ℕ) → Core h rs → isListed s (listedOf rs) ≡ false → Core h (rs ++ (blankReading s k ∷ []))
-core-added h rs s k c new =
+pub core-added : (h : List Part) (rs : List Reading) (s k p : ℕ) → Core h rs → isListed s (listedOf rs) ≡ false → Core h (rs ++ (blankReading s k p ∷ []))
+core-added h rs s k p c new =
     record {
-      good = snoc-good h rs (blankReading s k) (c .good) (blank-good s k h (c .quiet s new));
-      once = rw (added-listed rs s k) (snoc-apart (listedOf rs) (record { symbol = s; lot = k }) (c .once) new);
-      quiet = λ j e. c .quiet j (unlisted j (listedOf rs) (record { symbol = s; lot = k }) (rw (added-listed rs s k) at e));
+      good = snoc-good h rs (blankReading s k p) (c .good) (blank-good s k p h (c .quiet s new));
+      once = rw (added-listed rs s k p) (snoc-apart (listedOf rs) (record { symbol = s; lot = k; primary = p }) (c .once) new);
+      quiet = λ j e. c .quiet j (unlisted j (listedOf rs) (record { symbol = s; lot = k; primary = p }) (rw (added-listed rs s k p) at e));
     }

@@ -16,8 +16,8 @@ use Rattle.levels.specs.declared.Item.{Item}
 use Rattle.levels.specs.Levels.{Standing, Odd, oddOn, itemsBad, oddBad, fifth, oddCode, clearMarks}
 use Rattle.text.specs.Form.{symbolGood, makerGood, letterGood}
 use Rattle.message.specs.declared.Message.{Message}
-use Rattle.message.specs.Message.{quoteAt, makerName, roundLotOdd, oddLotOdd, oddOf, sideBad, roundConditions, makerConditions, priceFault, quoteFault, messageOf, Known, makerCode, codeBy, codeOf, makerText}
-use Rattle.message.proofs.SpokenLaws.{Spoken, refused, idle, finra, round, odd, maker, spoken}
+use Rattle.message.specs.Message.{quoteAt, makerName, roundLotOdd, oddLotOdd, oddOf, sideBad, roundConditions, makerConditions, priceFault, quoteFault, messageOf, Known, makerCode, statuses, statusOf, statusCode, codeBy, codeOf, makerText}
+use Rattle.message.proofs.SpokenLaws.{Spoken, refused, idle, finra, round, odd, maker, status, spoken}
 use Rattle.block.specs.Block.{countIn, sequenceIn, checksumOf, lengthGood, tableGood, controlAmong, checked, idleBlock, answerLength}
 use Rattle.block.specs.Sequence.{arrivalOf}
 use Rattle.block.specs.declared.Checked.{Checked}
@@ -74,6 +74,10 @@ unfolding quoteFault priceFault member
 fault-known table q rest r =
     either (member table (q .condition)) (either (sideBad (q .bid)) (in-codes 47 refl) (either (sideBad (q .offer)) (in-codes 47 refl) r)) (in-codes 46 refl)
 
+status-known : (primary letter x : ℕ) → Among codes (statusCode primary letter x)
+unfolding statusCode member
+status-known primary letter x = either (eqb primary letter) (either (member statuses x) (in-codes 0 refl) (in-codes 77 refl)) (in-codes 76 refl)
+
 module _ (e : Known) (letter : ℕ) (m : List ℕ) where
   -- 45, then the fault, then what follows
   faulted : {f x : ℕ} → Among codes f → Among codes x → Among codes (cond (e .listed) (cond (eqb f 0) x f) 45)
@@ -93,6 +97,7 @@ module _ (e : Known) (letter : ℕ) (m : List ℕ) where
   code-by x (odd l k z) = either (e .listed) (odd-known (e .lot) (e .levels letter) (oddOf m (oddLotOdd m))) (in-codes 45 refl)
   code-by x (maker k z) =
       faulted (fault-known makerConditions (quoteAt m) _ (either (makerGood (makerText m)) (in-codes 0 refl) (in-codes 48 refl))) (room-known (makerName m) (quoteAt m))
+  code-by x (status k z) = either (e .listed) (status-known (e .primary) letter (statusOf m)) (in-codes 45 refl)
 
   -- the code of a message is one of document 01's
   pub code-known : member codes (codeOf e letter m) ≡ true
@@ -138,9 +143,11 @@ module _ (i : ℕ) (b : List ℕ) (room : ℕ) where
 number-of : (r : Rest) (ls : List Listed) (c : Call) → Among (numbersOf c) (numberOf r ls c)
 unfolding numberOf member
 number-of r ls (make n) = either (eqb n (r .n)) (among refl) (among refl)
-number-of r ls (add s k) =
+number-of r ls (add s k l) =
     either (symbolGood s)
-    (either (member lots k) (either (isListed (be s) ls) (among refl) (either (ltb (length ls) (r .n)) (among refl) (among refl))) (among refl))
+    (either (member lots k)
+    (either (letterGood l) (either (isListed (be s) ls) (among refl) (either (ltb (length ls) (r .n)) (among refl) (among refl))) (among refl))
+    (among refl))
     (among refl)
 number-of r ls (openLine i l) = either (ltb i lineCount && letterGood l) (either (isSome (r .lines i)) (among refl) (among refl)) (among refl)
 number-of r ls startDay = either (r .day) (among refl) (among refl)
@@ -156,7 +163,7 @@ sounded b c m e = rw m (either (sound b) (number-of (restIn b) (listedOf (pagesI
 known-of : (b : List ℕ) (c : Call) → Among (numbersOf c) (numberOn b c)
 unfolding numberOn member
 known-of b (make n) = either (makeGood b n) (among refl) (among refl)
-known-of b (add s k) = sounded b (add s k) refl refl
+known-of b (add s k l) = sounded b (add s k l) refl refl
 known-of b (openLine i l) = sounded b (openLine i l) refl refl
 known-of b startDay = sounded b startDay refl refl
 known-of b endDay = sounded b endDay refl refl

@@ -23,7 +23,7 @@ book m n count day offset rest = m ++ (n ∷ count ∷ day ∷ (beBytes 4 offset
 -- the numbers of the other calls, with arguments that their next check refuses
 unfoldable pub asked : List ℕ → List ℕ
 unfolding Field.be Field.beBytes Field.part Field.field Lists.sameList Form.symbolGood Opening.symbolsOf Opening.countOf Opening.sound Opening.restIn Work.listedOf Line.done Call.numberOf Call.answerOf Call.numberOn Call.call
-asked b = map (λ c. call b c .answer .number) (add [] 0 ∷ openLine 64 0 ∷ startDay ∷ endDay ∷ take 64 [] 0 ∷ read [] 0 ∷ protected [] 0 0 ∷ [])
+asked b = map (λ c. call b c .answer .number) (add [] 0 0 ∷ openLine 64 0 ∷ startDay ∷ endDay ∷ take 64 [] 0 ∷ read [] 0 ∷ protected [] 0 0 ∷ [])
 
 abbrev noBook : List ℕ → Type 0
 noBook b = asked b ≡ 1 ∷ 1 ∷ 1 ∷ 1 ∷ 1 ∷ 1 ∷ 1 ∷ []
@@ -66,19 +66,19 @@ unfolding asked
 offset-848 rest = refl
 
 -- a byte too few, a byte too many
-pub a-byte-too-few : noBook (book mark 1 0 0 847 (replicate 6885 0))
+pub a-byte-too-few : noBook (book mark 1 0 0 847 (replicate 6887 0))
 unfolding asked
 a-byte-too-few = refl
 
-pub a-byte-too-many : noBook (book mark 1 0 0 847 (replicate 6887 0))
+pub a-byte-too-many : noBook (book mark 1 0 0 847 (replicate 6889 0))
 unfolding asked
 a-byte-too-many = refl
 
 -- a book of one symbol: 3, 7, Start and End by the day, 9, 9, 10; none listed, the day closed; then one listed, the day open
-pub sound-closed : asked (book mark 1 0 0 847 (replicate 6886 0)) ≡ 3 ∷ 7 ∷ 0 ∷ 12 ∷ 9 ∷ 9 ∷ 10 ∷ []
+pub sound-closed : asked (book mark 1 0 0 847 (replicate 6888 0)) ≡ 3 ∷ 7 ∷ 0 ∷ 12 ∷ 9 ∷ 9 ∷ 10 ∷ []
 unfolding asked
 sound-closed = refl
 
-pub sound-full-open : asked (book mark 1 1 1 847 (replicate 6886 0)) ≡ 3 ∷ 7 ∷ 11 ∷ 0 ∷ 9 ∷ 9 ∷ 10 ∷ []
+pub sound-full-open : asked (book mark 1 1 1 847 (replicate 6888 0)) ≡ 3 ∷ 7 ∷ 11 ∷ 0 ∷ 9 ∷ 9 ∷ 10 ∷ []
 unfolding asked
 sound-full-open = refl

@@ -13,16 +13,16 @@ use Rattle.lists.proofs.Tests.{clash, Cut, equal, apart, cut}
 use Rattle.quote.specs.declared.Quote.{Quote}
 use Rattle.quote.specs.Quote.{emptyQuote, quoteOver}
 use Rattle.levels.specs.Levels.{Odd, oddOn}
-use Rattle.message.specs.Message.{Part, roundPart, oddPart, makerPart, finraPart}
+use Rattle.message.specs.Message.{Part, roundPart, oddPart, makerPart, finraPart, statusPart}
 use Rattle.entries.specs.Entries.{Maker}
 use Rattle.makers.specs.Makers.{findMaker, makerOver}
 use Rattle.update.specs.Parts.{Reading}
-use Rattle.update.proofs.Model.{standing, makerPut, marked, worked, roundReading, oddReading, makerReading, finraReading, onReading, partReading}
+use Rattle.update.proofs.Model.{standing, makerPut, marked, worked, roundReading, oddReading, makerReading, finraReading, statusReading, onReading, partReading}
 use Rattle.work.specs.Work.{Listed, isListed, findReading, listing, listedOf}
-use Rattle.review.specs.Reviewer.{roundsOf, makerOf, levelsOf}
+use Rattle.review.specs.Reviewer.{roundsOf, makerOf, levelsOf, haltedOf}
 use Rattle.review.proofs.CellLaws.{Room, room-same, put-other, put-same, put-sole, put-length, mark-find, mark-sole, mark-length}
 use Rattle.review.proofs.TimeLaws.{held}
-use Rattle.review.proofs.HistoryLaws.{maker-maker, maker-finra, maker-round, maker-odd}
+use Rattle.review.proofs.HistoryLaws.{maker-maker, maker-finra, maker-round, maker-odd, maker-status}
 use Rattle.review.proofs.SilentLaws.{names}
 use Rattle.review.proofs.Agree.{Good, AllGood, Apart, Core}
 
@@ -33,7 +33,7 @@ module _ (h : List Part) (r : Reading) (g : Good h r) where
   own = eq-eqb (r .symbol) (r .symbol) refl
 
   round-good : (l : ℕ) (q : Quote) → Good (roundPart (r .symbol) l q ∷ h) (roundReading l q r)
-  unfolding roundReading worked roundsOf levelsOf held
+  unfolding roundReading worked roundsOf levelsOf haltedOf held
   round-good l q =
       record {
         quotes = λ k. rw own (go k (cut l k));
@@ -41,6 +41,7 @@ module _ (h : List Part) (r : Reading) (g : Good h r) where
         size = g .size;
         makers = λ m. g .makers m ∙ sym (maker-round (r .symbol) l q h (r .symbol) m);
         levels = g .levels;
+        halted = g .halted;
         entries = refl;
       }
     where
@@ -49,7 +50,7 @@ module _ (h : List Part) (r : Reading) (g : Good h r) where
       go k (apart t e) = rw t (g .quotes k)
 
   odd-good : (l : ℕ) (o : Odd) → Good (oddPart (r .symbol) l o ∷ h) (oddReading l o r)
-  unfolding oddReading worked roundsOf levelsOf
+  unfolding oddReading worked roundsOf levelsOf haltedOf
   odd-good l o =
       record {
         quotes = g .quotes;
@@ -57,6 +58,7 @@ module _ (h : List Part) (r : Reading) (g : Good h r) where
         size = g .size;
         makers = λ m. g .makers m ∙ sym (maker-odd (r .symbol) l o h (r .symbol) m);
         levels = λ k. rw own (go k (cut l k));
+        halted = g .halted;
         entries = refl;
       }
     where
@@ -67,7 +69,7 @@ module _ (h : List Part) (r : Reading) (g : Good h r) where
       go k (apart t e) = rw t (g .levels k)
 
   maker-good : (m : ℕ) (q : Quote) → Room m q (r .cells) → Good (makerPart (r .symbol) m q ∷ h) (makerReading m q r)
-  unfolding makerReading worked roundsOf levelsOf
+  unfolding makerReading worked roundsOf levelsOf haltedOf
   maker-good m q room =
       record {
         quotes = g .quotes;
@@ -75,6 +77,7 @@ module _ (h : List Part) (r : Reading) (g : Good h r) where
         size = put-length m new (r .cells) ∙ g .size;
         makers = λ k. rw (maker-maker (r .symbol) m q h (r .symbol) k, own) (go k (cut m k));
         levels = g .levels;
+        halted = g .halted;
         entries = refl;
       }
     where
@@ -94,7 +97,7 @@ module _ (h : List Part) (r : Reading) (g : Good h r) where
       go k (apart t e) = rw t (put-other m new (r .cells) k e ∙ g .makers k)
 
   finra-good : (c : ℕ) → Good (finraPart c ∷ h) (finraReading c r)
-  unfolding finraReading worked roundsOf levelsOf
+  unfolding finraReading worked roundsOf levelsOf haltedOf
   finra-good c =
       record {
         quotes = g .quotes;
@@ -102,6 +105,20 @@ module _ (h : List Part) (r : Reading) (g : Good h r) where
         size = mark-length c (r .cells) ∙ g .size;
         makers = λ m. mark-find c m (r .cells) ∙ ap (mapOption (marked c)) (g .makers m) ∙ sym (maker-finra c h (r .symbol) m);
         levels = g .levels;
+        halted = g .halted;
+        entries = refl;
+      }
+
+  status-good : (x : ℕ) → Good (statusPart (r .symbol) x ∷ h) (statusReading x r)
+  unfolding statusReading worked roundsOf levelsOf haltedOf
+  status-good x =
+      record {
+        quotes = g .quotes;
+        sole = g .sole;
+        size = g .size;
+        makers = λ m. g .makers m ∙ sym (maker-status (r .symbol) x h (r .symbol) m);
+        levels = g .levels;
+        halted = rw own;
         entries = refl;
       }
 
@@ -113,9 +130,10 @@ Of s (roundPart t k q) = t ≡ s
 Of s (oddPart t k o) = t ≡ s
 Of s (makerPart t m q) = t ≡ s
 Of s (finraPart c) = ⊥
+Of s (statusPart t x) = t ≡ s
 
 other-good : (p : Part) (s : ℕ) (h : List Part) (r : Reading) → Of s p → (r .symbol ≡ s → ⊥) → Good h r → Good (p ∷ h) r
-unfolding roundsOf levelsOf
+unfolding roundsOf levelsOf haltedOf
 other-good (roundPart t k q) s h r e n g =
     record {
       quotes = λ l. rw (ne-eqb t (r .symbol) (λ z. n (sym z ∙ e))) (g .quotes l);
@@ -123,6 +141,7 @@ other-good (roundPart t k q) s h r e n g =
       size = g .size;
       makers = λ m. g .makers m ∙ sym (maker-round t k q h (r .symbol) m);
       levels = g .levels;
+      halted = g .halted;
       entries = g .entries;
     }
 other-good (oddPart t k o) s h r e n g =
@@ -132,6 +151,7 @@ other-good (oddPart t k o) s h r e n g =
       size = g .size;
       makers = λ m. g .makers m ∙ sym (maker-odd t k o h (r .symbol) m);
       levels = λ l. rw (ne-eqb t (r .symbol) (λ z. n (sym z ∙ e))) (g .levels l);
+      halted = g .halted;
       entries = g .entries;
     }
 other-good (makerPart t k q) s h r e n g =
@@ -141,9 +161,20 @@ other-good (makerPart t k q) s h r e n g =
       size = g .size;
       makers = λ m. rw (maker-maker t k q h (r .symbol) m, ne-eqb t (r .symbol) (λ z. n (sym z ∙ e))) (g .makers m);
       levels = g .levels;
+      halted = g .halted;
       entries = g .entries;
     }
 other-good (finraPart c) s h r e n g = absurd e
+other-good (statusPart t x) s h r e n g =
+    record {
+      quotes = g .quotes;
+      sole = g .sole;
+      size = g .size;
+      makers = λ m. g .makers m ∙ sym (maker-status t x h (r .symbol) m);
+      levels = g .levels;
+      halted = rw (ne-eqb t (r .symbol) (λ z. n (sym z ∙ e))) (g .halted);
+      entries = g .entries;
+    }
 
 module _ (p : Part) (s : ℕ) (h : List Part) (of : Of s p) where
   others-good : (rs : List Reading) → isListed s (listedOf rs) ≡ false → AllGood h rs → AllGood (p ∷ h) rs
@@ -189,11 +220,12 @@ map-listed k [] f = refl
 map-listed k (r ∷ rs) f = let a : listing (k r) ≡ listing r = f r in let b : listedOf (map k rs) ≡ listedOf rs = map-listed k rs f in λ i. a i ∷ b i
 
 pub part-listed : (p : Part) (rs : List Reading) → listedOf (partReading p rs) ≡ listedOf rs
-unfolding partReading roundReading oddReading makerReading finraReading worked
+unfolding partReading roundReading oddReading makerReading finraReading statusReading worked
 part-listed (roundPart s l q) rs = on-listed s (roundReading l q) rs (λ r. refl)
 part-listed (oddPart s l o) rs = on-listed s (oddReading l o) rs (λ r. refl)
 part-listed (makerPart s m q) rs = on-listed s (makerReading m q) rs (λ r. refl)
 part-listed (finraPart c) rs = map-listed (finraReading c) rs (λ r. refl)
+part-listed (statusPart s x) rs = on-listed s (statusReading x) rs (λ r. refl)
 
 -- ---- one part
 
@@ -207,6 +239,7 @@ RoomFor (roundPart s l q) rs = Unit {0}
 RoomFor (oddPart s l o) rs = Unit {0}
 RoomFor (makerPart s m q) rs = Room m q (cellsIn (findReading s rs))
 RoomFor (finraPart c) rs = Unit {0}
+RoomFor (statusPart s x) rs = Unit {0}
 
 part-good : (p : Part) (h : List Part) (rs : List Reading) → Apart (listedOf rs) → AllGood h rs → RoomFor p rs → AllGood (p ∷ h) (partReading p rs)
 unfolding partReading
@@ -216,6 +249,7 @@ part-good (makerPart s n q) h rs a g m =
     on-good (makerPart s n q) s h refl (makerReading n q) rs a g
     (λ r f e d. let room : Room n q (r .cells) = rw f at m in rw (sym e) (maker-good h r d n q room))
 part-good (finraPart c) h rs a g m = map-good (finraPart c) (finraReading c) h rs (λ r d. finra-good h r d c) g
+part-good (statusPart s x) h rs a g m = on-good (statusPart s x) s h refl (statusReading x) rs a g (λ r f e d. rw (sym e) (status-good h r d x))
 
 -- the history and the readings take a part together
 pub core-part : (p : Part) (h : List Part) (rs : List Reading) → Core h rs → RoomFor p rs

@@ -57,7 +57,7 @@ table =
     (accepted 2 1 3 ∷ yes 14 ∷ accepted 3 2 3 ∷ no ∷ yes 14 ∷ no ∷ [])
     -- each symbol by itself; no day need be open: before Start, after End; Start empties the quotes
     ∷ fromMake 2
-    (add zt 100 ∷ add ab 10 ∷ openLine 5 78 ∷ bidAt 0 ∷ startDay ∷ onN 1 (plain 78 7 3 noOdd ∷ []) ∷ protected ab 66 0 ∷ protected ab 83 10020000
+    (add zt 100 78 ∷ add ab 10 78 ∷ openLine 5 78 ∷ bidAt 0 ∷ startDay ∷ onN 1 (plain 78 7 3 noOdd ∷ []) ∷ protected ab 66 0 ∷ protected ab 83 10020000
     ∷ onN 2 (roundLot 78 7 (quoted ab 82 5000000 1 0 0) noOdd ∷ []) ∷ protected ab 66 5000001 ∷ bidAt 5000001
     ∷ endDay ∷ bidAt 10000000 ∷ offerAt 10020000 ∷ startDay ∷ bidAt 0 ∷ offerAt 18446744073709551615 ∷ [])
     (only 0 ∷ only 0 ∷ only 0 ∷ no ∷ only 0 ∷ accepted 2 1 3 ∷ no ∷ no
@@ -65,7 +65,7 @@ table =
     ∷ only 0 ∷ yes 14 ∷ yes 14 ∷ only 0 ∷ no ∷ no ∷ [])
     -- 10, then 74: B is 66 and S is 83; a refusal carries no and 0
     ∷ fromMake 1
-    (protected [] 0 0 ∷ bidAt 0 ∷ protected zt 0 0 ∷ add zt 100 ∷ protected [] 66 0 ∷ protected (90 ∷ 84 ∷ []) 88 0 ∷ protected (122 ∷ 116 ∷ replicate 9 32) 66 0 ∷ protected ab 83 0
+    (protected [] 0 0 ∷ bidAt 0 ∷ protected zt 0 0 ∷ add zt 100 78 ∷ protected [] 66 0 ∷ protected (90 ∷ 84 ∷ []) 88 0 ∷ protected (122 ∷ 116 ∷ replicate 9 32) 66 0 ∷ protected ab 83 0
     ∷ protected (90 ∷ 84 ∷ replicate 10 32) 66 0 ∷ protected zt 0 0 ∷ protected zt 32 0 ∷ protected zt 65 0 ∷ protected zt 67 0 ∷ protected zt 82 0 ∷ protected zt 84 0 ∷ protected zt 88 0
     ∷ protected zt 98 0 ∷ protected zt 115 0 ∷ protected zt 255 0 ∷ bidAt 0 ∷ offerAt 0 ∷ [])
     (only 10 ∷ only 10 ∷ only 10 ∷ only 0 ∷ only 10 ∷ only 10 ∷ only 10 ∷ only 10

@@ -12,8 +12,8 @@ use Rattle.lists.specs.Lists.{orElse, isSome, member}
 use Rattle.lists.proofs.Tests.{clash, Cut, equal, apart, cut}
 use Rattle.quote.specs.Quote.{noQuote, isQuoted, withTimes}
 use Rattle.message.specs.declared.Message.{Message}
-use Rattle.message.specs.Message.{symbolOf, quoteAt, roundConditions, messageOf, Known, codeBy, codeOf, Part, roundPart, oddPart, makerPart, finraPart, roundPartOf, oddPartOf, makerPartOf, partsOf, roundLotOdd, oddLotOdd}
-use Rattle.message.proofs.SpokenLaws.{Spoken, refused, idle, finra, round, odd, maker, spoken, parts-refused, parts-whole, parts-round, parts-odd, parts-maker}
+use Rattle.message.specs.Message.{symbolOf, quoteAt, roundConditions, messageOf, Known, codeBy, codeOf, Part, roundPart, oddPart, makerPart, finraPart, statusPart, roundPartOf, oddPartOf, makerPartOf, statusPartOf, partsOf, roundLotOdd, oddLotOdd}
+use Rattle.message.proofs.SpokenLaws.{Spoken, refused, idle, finra, round, odd, maker, status, spoken, parts-refused, parts-whole, parts-round, parts-odd, parts-maker, parts-status}
 use Rattle.block.specs.Block.{messagesOf}
 use Rattle.calls.specs.Call.{Call, make, add, openLine, startDay, endDay, take, read, protected, numberOf, letterOf}
 use Rattle.line.specs.Line.{done}
@@ -30,6 +30,7 @@ Conditioned (roundPart s l q) = isQuoted (q .condition) ≡ true
 Conditioned (oddPart s l o) = Unit {0}
 Conditioned (makerPart s m q) = Unit {0}
 Conditioned (finraPart c) = Unit {0}
+Conditioned (statusPart s x) = Unit {0}
 
 abbrev AllConditioned : List Part → Type 0
 AllConditioned [] = Unit {0}
@@ -58,6 +59,7 @@ newest s l (roundPart t k q ∷ h) a = go (eqb t s && eqb k l) (newest s l h (a 
 newest s l (oddPart t k o ∷ h) a = newest s l h (a .1)
 newest s l (makerPart t m q ∷ h) a = newest s l h (a .1)
 newest s l (finraPart c ∷ h) a = newest s l h (a .1)
+newest s l (statusPart t x ∷ h) a = newest s l h (a .1)
 
 -- ---- what a message adds
 
@@ -89,6 +91,11 @@ module _ (e : Known) (letter : ℕ) (m : List ℕ) (c : ℕ) where
       go : (b : Bool) → AllConditioned (cond b (makerPartOf m ∷ []) [])
       go true = (tt, tt)
       go false = tt
+  conditioned-by y q (status k n) = rw (parts-status c m k) (go (eqb c 0))
+    where
+      go : (b : Bool) → AllConditioned (cond b (statusPartOf m ∷ []) [])
+      go true = (tt, tt)
+      go false = tt
 
   parts-good : codeOf e letter m ≡ c → AllConditioned (partsOf c m)
   unfolding codeOf
@@ -116,7 +123,7 @@ call-good v c a = go (done (numberOf (v .rest) (v .symbols) c))
   where
     after : (c : Call) → AllConditioned (parts (historyAfter (v .rest) (v .symbols) (v .history) c))
     after (make n) = none-good
-    after (add s k) = a
+    after (add s k p) = a
     after (openLine i l) = a
     after startDay = none-good
     after endDay = a

@@ -39,7 +39,7 @@ module _ (r : Rest) (ts : ℕ → List (List ℕ) → List Told) (p : ℕ → Li
   answer-number : (c : Call) → answerOf r ts p cs k c .number ≡ k
   unfolding answerOf
   answer-number (make n) = refl
-  answer-number (add s l) = refl
+  answer-number (add s n l) = refl
   answer-number (openLine i l) = refl
   answer-number startDay = refl
   answer-number endDay = refl
@@ -68,7 +68,7 @@ number-other b c m = go (sound b) refl
 pub number-told : (b : List ℕ) (c : Call) → call b c .answer .number ≡ numberOn b c
 unfolding call
 number-told b (make n) = refl
-number-told b (add s k) = number-other b (add s k) refl
+number-told b (add s k l) = number-other b (add s k l) refl
 number-told b (openLine i l) = number-other b (openLine i l) refl
 number-told b startDay = number-other b startDay refl
 number-told b endDay = number-other b endDay refl
@@ -94,7 +94,7 @@ line-empty k b ts (some r) e = rw e (refl, refl, refl, refl)
 answer-empty : (r : Rest) (ts : ℕ → List (List ℕ) → List Told) (p : ℕ → List ℕ) (cs : ℕ → Side → ℕ → Option Candidate) (k : ℕ) (c : Call) → done k ≡ false → Fills (answerOf r ts p cs k c)
 unfolding answerOf
 answer-empty r ts p cs k (make n) e = (refl, refl, refl, refl)
-answer-empty r ts p cs k (add s l) e = (refl, refl, refl, refl)
+answer-empty r ts p cs k (add s n l) e = (refl, refl, refl, refl)
 answer-empty r ts p cs k (openLine i l) e = (refl, refl, refl, refl)
 answer-empty r ts p cs k startDay e = (refl, refl, refl, refl)
 answer-empty r ts p cs k endDay e = (refl, refl, refl, refl)

@@ -197,6 +197,16 @@ finraLot letter time symbol odd = header 81 84 letter time ++ (symbol ++ odd)
 abbrev pub finraLevels : ℕ → ℕ → ℕ → ℕ → ℕ → List ℕ → List ℕ
 finraLevels letter time mark bids offers items = finraLot letter time zt (odds mark bids offers (0 ∷ 0 ∷ []) items)
 
+-- a T S of a symbol by a letter at a time; ZT halted and trading by N at 9
+abbrev pub statusBy : ℕ → ℕ → List ℕ → ℕ → List ℕ
+statusBy letter time symbol status = header 84 83 letter time ++ (symbol ++ (status ∷ []))
+
+abbrev pub halt : List ℕ
+halt = statusBy 78 9 zt 72
+
+abbrev pub trade : List ℕ
+trade = statusBy 78 9 zt 84
+
 -- a Q U of ZT on D's line: time, condition, bid and offer, the name's first byte and three spaces
 abbrev pub makerOf : ℕ → ℕ → ℕ → ℕ → ℕ → ℕ → ℕ → List ℕ
 makerOf time c b bs o os name = maker 68 time (quoted zt c b bs o os) (name ∷ 32 ∷ 32 ∷ 32 ∷ [])
@@ -221,9 +231,9 @@ eightTold expected count flags =
 abbrev pub unknown : List ℕ
 unknown = header 81 63 78 0
 
--- ZT with a round lot of 100, line 5 for N, 6 for P, 7 for D, the day open
+-- ZT with a round lot of 100 and the primary letter N, line 5 for N, 6 for P, 7 for D, the day open
 abbrev pub day : List Call → List Call
-day cs = add zt 100 ∷ openLine 5 78 ∷ openLine 6 80 ∷ openLine 7 68 ∷ startDay ∷ cs
+day cs = add zt 100 78 ∷ openLine 5 78 ∷ openLine 6 80 ∷ openLine 7 68 ∷ startDay ∷ cs
 
 abbrev pub begun : List (List ℕ) → List (List ℕ)
 begun rows = only 0 ∷ only 0 ∷ only 0 ∷ only 0 ∷ only 0 ∷ rows
@@ -266,7 +276,7 @@ fromMake n cs told = record { n = n; calls = cs; answers = told }
 
 -- what the reviewer answers, worked out by the definitions named here
 unfoldable pub answered : ℕ → List Call → List (List ℕ)
-unfolding Field.be Field.beBytes Field.part Field.field Lists.sum Lists.member Lists.every Lists.all Ranking.comparedBy Ranking.lower Ranking.higher Ranking.byPrice Ranking.compared Ranking.better Ranking.whyAhead Quote.admits Quote.counts Quote.emptyQuote Quote.withCondition Quote.withTimes Quote.candidateOf Levels.without Levels.insert Levels.itemOn Levels.itemsOn Levels.clears Levels.clearedBy Levels.oddOn Levels.itemsBad Levels.oddBad Levels.oddCode Levels.itemAt Levels.itemsFrom Levels.oddIn Entries.letters Entries.makerCandidate Entries.finraBest Entries.asD Entries.letterCandidate Entries.candidates Entries.nationalBest Entries.nationalReason Entries.oddCandidate Entries.ranks Entries.letterLevels Entries.oddBest Entries.entriesBy Entries.entriesOf Publication.noEntry Publication.publication Publication.changeFlags Protection.firstYes Protection.protection Lists.firstFrom Form.padded Form.symbolGood Form.makerGood Message.controlKind Message.quoteKind Message.kindOf Message.timeOf Message.symbolOf Message.levelAt Message.quoteAt Message.makerName Message.oddAt Message.priceFault Message.quoteFault Message.readInquiry Message.testBytes Message.readTest Message.readFinra Message.readRoundLot Message.readOddLot Message.readMaker Message.messageOf Message.makerCode Message.codeOf Message.partlyTaken Block.checksumOf Block.startAt Block.messageAt Block.messagesFrom Block.messagesOf Block.lengthGood Block.spaced Block.tableGood Block.controlAmong Block.checked Block.idleBlock Sequence.gapOf Sequence.nextOf Sequence.arrivalOf Work.isListed Work.lotOf Line.lineNumber Line.blockNumber Call.numberOf Line.done Told.quads Told.tally Line.gapTold Line.advanced Call.answerOf Work.flagsOf Runs.latestRun Runs.firstTime Reviewer.parts Reviewer.roundsOf Reviewer.quoteOf Reviewer.makerQuotes Reviewer.conditionOf Reviewer.makerOf Reviewer.namesOf Reviewer.makersOf Reviewer.levelsOf Reviewer.reviewedBy Reviewer.knownTo Reviewer.restAfter Reviewer.symbolsAfter Reviewer.historyAfter Reviewer.reviewCall Reviewer.reviewAnswer
+unfolding Field.be Field.beBytes Field.part Field.field Lists.sum Lists.member Lists.every Lists.all Ranking.comparedBy Ranking.lower Ranking.higher Ranking.byPrice Ranking.compared Ranking.better Ranking.whyAhead Quote.admits Quote.counts Quote.emptyQuote Quote.withCondition Quote.withTimes Quote.candidateOf Levels.without Levels.insert Levels.itemOn Levels.itemsOn Levels.clears Levels.clearedBy Levels.oddOn Levels.itemsBad Levels.oddBad Levels.oddCode Levels.itemAt Levels.itemsFrom Levels.oddIn Entries.letters Entries.makerCandidate Entries.finraBest Entries.asD Entries.letterCandidate Entries.candidates Entries.nationalBest Entries.nationalReason Entries.oddCandidate Entries.ranks Entries.letterLevels Entries.oddBest Entries.entriesBy Entries.entriesOf Entries.unlessHalted Entries.tradingCandidates Publication.noEntry Publication.publication Publication.changeFlags Protection.firstYes Protection.protection Lists.firstFrom Form.padded Form.symbolGood Form.makerGood Message.controlKind Message.quoteKind Message.statusKind Message.kindOf Message.timeOf Message.symbolOf Message.levelAt Message.quoteAt Message.makerName Message.oddAt Message.priceFault Message.quoteFault Message.readInquiry Message.testBytes Message.readTest Message.readFinra Message.readRoundLot Message.readOddLot Message.readMaker Message.readStatus Message.messageOf Message.makerCode Message.statusCode Message.codeOf Message.partlyTaken Block.checksumOf Block.startAt Block.messageAt Block.messagesFrom Block.messagesOf Block.lengthGood Block.spaced Block.tableGood Block.controlAmong Block.checked Block.idleBlock Sequence.gapOf Sequence.nextOf Sequence.arrivalOf Work.isListed Work.listedWith Line.lineNumber Line.blockNumber Call.numberOf Line.done Told.quads Told.tally Line.gapTold Line.advanced Call.answerOf Work.flagsOf Runs.latestRun Runs.firstTime Reviewer.parts Reviewer.roundsOf Reviewer.quoteOf Reviewer.makerQuotes Reviewer.conditionOf Reviewer.makerOf Reviewer.namesOf Reviewer.makersOf Reviewer.levelsOf Reviewer.haltedOf Reviewer.reviewedBy Reviewer.knownTo Reviewer.restAfter Reviewer.symbolsAfter Reviewer.historyAfter Reviewer.reviewCall Reviewer.reviewAnswer
 answered n cs = allTold (reviewAnswers (freshReview n) cs)
 
 -- every row is answered as it says

@@ -95,9 +95,9 @@ snoc-wells (y ∷ xs) x w g = (w .0, snoc-wells xs x (w .1) g)
 after-wells : (v : Review) (c : Call) → done (numberOf (v .rest) (v .symbols) c) ≡ true → Wells (v .symbols) → Wells (symbolsAfter (v .symbols) c)
 unfolding symbolsAfter
 after-wells v (make n) d w = tt
-after-wells v (add s k) d w =
-    let b : beBytes symbolLength (be s) ≡ s = symbol-back s (add-done (v .rest) (v .symbols) s k d .good) in
-    snoc-wells (v .symbols) (record { symbol = be s; lot = k }) w (ap symbolGood b ∙ add-done (v .rest) (v .symbols) s k d .good, ap be b)
+after-wells v (add s k l) d w =
+    let b : beBytes symbolLength (be s) ≡ s = symbol-back s (add-done (v .rest) (v .symbols) s k l d .good) in
+    snoc-wells (v .symbols) (record { symbol = be s; lot = k; primary = l }) w (ap symbolGood b ∙ add-done (v .rest) (v .symbols) s k l d .good, ap be b)
 after-wells v (openLine i l) d w = w
 after-wells v startDay d w = w
 after-wells v endDay d w = w

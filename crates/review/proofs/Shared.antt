@@ -85,7 +85,7 @@ table =
     ∷ rejected 24 23 49 ∷ accepted 25 24 0 ∷ accepted 26 25 12 ∷ rejected 27 26 49 ∷ shown (national 68 82 10000000 3) (national 68 82 10020000 2) (finra 81 10000000 3) (finra 81 10020000 2) nothing nothing ∷ [])
     -- FINRA Close and Open in every symbol, and the flags of any; a later Q U has its own condition again
     ∷ fromMake 2
-    (add zt 100 ∷ add ab 10 ∷ openLine 7 68 ∷ startDay ∷ onD 1 (makerOf 7 82 10000000 3 0 0 65 ∷ [])
+    (add zt 100 78 ∷ add ab 10 78 ∷ openLine 7 68 ∷ startDay ∷ onD 1 (makerOf 7 82 10000000 3 0 0 65 ∷ [])
     ∷ onD 2 (maker 68 7 (quoted ab 82 0 0 10020000 2) (66 ∷ 32 ∷ 32 ∷ 32 ∷ []) ∷ []) ∷ onD 3 (control 67 68 ∷ []) ∷ look ∷ read ab 96
     ∷ onD 4 (control 79 68 ∷ []) ∷ look ∷ read ab 96 ∷ onD 5 (control 67 68 ∷ []) ∷ onD 6 (makerOf 7 82 10000000 3 0 0 65 ∷ []) ∷ look ∷ read ab 96 ∷ [])
     (only 0 ∷ only 0 ∷ only 0 ∷ only 0 ∷ accepted 2 1 5 ∷ accepted 3 2 10 ∷ accepted 4 3 15 ∷ none ∷ none
@@ -139,7 +139,7 @@ table =
     ∷ accepted 2 1 16 ∷ shown nothing nothing nothing nothing (odd 78 10014000 1) nothing ∷ accepted 2 1 0 ∷ shown nothing nothing nothing nothing (odd 78 10014000 1) nothing ∷ [])
     -- make again: another n is 2 and changes nothing, the same n leaves no symbols, no lines and a closed day
     ∷ inDay
-    (onN 1 (plain 78 7 3 noOdd ∷ []) ∷ make 2 ∷ look ∷ make 1 ∷ look ∷ onN 2 (plain 78 7 3 noOdd ∷ []) ∷ endDay ∷ add zt 100 ∷ look ∷ [])
+    (onN 1 (plain 78 7 3 noOdd ∷ []) ∷ make 2 ∷ look ∷ make 1 ∷ look ∷ onN 2 (plain 78 7 3 noOdd ∷ []) ∷ endDay ∷ add zt 100 78 ∷ look ∷ [])
     (accepted 2 1 3 ∷ only 2 ∷ besides nothing nothing ∷ only 0 ∷ only 10 ∷ only 21 ∷ only 12 ∷ only 0 ∷ none ∷ [])
     ∷ []
 

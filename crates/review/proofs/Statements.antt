@@ -11,13 +11,13 @@ use Rattle.calls.specs.Call.{Call, make, add, openLine, startDay, endDay, take,
 use Rattle.review.specs.Reviewer.{freshReview, reviewAfter}
 use Rattle.review.specs.Frame.{touched, takenOf, takenR}
 use Rattle.review.specs.Numbers.{numbersOf, codes}
-use Rattle.review.proofs.Rows.{odds, control, integrity, test, block, zt, ab, roundOf, noOdd, plain, levels, finraLevels, standing, unknown, answered}
+use Rattle.review.proofs.Rows.{odds, control, integrity, test, block, zt, ab, roundOf, noOdd, plain, levels, finraLevels, statusBy, halt, standing, unknown, answered}
 
 -- ---- which symbols a block touches
 
 -- ZT and AB, line 5 for N, 7 for D, the day open
 abbrev begun : List Call
-begun = add zt 100 ∷ add ab 10 ∷ openLine 5 78 ∷ openLine 7 68 ∷ startDay ∷ []
+begun = add zt 100 78 ∷ add ab 10 78 ∷ openLine 5 78 ∷ openLine 7 68 ∷ startDay ∷ []
 
 -- a block on a line: a sequence number, its messages; whether it touches the symbol
 unfoldable pub touchedBy : ℕ → ℕ → List (List ℕ) → List ℕ → Bool
@@ -66,6 +66,19 @@ misplaced-finra-odd-lots = refl
 pub a-maker : both 7 1 (standing 7 3 65 ∷ []) ≡ true ∷ false ∷ []
 unfolding touchedBy
 a-maker = refl
+
+-- T S of ZT by its primary letter: accepted, rejected with 77; off its line, rejected with 76
+pub statuses : both 5 1 (halt ∷ []) ≡ true ∷ false ∷ []
+unfolding touchedBy
+statuses = refl
+
+pub rejected-statuses : both 5 1 (statusBy 78 9 zt 0 ∷ []) ≡ false ∷ false ∷ []
+unfolding touchedBy
+rejected-statuses = refl
+
+pub misplaced-statuses : both 7 1 (statusBy 68 9 zt 72 ∷ []) ≡ false ∷ false ∷ []
+unfolding touchedBy
+misplaced-statuses = refl
 
 -- FINRA Close and Open touch every symbol; off D's line, rejected with 44, none
 pub finra-close : both 7 1 (control 67 68 ∷ []) ≡ true ∷ true ∷ []
@@ -116,8 +129,8 @@ a-refused-block = refl
 pub of-make : (n : ℕ) → numbersOf (make n) ≡ 0 ∷ 2 ∷ []
 of-make n = refl
 
-pub of-add : (s : List ℕ) (k : ℕ) → numbersOf (add s k) ≡ 0 ∷ 1 ∷ 3 ∷ 6 ∷ 4 ∷ 5 ∷ []
-of-add s k = refl
+pub of-add : (s : List ℕ) (k l : ℕ) → numbersOf (add s k l) ≡ 0 ∷ 1 ∷ 3 ∷ 6 ∷ 75 ∷ 4 ∷ 5 ∷ []
+of-add s k l = refl
 
 pub of-open : (i l : ℕ) → numbersOf (openLine i l) ≡ 0 ∷ 1 ∷ 7 ∷ 8 ∷ []
 of-open i l = refl
@@ -137,5 +150,5 @@ of-read s room = refl
 pub of-protected : (s : List ℕ) (m x : ℕ) → numbersOf (protected s m x) ≡ 0 ∷ 1 ∷ 10 ∷ 74 ∷ []
 of-protected s m x = refl
 
-pub of-messages : codes ≡ 0 ∷ 40 ∷ 41 ∷ 42 ∷ 43 ∷ 44 ∷ 45 ∷ 46 ∷ 47 ∷ 48 ∷ 49 ∷ 60 ∷ 61 ∷ 62 ∷ 63 ∷ 64 ∷ []
+pub of-messages : codes ≡ 0 ∷ 40 ∷ 41 ∷ 42 ∷ 43 ∷ 44 ∷ 45 ∷ 46 ∷ 47 ∷ 48 ∷ 49 ∷ 60 ∷ 61 ∷ 62 ∷ 63 ∷ 64 ∷ 76 ∷ 77 ∷ []
 of-messages = refl

@@ -14,8 +14,8 @@ use Rattle.lists.specs.Lists.{isSome}
 use Rattle.lists.proofs.Tests.{clash, Cut, equal, apart, cut}
 use Rattle.message.specs.declared.Kind.the-variants as kind
 use Rattle.message.specs.declared.Message.{Message}
-use Rattle.message.specs.Message.{quoteAt, symbolOf, makerName, messageOf, Known, makerCode, codeBy, codeOf, Part, roundPartOf, oddPartOf, makerPartOf, partlyTaken, partsOf, roundLotOdd, oddLotOdd}
-use Rattle.message.proofs.SpokenLaws.{Spoken, refused, idle, finra, round, odd, maker, spoken, parts-refused, parts-whole, parts-round, parts-odd, parts-maker}
+use Rattle.message.specs.Message.{quoteAt, symbolOf, makerName, messageOf, Known, makerCode, codeBy, codeOf, Part, roundPartOf, oddPartOf, makerPartOf, statusOf, statusPartOf, partlyTaken, partsOf, roundLotOdd, oddLotOdd}
+use Rattle.message.proofs.SpokenLaws.{Spoken, refused, idle, finra, round, odd, maker, status, spoken, parts-refused, parts-whole, parts-round, parts-odd, parts-maker, parts-status}
 use Rattle.page.specs.Page.{occupied}
 use Rattle.makers.specs.Makers.{findMaker}
 use Rattle.update.specs.Parts.{Reading, knownBy, knownOf}
@@ -27,7 +27,7 @@ use Rattle.review.proofs.CellLaws.{Room}
 use Rattle.review.proofs.SilentLaws.{names}
 use Rattle.review.proofs.Agree.{Good, good-reviewed, AllGood, Core, ReadingOf, missing, found, reading-of, known-same}
 use Rattle.review.proofs.PartLaws.{RoomFor, cellsIn, core-part, part-listed}
-use Rattle.review.proofs.CodeLaws.{Takes, takes-whole, takes-partly, round-taken, odd-taken, MakerTaken, maker-taken, long}
+use Rattle.review.proofs.CodeLaws.{Takes, takes-whole, takes-partly, round-taken, odd-taken, MakerTaken, maker-taken, status-taken, long}
 use Rattle.review.proofs.KeptLaws.{onto, kept-parts}
 use Rattle.page.specs.Layout.{makerCount}
 
@@ -144,6 +144,11 @@ module _ (letter : ℕ) (m : List ℕ) (h : List Part) (rs : List Reading) (g : 
       go (equal t z) =
           let r : MakerTaken e letter m c (takes-whole c z) = maker-taken e letter m c (takes-whole c z) q in
           rw t (named _ (λ s. refl) (room-of h rs g (symbolOf m) (makerName m) (quoteAt m) (r .known) (r .room ∙ z)) (r .known), tt)
+      go (apart t z) = rw t tt
+  ready-by y q (status k n) = rw (parts-status c m k) (go (cut c 0))
+    where
+      go : Cut c 0 → AllReady (cond (eqb c 0) (statusPartOf m ∷ []) []) rs
+      go (equal t z) = rw t (named _ (λ s. refl) tt (status-taken e letter m c (takes-whole c z) (statusOf m) q), tt)
       go (apart t z) = rw t tt
 
   message-ready : AllReady (partsOf c m) rs

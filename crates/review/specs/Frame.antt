@@ -27,6 +27,7 @@ touchesBy m s kind.Test = false
 touchesBy m s kind.RoundLot = eqb (symbolOf m) s
 touchesBy m s (kind.OddLot finra) = eqb (symbolOf m) s
 touchesBy m s kind.Maker = eqb (symbolOf m) s
+touchesBy m s kind.Status = eqb (symbolOf m) s
 touchesBy m s kind.Unknown = false
 
 abbrev pub touches : List ℕ → ℕ → Bool

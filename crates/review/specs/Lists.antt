@@ -14,7 +14,7 @@ areBytes b = every (λ x. ltb x 256) b
 -- a call's block, if it has one, is bytes
 abbrev pub blockIsBytes : Call → Bool
 blockIsBytes (make n) = true
-blockIsBytes (add s k) = true
+blockIsBytes (add s k l) = true
 blockIsBytes (openLine i l) = true
 blockIsBytes startDay = true
 blockIsBytes endDay = true

@@ -6,7 +6,7 @@ use Rattle.calls.specs.Call.{Call, make, add, openLine, startDay, endDay, take,
 
 abbrev pub numbersOf : Call → List ℕ
 numbersOf (make n) = 0 ∷ 2 ∷ []
-numbersOf (add s k) = 0 ∷ 1 ∷ 3 ∷ 6 ∷ 4 ∷ 5 ∷ []
+numbersOf (add s k l) = 0 ∷ 1 ∷ 3 ∷ 6 ∷ 75 ∷ 4 ∷ 5 ∷ []
 numbersOf (openLine i l) = 0 ∷ 1 ∷ 7 ∷ 8 ∷ []
 numbersOf startDay = 0 ∷ 1 ∷ 11 ∷ []
 numbersOf endDay = 0 ∷ 1 ∷ 12 ∷ []
@@ -15,4 +15,4 @@ numbersOf (read s room) = 0 ∷ 1 ∷ 9 ∷ 10 ∷ []
 numbersOf (protected s m x) = 0 ∷ 1 ∷ 10 ∷ 74 ∷ []
 
 abbrev pub codes : List ℕ
-codes = 0 ∷ 40 ∷ 41 ∷ 42 ∷ 43 ∷ 44 ∷ 45 ∷ 46 ∷ 47 ∷ 48 ∷ 49 ∷ 60 ∷ 61 ∷ 62 ∷ 63 ∷ 64 ∷ []
+codes = 0 ∷ 40 ∷ 41 ∷ 42 ∷ 43 ∷ 44 ∷ 45 ∷ 46 ∷ 47 ∷ 48 ∷ 49 ∷ 60 ∷ 61 ∷ 62 ∷ 63 ∷ 64 ∷ 76 ∷ 77 ∷ []

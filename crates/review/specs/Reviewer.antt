@@ -1,31 +1,32 @@
--- The reviewer (document 01, "The reviewer's history"): fed the calls alone, it holds n, the symbols with their round lots, the lines, the day and a
--- history, and works every number, code, flag and entry out anew from these. The history is the accepted messages as bytes, the newest first.
+-- The reviewer (document 01, "The reviewer's history"): fed the calls alone, it holds n, the symbols with their round lots and, for T-10's checks, their
+-- primary letters, the lines, the day and a history, and works every number, code, flag and entry out anew from these. The history is the accepted
+-- messages as bytes, the newest first.
 -- Assumes nothing.
 use Prim.Native.Nat.{ℕ}
-use mathlib.Core.Bool.{true, false, _&&_, cond}
+use mathlib.Core.Bool.{Bool, true, false, _&&_, cond}
 use mathlib.Core.List.{List, [], _∷_, _++_, map}
 use mathlib.Core.Option.{Option, none, some}
 use lib.Dec.{eqb}
 use lib.ListN.{length, take as prefix}
 use Rattle.field.specs.Field.{be}
-use Rattle.field.specs.Ascii.{L, R}
+use Rattle.field.specs.Ascii.{H, L, R}
 use Rattle.lists.specs.Lists.{mapOption, orElse, isSome, collect, member}
 use Rattle.ranking.specs.declared.Side.{Side}
 use Rattle.ranking.specs.declared.Candidate.{Candidate}
 use Rattle.quote.specs.declared.Quote.{Quote}
 use Rattle.quote.specs.Quote.{noQuote, emptyQuote, withCondition}
 use Rattle.levels.specs.Levels.{Standing, noLevels, oddOn}
-use Rattle.entries.specs.Entries.{Maker, entriesOf, candidates}
+use Rattle.entries.specs.Entries.{Maker, entriesOf, candidates, unlessHalted, tradingCandidates}
 use Rattle.entries.specs.Publication.{publication}
 use Rattle.block.specs.Block.{messagesOf}
 use Rattle.message.specs.declared.Kind.{Kind}
 use Rattle.message.specs.declared.Kind.the-variants as kind
-use Rattle.message.specs.Message.{roundLength, kindOf, symbolOf, roundLotOdd, oddLotOdd, roundPartOf, oddPartOf, makerPartOf, Known, codeOf, partlyTaken, Part, roundPart, oddPart, makerPart, finraPart}
+use Rattle.message.specs.Message.{roundLength, kindOf, symbolOf, roundLotOdd, oddLotOdd, roundPartOf, oddPartOf, makerPartOf, statusPartOf, Known, codeOf, partlyTaken, Part, roundPart, oddPart, makerPart, finraPart, statusPart}
 use Rattle.opening.specs.declared.Line.{Line}
 use Rattle.opening.specs.Opening.{Rest}
 use Rattle.line.specs.Line.{done, advanced}
 use Rattle.calls.specs.Call.{Call, make, add, openLine, startDay, endDay, take, read, protected, numberOf, letterOf, Answer, answerOf}
-use Rattle.work.specs.Work.{Listed, isListed, lotOf, flagsOf}
+use Rattle.work.specs.Work.{Listed, isListed, lotOf, primaryOf, flagsOf}
 use Rattle.told.specs.declared.Told.{Told}
 use Rattle.review.specs.Runs.{latest}
 
@@ -40,6 +41,7 @@ partsBy m kind.Test = []
 partsBy m kind.RoundLot = cond (eqb (length m) roundLength) (roundPartOf m ∷ []) (oddPartOf m (roundLotOdd m) ∷ roundPartOf m ∷ [])
 partsBy m (kind.OddLot finra) = oddPartOf m (oddLotOdd m) ∷ []
 partsBy m kind.Maker = makerPartOf m ∷ []
+partsBy m kind.Status = statusPartOf m ∷ []
 partsBy m kind.Unknown = []
 
 unfoldable pub parts : List (List ℕ) → List Part
@@ -53,6 +55,7 @@ roundsOf (roundPart t k q ∷ h) s l = cond (eqb t s && eqb k l) (q ∷ roundsOf
 roundsOf (oddPart t k o ∷ h) s l = roundsOf h s l
 roundsOf (makerPart t m q ∷ h) s l = roundsOf h s l
 roundsOf (finraPart c ∷ h) s l = roundsOf h s l
+roundsOf (statusPart t x ∷ h) s l = roundsOf h s l
 
 -- "A letter's quote is its last round part naming the symbol", its times by T-02
 unfoldable pub quoteOf : List Part → ℕ → ℕ → Quote
@@ -65,6 +68,7 @@ makerQuotes (roundPart t k q ∷ h) s m = makerQuotes h s m
 makerQuotes (oddPart t k o ∷ h) s m = makerQuotes h s m
 makerQuotes (makerPart t k q ∷ h) s m = cond (eqb t s && eqb k m) (cond (emptyQuote q) [] (q ∷ makerQuotes h s m)) (makerQuotes h s m)
 makerQuotes (finraPart c ∷ h) s m = makerQuotes h s m
+makerQuotes (statusPart t x ∷ h) s m = makerQuotes h s m
 
 -- "the last FINRA Close or Open after it sets condition L or R"; c if there is none after it
 unfoldable pub conditionOf : List Part → ℕ → ℕ → ℕ → ℕ
@@ -73,6 +77,7 @@ conditionOf (roundPart t k q ∷ h) s m c = conditionOf h s m c
 conditionOf (oddPart t k o ∷ h) s m c = conditionOf h s m c
 conditionOf (makerPart t k q ∷ h) s m c = cond (eqb t s && eqb k m) c (conditionOf h s m c)
 conditionOf (finraPart d ∷ h) s m c = d
+conditionOf (statusPart t x ∷ h) s m c = conditionOf h s m c
 
 abbrev pub standingMaker : ℕ → (ℕ → ℕ) → Quote → Maker
 standingMaker m c q = record { name = m; quote = withCondition (c (q .condition)) q }
@@ -91,6 +96,7 @@ namesOf (roundPart t k q ∷ h) s = namesOf h s
 namesOf (oddPart t k o ∷ h) s = namesOf h s
 namesOf (makerPart t k q ∷ h) s = cond (eqb t s) (withName k (namesOf h s)) (namesOf h s)
 namesOf (finraPart c ∷ h) s = namesOf h s
+namesOf (statusPart t x ∷ h) s = namesOf h s
 
 unfoldable pub makersOf : List Part → ℕ → List Maker
 makersOf h s = collect (makerOf h s) (namesOf h s)
@@ -102,17 +108,27 @@ levelsOf (roundPart t k q ∷ h) s l = levelsOf h s l
 levelsOf (oddPart t k o ∷ h) s l = cond (eqb t s && eqb k l) (orElse (oddOn o (levelsOf h s l)) (levelsOf h s l)) (levelsOf h s l)
 levelsOf (makerPart t m q ∷ h) s l = levelsOf h s l
 levelsOf (finraPart c ∷ h) s l = levelsOf h s l
+levelsOf (statusPart t x ∷ h) s l = levelsOf h s l
 
--- "Best entries and Publication then give 96 bytes"
+-- T-10: "Recomputing from history takes the last accepted status into account"; without one the symbol trades
+unfoldable pub haltedOf : List Part → ℕ → Bool
+haltedOf [] s = false
+haltedOf (roundPart t k q ∷ h) s = haltedOf h s
+haltedOf (oddPart t k o ∷ h) s = haltedOf h s
+haltedOf (makerPart t k q ∷ h) s = haltedOf h s
+haltedOf (finraPart c ∷ h) s = haltedOf h s
+haltedOf (statusPart t x ∷ h) s = cond (eqb t s) (eqb x H) (haltedOf h s)
+
+-- "Best entries and Publication then give 96 bytes"; T-10: "While a symbol is halted all six entries are worked out as none"
 unfoldable pub reviewedBy : List Part → ℕ → List ℕ
-reviewedBy h s = publication (entriesOf (quoteOf h s) (makersOf h s) (levelsOf h s))
+reviewedBy h s = publication (unlessHalted (haltedOf h s) (entriesOf (quoteOf h s) (makersOf h s) (levelsOf h s)))
 
 abbrev pub reviewed : List (List ℕ) → ℕ → List ℕ
 reviewed h s = reviewedBy (parts h) s
 
--- the symbol's national candidates of a side by letter, for T-06
+-- the symbol's national candidates of a side by letter, for T-06; none while it is halted
 abbrev pub candidatesR : List (List ℕ) → ℕ → Side → ℕ → Option Candidate
-candidatesR h s = candidates (quoteOf (parts h) s) (makersOf (parts h) s)
+candidatesR h s = tradingCandidates (haltedOf (parts h) s) (candidates (quoteOf (parts h) s) (makersOf (parts h) s))
 
 -- what the symbols and the history give for the code of a message that names the symbol
 unfoldable pub knownTo : List Listed → List Part → ℕ → Known
@@ -120,6 +136,7 @@ knownTo ls h s =
     record {
       listed = isListed s ls;
       lot = lotOf s ls;
+      primary = primaryOf s ls;
       count = length (makersOf h s);
       stands = λ m. isSome (makerOf h s m);
       levels = levelsOf h s;
@@ -170,7 +187,7 @@ restart x = record { letter = x .letter; expected = 1; count = 0 }
 -- "n, symbols, lines and day move as stated above", by a call that is done
 unfoldable pub restAfter : Rest → Call → Rest
 restAfter r (make n) = record { n = n; lines = λ i. none; day = false }
-restAfter r (add s k) = r
+restAfter r (add s k l) = r
 restAfter r (openLine i l) = record { n = r .n; lines = setLine i (record { letter = l; expected = 1; count = 0 }) (r .lines); day = r .day }
 restAfter r startDay = record { n = r .n; lines = λ i. mapOption restart (r .lines i); day = true }
 restAfter r endDay = record { n = r .n; lines = r .lines; day = false }
@@ -181,7 +198,7 @@ restAfter r (protected s m x) = r
 
 unfoldable pub symbolsAfter : List Listed → Call → List Listed
 symbolsAfter ls (make n) = []
-symbolsAfter ls (add s k) = ls ++ (record { symbol = be s; lot = k } ∷ [])
+symbolsAfter ls (add s k l) = ls ++ (record { symbol = be s; lot = k; primary = l } ∷ [])
 symbolsAfter ls (openLine i l) = ls
 symbolsAfter ls startDay = ls
 symbolsAfter ls endDay = ls
@@ -192,7 +209,7 @@ symbolsAfter ls (protected s m x) = ls
 -- "make and Start of Day with 0 empty the history"; "Nothing else alters the history"
 unfoldable pub historyAfter : Rest → List Listed → List (List ℕ) → Call → List (List ℕ)
 historyAfter r ls h (make n) = []
-historyAfter r ls h (add s k) = h
+historyAfter r ls h (add s k l) = h
 historyAfter r ls h (openLine i l) = h
 historyAfter r ls h startDay = []
 historyAfter r ls h endDay = h

@@ -9,9 +9,9 @@ use Rattle.opening.specs.Layout.{bookLength}
 use Rattle.setup.specs.declared.Setup.{Setup}
 use Rattle.setup.specs.declared.Setup.the-variants.{Symbol, Line}
 
--- bytes of one: a symbol and its round lot, or a line and its letter
+-- bytes of one: a symbol, its round lot and (document 02, T-10: "reads that letter after the round lot") its primary letter, or a line and its letter
 abbrev pub setupLength : Setup → ℕ
-setupLength Symbol = symbolLength + 1
+setupLength Symbol = symbolLength + 2
 setupLength Line = 2
 
 -- symbols of a tape

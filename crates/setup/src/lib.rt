@@ -14,7 +14,7 @@ use text::Symbol;
 
 /// What a book is set up with.
 pub enum Setup {
-    /// A symbol and its round lot.
+    /// A symbol, its round lot and its primary letter.
     Symbol,
     /// A line and its letter.
     Line,
@@ -27,7 +27,10 @@ impl Setup {
     /// Bytes of a book for as many.
     pub const MEMORY: usize = Book::OPENING_LEN + Setup::SYMBOLS_MAX * Book::PAGE_LEN;
 
-    const SYMBOL_LEN: usize = Symbol::LEN + 1;
+    // Where the primary letter stands behind the round lot.
+    const PRIMARY: usize = Symbol::LEN + 1;
+
+    const SYMBOL_LEN: usize = Setup::PRIMARY + 1;
 
     const LINE_LEN: usize = 2;
     // Where the letter stands behind its line.
@@ -108,7 +111,8 @@ fn call(book: &mut [u8], what: Setup, bytes: &[u8]) -> u8
     match what {
         Setup::Symbol => {
             let lot = field::get8(bytes, Symbol::LEN) as u32;
-            book::add_symbol(book, &bytes[0..Symbol::LEN], lot)
+            let primary = field::get8(bytes, Setup::PRIMARY);
+            book::add_symbol(book, &bytes[0..Symbol::LEN], lot, primary)
         }
         Setup::Line => {
             let line = field::get8(bytes, 0) as u32;

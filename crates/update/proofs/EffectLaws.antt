@@ -24,7 +24,7 @@ use Rattle.levels.specs.declared.Judged.the-variants.{Pass, Refused}
 use Rattle.oddpart.proofs.AnswerLaws.{answer-pass, refused-nothing, refused-code, odd-idle, idle-in, write-both}
 use Rattle.entries.specs.Publication.{publication, changeFlags, publicationLength}
 use Rattle.page.proofs.FrameLaws.{refreshed-part}
-use Rattle.page.specs.Page.{quotesIn, levelsFor, pageEntries, refreshed}
+use Rattle.page.specs.Page.{quotesIn, levelsFor, publishedEntries, refreshed}
 use Rattle.message.specs.Message.{makerCode}
 use Rattle.makers.specs.Makers.{putMaker, makerPlace, freePlace, cellFor, markCell, markCells}
 use Rattle.update.specs.Parts.{readingOf, knownBy, putRound, roundOn, putLevels, putOdd, oddOnPage, makerOn, finraOn}
@@ -48,7 +48,7 @@ unfolding flagged
 flagged-from code p p′ q e = rw e
 
 -- what `renew` gives
-pub renewed-is : (code : ℕ) (p q : List ℕ) (r : ℕ) → length p ≡ pageLength → r ≡ changeFlags (keptEntries p) (publication (pageEntries p)) → q ≡ refreshed p
+pub renewed-is : (code : ℕ) (p q : List ℕ) (r : ℕ) → length p ≡ pageLength → r ≡ changeFlags (keptEntries p) (publication (publishedEntries p)) → q ≡ refreshed p
     → _≡_ {A = Updated} (record { effect = record { code = code; flags = r }; page = q }) (flagged code p (refreshed p))
 unfolding flagged
 renewed-is code p q r w e f = rw (refreshed-part p (omega arith), ← e, ← f)
@@ -202,7 +202,7 @@ marks-stand c i (suc k) p w h =
     marks-stand c (i + 1) k (splice p (cellAt i) (markCell c (part p (cellAt i) cellLength))) n (omega arith)
     ∙ entries-stand p (cellAt i) (markCell c (part p (cellAt i) cellLength)) w (omega arith) (omega arith)
 
-pub finra-is : (c : ℕ) (p p′ q : List ℕ) (r : ℕ) → length p ≡ pageLength → p′ ≡ markCells c 0 makerCount p → length p′ ≡ pageLength → r ≡ changeFlags (keptEntries p′) (publication (pageEntries p′)) → q ≡ refreshed p′
+pub finra-is : (c : ℕ) (p p′ q : List ℕ) (r : ℕ) → length p ≡ pageLength → p′ ≡ markCells c 0 makerCount p → length p′ ≡ pageLength → r ≡ changeFlags (keptEntries p′) (publication (publishedEntries p′)) → q ≡ refreshed p′
     → (r ≡ changeFlags (keptEntries p) (keptEntries (finraOn c p))) × (q ≡ finraOn c p)
 unfolding finraOn
 finra-is c p p′ q r w d n e f = (

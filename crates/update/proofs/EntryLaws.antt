@@ -6,7 +6,7 @@ use mathlib.Core.Bool.{Bool, true, false, cond}
 use mathlib.Core.List.{List, [], _∷_}
 use mathlib.Core.Option.{Option}
 use native.Mathlib.Omega.{arith}
-use lib.Dec.{ltb, lit<}
+use lib.Dec.{ltb, eqb, lit<}
 use lib.ListN.{length}
 use borrow.Author.Tests.{ltb-true}
 use Rattle.field.specs.Field.{Bytes, be, part, field, splice}
@@ -19,12 +19,13 @@ use Rattle.quote.specs.Quote.{noQuote, quoteIn, quoteLength}
 use Rattle.levels.specs.Levels.{Standing, noLevels, levelsIn, levelsLength}
 use Rattle.entries.specs.Entries.{Maker}
 use Rattle.entries.specs.Publication.{publication, publicationLength}
-use Rattle.page.specs.Page.{quotesIn, levelsFor, makerIn, makersIn, pageEntries, refreshed}
+use Rattle.page.specs.Page.{quotesIn, levelsFor, makerIn, makersIn, pageEntries, haltedIn, publishedEntries, refreshed}
 use Rattle.entries.proofs.LengthLaws.{length-publication, bytes-publication}
-use Rattle.page.proofs.FrameLaws.{quotes-kept, makers-kept, levels-kept}
+use Rattle.page.proofs.FrameLaws.{quotes-kept, makers-kept, levels-kept, halted-kept}
 use Rattle.update.specs.Parts.{Reading, readingOf}
-use Rattle.update.proofs.Model.{worked}
-use Rattle.page.specs.Layout.{entriesAt, cellLength, makerCount, pageLength, pageSymbol, pageLot, keptEntries, slotAt, cellAt, symbolAt, lotAt, headLength}
+use Rattle.update.proofs.Model.{worked, workedFor}
+use Rattle.page.specs.Layout.{entriesAt, cellLength, makerCount, pageLength, pageSymbol, pageLot, pagePrimary, keptEntries, slotAt, cellAt, symbolAt, lotAt, primaryAt, statusAt, headLength}
+use Rattle.field.specs.Ascii.{H}
 use Rattle.text.specs.Form.{symbolLength}
 
 -- a list of bytes, by a test that computes
@@ -59,7 +60,7 @@ module _ (p p′ : List ℕ) where
 
 -- ---- what every change of a page keeps
 
--- its length, its symbol and round lot, and that it is bytes
+-- its length, its symbol, round lot and primary letter, and that it is bytes
 pub record Kept (p p′ : List ℕ) : Type 0 where
   pub size : length p′ ≡ pageLength
   pub head : (at m : ℕ) → at + m ≤ headLength → part p′ at m ≡ part p at m
@@ -87,30 +88,41 @@ pub kept-lot : (p p′ : List ℕ) → Kept p p′ → pageLot p′ ≡ pageLot 
 unfolding field
 kept-lot p p′ k = ap be (k .head lotAt 1 (omega arith))
 
+pub kept-primary : (p p′ : List ℕ) → Kept p p′ → pagePrimary p′ ≡ pagePrimary p
+unfolding field
+kept-primary p p′ k = ap be (k .head primaryAt 1 (omega arith))
+
+-- a page with the same status
+pub halted-same : (p p′ : List ℕ) → part p′ statusAt 1 ≡ part p statusAt 1 → haltedIn p′ ≡ haltedIn p
+unfolding haltedIn field
+halted-same p p′ e = ap (λ (x : List ℕ). eqb (be x) H) e
+
 pub refreshed-kept : (p : List ℕ) → length p ≡ pageLength → Kept p (refreshed p)
 unfolding refreshed
 refreshed-kept p w =
-    kept-splice p entriesAt (publication (pageEntries p)) w (omega arith) (omega (arith, length-publication (pageEntries p))) (bytes-publication (pageEntries p))
+    kept-splice p entriesAt (publication (publishedEntries p)) w (omega arith) (omega (arith, length-publication (publishedEntries p))) (bytes-publication (publishedEntries p))
 
 -- ---- a reading with its entries worked out anew
 
 abbrev pub again : Reading → Reading
-again r = worked (r .symbol) (r .lot) (r .quotes) (r .cells) (r .levels)
+again r = workedFor r (r .quotes) (r .cells) (r .levels)
 
 pub refreshed-reads : (p : List ℕ) → length p ≡ pageLength → readingOf (refreshed p) ≡ again (readingOf p)
-unfolding refreshed worked readingOf pageEntries
+unfolding refreshed worked readingOf publishedEntries pageEntries
 refreshed-reads p w =
-    let E : List ℕ = publication (pageEntries p) in
-    let n : length E ≡ publicationLength = length-publication (pageEntries p) in
+    let E : List ℕ = publication (publishedEntries p) in
+    let n : length E ≡ publicationLength = length-publication (publishedEntries p) in
     let h : entriesAt ≤ length p = omega arith in
     let s : pageSymbol (splice p entriesAt E) ≡ pageSymbol p = field-before p entriesAt E symbolAt symbolLength h (omega arith) in
     let t : pageLot (splice p entriesAt E) ≡ pageLot p = field-before p entriesAt E lotAt 1 h (omega arith) in
+    let u : pagePrimary (splice p entriesAt E) ≡ pagePrimary p = field-before p entriesAt E primaryAt 1 h (omega arith) in
     let e : keptEntries (splice p entriesAt E) ≡ E = part-put p entriesAt E publicationLength n h in
-    λ i. record { symbol = s i; lot = t i; quotes = quotes-kept p E n i; cells = makers-kept p E n i; levels = levels-kept p E n i; entries = e i }
+    λ i. record { symbol = s i; lot = t i; primary = u i; halted = halted-kept p E n i; quotes = quotes-kept p E n i; cells = makers-kept p E n i; levels = levels-kept p E n i; entries = e i }
 
--- a changed page, refreshed: its quotes, cells and levels read apart
-pub reads-by : (p p′ : List ℕ) (quotes : ℕ → Quote) (cells : List (Option Maker)) (levels : ℕ → Standing) → Kept p p′
-    → quotesIn p′ ≡ quotes → makersIn p′ ≡ cells → levelsFor p′ ≡ levels
-    → readingOf (refreshed p′) ≡ worked (readingOf p .symbol) (readingOf p .lot) quotes cells levels
+-- a changed page, refreshed: its status, quotes, cells and levels read apart
+pub reads-by : (p p′ : List ℕ) (halted : Bool) (quotes : ℕ → Quote) (cells : List (Option Maker)) (levels : ℕ → Standing) → Kept p p′
+    → haltedIn p′ ≡ halted → quotesIn p′ ≡ quotes → makersIn p′ ≡ cells → levelsFor p′ ≡ levels
+    → readingOf (refreshed p′) ≡ worked (readingOf p .symbol) (readingOf p .lot) (readingOf p .primary) halted quotes cells levels
 unfolding readingOf
-reads-by p p′ quotes cells levels k q c v = refreshed-reads p′ (k .size) ∙ (λ i. worked (kept-symbol p p′ k i) (kept-lot p p′ k i) (q i) (c i) (v i))
+reads-by p p′ halted quotes cells levels k t q c v =
+    refreshed-reads p′ (k .size) ∙ (λ i. worked (kept-symbol p p′ k i) (kept-lot p p′ k i) (kept-primary p p′ k i) (t i) (q i) (c i) (v i))

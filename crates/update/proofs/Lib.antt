@@ -11,3 +11,4 @@ pub mod WorkLaws
 pub mod UpdateLaws
 pub mod StoreLaws
 pub mod EffectLaws
+pub mod StatusLaws

@@ -1,4 +1,4 @@
--- Makers' quotes, and FINRA Close and Open: what they leave of a page of 6054 bytes. And the searches for a maker's cell and for a free one.
+-- Makers' quotes, and FINRA Close and Open: what they leave of a page of `pageLength` bytes. And the searches for a maker's cell and for a free one.
 -- Assumes nothing.
 use Prim.Native.Nat.{ℕ, zero, suc, _+_, _*_, _^_, _≤_, _<_}
 use mathlib.Core.Path.{_≡_, refl, sym, ap, _∙_}
@@ -9,7 +9,7 @@ use native.Mathlib.Omega.{arith}
 use lib.Dec.{ltb, lit≤}
 use lib.ListN.{length}
 use Rattle.field.specs.Field.{Bytes, part, field, splice}
-use Rattle.field.proofs.Laws.{length-part, bytes-part, bytes-splice, part-part, part-before}
+use Rattle.field.proofs.Laws.{length-part, bytes-part, bytes-splice, part-part, part-before, part-behind}
 use Rattle.lists.specs.Lists.{range, isSome, mapOption}
 use Rattle.lists.proofs.Ranges.{map-range}
 use Rattle.lists.specs.declared.Found.{Found}
@@ -22,19 +22,19 @@ use Rattle.quote.proofs.QuoteLaws.{quote-fits}
 use Rattle.quote.proofs.OverLaws.{over-condition, over-fits}
 use Rattle.message.specs.Message.{makerCode}
 use Rattle.entries.specs.Entries.{Maker}
-use Rattle.page.specs.Page.{quotesIn, levelsFor, makerIn, makersIn, occupied, refreshed}
+use Rattle.page.specs.Page.{quotesIn, levelsFor, makerIn, makersIn, occupied, haltedIn, refreshed}
 use Rattle.makers.specs.Makers.{named, findMaker, cellOf, makerPlace, freePlace, cellFor, putAt, putMakerBy, putMaker, makerOver, markCell, markCells}
 use Rattle.update.specs.Parts.{readingOf, makerOn, finraOn, knownBy}
 use Rattle.update.proofs.Model.{setAt, asMaker, standing, rewrite, allocate, makerPut, marked, markAll, makerReading, finraReading}
 use Rattle.update.proofs.TableLaws.{cell-same, cell-other, length-cell, eachCell, Each, each-cell, map-set, map-map-range}
 use Rattle.update.proofs.SearchLaws.{foundBy, isAt, find-place, rewrite-place, allocate-place, room-place}
 use Rattle.update.proofs.CellLaws.{Stands, length-for, bytes-for, cell-for, mark-length, mark-bytes, mark-cell}
-use Rattle.update.proofs.EntryLaws.{quotes-same, levels-same, Kept, kept-none, kept-then, kept-splice, refreshed-kept, reads-by}
+use Rattle.update.proofs.EntryLaws.{quotes-same, levels-same, Kept, kept-none, kept-then, kept-splice, refreshed-kept, reads-by, halted-same}
 use Rattle.levels.specs.Levels.{levelsLength}
 use Rattle.field.specs.Ascii.{L, R}
 use Rattle.lists.specs.Lists.{member}
 use Rattle.text.specs.Form.{nameLength}
-use Rattle.page.specs.Layout.{cellsAt, cellLength, makerCount, pageLength, slotAt, cellAt}
+use Rattle.page.specs.Layout.{cellsAt, cellLength, makerCount, pageLength, slotAt, cellAt, statusAt}
 
 -- ---- the searches
 
@@ -134,6 +134,9 @@ module _ (m : ℕ) (q : Quote) (p : List ℕ) (w : length p ≡ pageLength) wher
   put-maker-front : (at n : ℕ) → at + n ≤ cellsAt → part (putMaker m q p) at n ≡ part p at n
   put-maker-front at n h = put-elim (λ x. part x at n ≡ part p at n) refl (λ k b. cell-front p w k b (cellFor m q) (length-for m q) at n h)
 
+  put-maker-halted : haltedIn (putMaker m q p) ≡ haltedIn p
+  put-maker-halted = put-elim (λ x. haltedIn x ≡ haltedIn p) refl (λ k b. halted-same p _ (part-behind p (cellAt k) (cellFor m q) statusAt 1 (omega (arith, length-for m q))))
+
   rewrite-at : (k : ℕ) (c : Option Maker) → makerPlace p m ≡ At k → rewrite m c (makersIn p) ≡ map (setAt k c (cellOf p)) (range makerCount 0)
   unfolding makersIn makerPlace
   rewrite-at k c e = rewrite-place (cellOf p) makerCount m c ∙ ap (foundBy (λ j. map (setAt j c (cellOf p)) (range makerCount 0)) (map (cellOf p) (range makerCount 0))) e
@@ -227,7 +230,7 @@ module _ (m : ℕ) (q : Quote) (p : List ℕ) (w : length p ≡ pageLength) wher
     unfolding makerOn makerReading readingOf
     maker-reads =
         let x : List ℕ = putMaker m (over m q p) p in
-        reads-by p x (quotesIn p) (makerPut m (over m q p) (makersIn p)) (levelsFor p) (put-maker-kept m (over m q p) p w)
+        reads-by p x (haltedIn p) (quotesIn p) (makerPut m (over m q p) (makersIn p)) (levelsFor p) (put-maker-kept m (over m q p) p w) (put-maker-halted m (over m q p) p w)
         (cells-quotes p x (put-maker-front m (over m q p) p w)) (put-makers m (over m q p) p w name over-fit over-stand) (cells-levels p x (put-maker-front m (over m q p) p w))
 
 -- ---- FINRA Close and Open
@@ -258,6 +261,9 @@ module _ (c : ℕ) (p : List ℕ) (w : length p ≡ pageLength) where
   marks-front : (at m : ℕ) → at + m ≤ cellsAt → part (markCells c 0 makerCount p) at m ≡ part p at m
   marks-front at m h = marks .before at m (omega arith)
 
+  marks-halted : haltedIn (markCells c 0 makerCount p) ≡ haltedIn p
+  marks-halted = halted-same p (markCells c 0 makerCount p) (marks .behind statusAt 1 (omega arith))
+
   marks-makers : Stands c → makersIn (markCells c 0 makerCount p) ≡ markAll c (makersIn p)
   unfolding makersIn markAll
   marks-makers s =
@@ -269,5 +275,5 @@ module _ (c : ℕ) (p : List ℕ) (w : length p ≡ pageLength) where
   pub finra-reads : Stands c → readingOf (finraOn c p) ≡ finraReading c (readingOf p)
   unfolding finraOn finraReading readingOf
   finra-reads s =
-      reads-by p (markCells c 0 makerCount p) (quotesIn p) (markAll c (makersIn p)) (levelsFor p) marks-kept
+      reads-by p (markCells c 0 makerCount p) (haltedIn p) (quotesIn p) (markAll c (makersIn p)) (levelsFor p) marks-kept marks-halted
       (cells-quotes p (markCells c 0 makerCount p) marks-front) (marks-makers s) (cells-levels p (markCells c 0 makerCount p) marks-front)

@@ -1,6 +1,6 @@
 -- A page's reading, changed part by part: what each function on a page's bytes is proved to do.
 -- Assumes nothing.
-use mathlib.Core.Bool.{cond}
+use mathlib.Core.Bool.{Bool, false, cond}
 use mathlib.Core.List.{List, [], _∷_, map}
 use mathlib.Core.Option.{Option, none, some}
 use Prim.Native.Nat.{ℕ}
@@ -10,13 +10,14 @@ use Rattle.lists.specs.Lists.{isSome, orElse, mapOption}
 use Rattle.quote.specs.declared.Quote.{Quote}
 use Rattle.quote.specs.Quote.{noQuote, emptyQuote, quoteOver, withCondition}
 use Rattle.levels.specs.Levels.{Standing, noLevels, Odd, oddOn}
-use Rattle.message.specs.Message.{Part, roundPart, oddPart, makerPart, finraPart}
-use Rattle.entries.specs.Entries.{Maker, entriesOf}
+use Rattle.message.specs.Message.{Part, roundPart, oddPart, makerPart, finraPart, statusPart}
+use Rattle.entries.specs.Entries.{Maker, entriesOf, unlessHalted}
 use Rattle.entries.specs.Publication.{publication}
 use Rattle.page.specs.Page.{occupied}
 use Rattle.makers.specs.Makers.{named, findMaker, makerOver}
 use Rattle.update.specs.Parts.{Reading}
 use Rattle.page.specs.Layout.{makerCount}
+use Rattle.field.specs.Ascii.{H}
 
 abbrev pub setAt : {A : Type 0} → ℕ → A → (ℕ → A) → ℕ → A
 setAt i a f j = cond (eqb i j) a (f j)
@@ -52,30 +53,46 @@ markAll c cs = map (mapOption (marked c)) cs
 
 -- ---- readings
 
--- a reading with its entries worked out from its quotes
-unfoldable pub worked : ℕ → ℕ → (ℕ → Quote) → List (Option Maker) → (ℕ → Standing) → Reading
-worked s k quotes cells levels =
-    record { symbol = s; lot = k; quotes = quotes; cells = cells; levels = levels; entries = publication (entriesOf quotes (occupied cells) levels) }
+-- a reading with its entries worked out from its quotes, none while it is halted: symbol, round lot, primary letter, whether it is halted
+unfoldable pub worked : ℕ → ℕ → ℕ → Bool → (ℕ → Quote) → List (Option Maker) → (ℕ → Standing) → Reading
+worked s k m t quotes cells levels =
+    record {
+      symbol = s;
+      lot = k;
+      primary = m;
+      halted = t;
+      quotes = quotes;
+      cells = cells;
+      levels = levels;
+      entries = publication (unlessHalted t (entriesOf quotes (occupied cells) levels));
+    }
+
+-- another's symbol, round lot, primary letter and status
+abbrev pub workedFor : Reading → (ℕ → Quote) → List (Option Maker) → (ℕ → Standing) → Reading
+workedFor r = worked (r .symbol) (r .lot) (r .primary) (r .halted)
 
 -- a symbol with nothing
-unfoldable pub blankReading : ℕ → ℕ → Reading
-blankReading s k = worked s k (λ l. noQuote) (replicate makerCount none) (λ l. noLevels)
+unfoldable pub blankReading : ℕ → ℕ → ℕ → Reading
+blankReading s k m = worked s k m false (λ l. noQuote) (replicate makerCount none) (λ l. noLevels)
 
 abbrev pub blanked : Reading → Reading
-blanked r = blankReading (r .symbol) (r .lot)
+blanked r = blankReading (r .symbol) (r .lot) (r .primary)
 
 unfoldable pub roundReading : ℕ → Quote → Reading → Reading
-roundReading l q r = worked (r .symbol) (r .lot) (setAt l (quoteOver (r .quotes l) q) (r .quotes)) (r .cells) (r .levels)
+roundReading l q r = workedFor r (setAt l (quoteOver (r .quotes l) q) (r .quotes)) (r .cells) (r .levels)
 
 unfoldable pub oddReading : ℕ → Odd → Reading → Reading
 oddReading l o r =
-    worked (r .symbol) (r .lot) (r .quotes) (r .cells) (setAt l (orElse (oddOn o (r .levels l)) (r .levels l)) (r .levels))
+    workedFor r (r .quotes) (r .cells) (setAt l (orElse (oddOn o (r .levels l)) (r .levels l)) (r .levels))
 
 unfoldable pub makerReading : ℕ → Quote → Reading → Reading
-makerReading m q r = worked (r .symbol) (r .lot) (r .quotes) (makerPut m (makerOver (findMaker m (r .cells)) q) (r .cells)) (r .levels)
+makerReading m q r = workedFor r (r .quotes) (makerPut m (makerOver (findMaker m (r .cells)) q) (r .cells)) (r .levels)
 
 unfoldable pub finraReading : ℕ → Reading → Reading
-finraReading c r = worked (r .symbol) (r .lot) (r .quotes) (markAll c (r .cells)) (r .levels)
+finraReading c r = workedFor r (r .quotes) (markAll c (r .cells)) (r .levels)
+
+unfoldable pub statusReading : ℕ → Reading → Reading
+statusReading x r = worked (r .symbol) (r .lot) (r .primary) (eqb x H) (r .quotes) (r .cells) (r .levels)
 
 -- ---- the readings of a book
 
@@ -89,3 +106,4 @@ partReading (roundPart s l q) rs = onReading s (roundReading l q) rs
 partReading (oddPart s l o) rs = onReading s (oddReading l o) rs
 partReading (makerPart s m q) rs = onReading s (makerReading m q) rs
 partReading (finraPart c) rs = map (finraReading c) rs
+partReading (statusPart s x) rs = onReading s (statusReading x) rs

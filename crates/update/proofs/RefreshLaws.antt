@@ -15,10 +15,10 @@ use Rattle.levels.specs.Levels.{Standing, Odd, idleOdd, levelsBytes}
 use Rattle.levels.proofs.SideLaws.{length-levels}
 use Rattle.entries.specs.Entries.{Entries}
 use Rattle.entries.specs.Publication.{publication, publicationLength}
-use Rattle.page.specs.Page.{levelsFor, pageEntries, refreshed}
+use Rattle.page.specs.Page.{levelsFor, publishedEntries, refreshed}
 use Rattle.update.specs.Parts.{putLevels, putOdd}
 use Rattle.entries.proofs.LengthLaws.{length-publication}
-use Rattle.page.proofs.FrameLaws.{levels-kept, entries-kept, refreshed-twice}
+use Rattle.page.proofs.FrameLaws.{levels-kept, published-kept, refreshed-twice}
 use Rattle.update.proofs.SlotLaws.{afterOdd}
 use Rattle.field.specs.Ascii.{A}
 use Rattle.quote.specs.Quote.{quoteLength}
@@ -79,18 +79,18 @@ module _ (p : List ℕ) (at n j : ℕ) (x l : List ℕ) (e : at + length x ≡ n
 pub late-refresh : (p : List ℕ) (j : ℕ) (l : List ℕ) → slotsAt + j + length l ≤ length p → refreshed (splice (refreshed p) (slotsAt + j) l) ≡ refreshed (splice p (slotsAt + j) l)
 unfolding refreshed
 late-refresh p j l h =
-    let E : List ℕ = publication (pageEntries p) in
+    let E : List ℕ = publication (publishedEntries p) in
     let y : List ℕ = splice p (slotsAt + j) l in
-    let n : length E ≡ publicationLength = length-publication (pageEntries p) in
-    let k : length (publication (pageEntries y)) ≡ publicationLength = length-publication (pageEntries y) in
+    let n : length E ≡ publicationLength = length-publication (publishedEntries p) in
+    let k : length (publication (publishedEntries y)) ≡ publicationLength = length-publication (publishedEntries y) in
     let w : length y ≡ length p = length-splice p (slotsAt + j) l h in
-    ap (λ (z : List ℕ). splice z entriesAt (publication (pageEntries z))) (splice-swap p entriesAt slotsAt j E l (omega (arith, n)) (omega arith))
-    ∙ ap (λ (e : Entries). splice (splice y entriesAt E) entriesAt (publication e)) (entries-kept y E n)
-    ∙ splice-over y entriesAt E (publication (pageEntries y)) (omega (arith, w)) (n ∙ sym k)
+    ap (λ (z : List ℕ). splice z entriesAt (publication (publishedEntries z))) (splice-swap p entriesAt slotsAt j E l (omega (arith, n)) (omega arith))
+    ∙ ap (λ (e : Entries). splice (splice y entriesAt E) entriesAt (publication e)) (published-kept y E n)
+    ∙ splice-over y entriesAt E (publication (publishedEntries y)) (omega (arith, w)) (n ∙ sym k)
 
 refreshed-levels : (p : List ℕ) → levelsFor (refreshed p) ≡ levelsFor p
 unfolding refreshed
-refreshed-levels p = levels-kept p (publication (pageEntries p)) (length-publication (pageEntries p))
+refreshed-levels p = levels-kept p (publication (publishedEntries p)) (length-publication (publishedEntries p))
 
 module _ (x : List ℕ) (w : length x ≡ pageLength) (l : ℕ) (u : upper l ≡ true) (o : Odd) where
   levels-refresh : refreshed (putLevels l o (refreshed x)) ≡ refreshed (putLevels l o x)

@@ -1,4 +1,4 @@
--- Round and odd parts: what is written in a letter's slot is read back, and every other reading of the page stays. For a page of 6054 bytes.
+-- Round and odd parts: what is written in a letter's slot is read back, and every other reading of the page stays. For a page of `pageLength` bytes.
 -- Assumes nothing.
 use Prim.Native.Nat.{ℕ, _+_, _≤_, _<_}
 use mathlib.Core.Path.{_≡_, refl, sym, ap, _∙_, fun-ext}
@@ -20,13 +20,13 @@ use Rattle.levels.specs.Levels.{Standing, noLevels, Odd, oddOn, idleOdd, levels
 use Rattle.levels.proofs.LevelLaws.{LevelsGood, OddGood, none-good, odd-good-levels}
 use Rattle.levels.proofs.SideLaws.{length-levels, bytes-levels, levels-back, levels-good}
 use Rattle.oddpart.proofs.AnswerLaws.{odd-idle}
-use Rattle.page.specs.Page.{quotesIn, levelsFor, makersIn, refreshed}
+use Rattle.page.specs.Page.{quotesIn, levelsFor, makersIn, haltedIn, refreshed}
 use Rattle.update.specs.Parts.{readingOf, putRound, roundOn, putLevels, putOdd, oddOnPage}
 use Rattle.update.proofs.Model.{setAt, worked, roundReading, oddReading}
-use Rattle.update.proofs.EntryLaws.{makers-same, Kept, kept-none, kept-then, kept-splice, refreshed-kept, reads-by}
+use Rattle.update.proofs.EntryLaws.{makers-same, Kept, kept-none, kept-then, kept-splice, refreshed-kept, reads-by, halted-same}
 use Rattle.field.specs.Ascii.{A}
 use Rattle.entries.specs.Publication.{publicationLength}
-use Rattle.page.specs.Layout.{entriesAt, slotLength, cellsAt, cellLength, pageLength, pageSymbol, pageLot, keptEntries, slotAt, cellAt}
+use Rattle.page.specs.Layout.{entriesAt, slotLength, cellsAt, cellLength, pageLength, pageSymbol, pageLot, pagePrimary, keptEntries, slotAt, cellAt, statusAt}
 
 -- ---- a write in a letter's slot
 
@@ -42,6 +42,9 @@ module _ (p : List ℕ) (w : length p ≡ pageLength) (l : ℕ) (u : upper l ≡
 
   slot-makers : makersIn (splice p a new) ≡ makersIn p
   slot-makers = makers-same p (splice p a new) (λ k b. part-behind p a new (cellAt k) cellLength (omega (arith, within)))
+
+  slot-halted : haltedIn (splice p a new) ≡ haltedIn p
+  slot-halted = halted-same p (splice p a new) (part-behind p a new statusAt 1 (omega (arith, within)))
 
   -- another letter's slot
   slot-other : (j : ℕ) → upper j ≡ true → (l ≡ j → ⊥) → (at m : ℕ) → slotAt j ≤ at → at + m ≤ slotAt j + slotLength → part (splice p a new) at m ≡ part p at m
@@ -128,6 +131,10 @@ module _ (p : List ℕ) (w : length p ≡ pageLength) (l : ℕ) (u : upper l ≡
   unfolding putRound
   put-round-makers = slot-makers p w l u (slotAt l) (quoteBytes q) round-low round-high
 
+  put-round-halted : haltedIn (putRound l q p) ≡ haltedIn p
+  unfolding putRound
+  put-round-halted = slot-halted p w l u (slotAt l) (quoteBytes q) round-low round-high
+
 -- in a page of bytes a letter's quote fits
 quotes-fit : (p : List ℕ) → length p ≡ pageLength → Bytes p → (l : ℕ) → upper l ≡ true → QuoteFits (quotesIn p l)
 quotes-fit p w b l u =
@@ -146,7 +153,7 @@ module _ (p : List ℕ) (w : length p ≡ pageLength) (l : ℕ) (u : upper l ≡
   pub round-reads : Bytes p → QuoteFits q → readingOf (roundOn l q p) ≡ roundReading l q (readingOf p)
   unfolding roundOn roundReading readingOf
   round-reads b f =
-      reads-by p (putRound l over p) (setAt l over (quotesIn p)) (makersIn p) (levelsFor p) (put-round-kept p w l u over)
+      reads-by p (putRound l over p) (haltedIn p) (setAt l over (quotesIn p)) (makersIn p) (levelsFor p) (put-round-kept p w l u over) (put-round-halted p w l u over)
       (put-round-quotes p w l u over (over-fits (quotesIn p l) q (quotes-fit p w b l u) f)) (put-round-makers p w l u over) (put-round-levels p w l u over)
 
 -- ---- an odd part
@@ -197,6 +204,10 @@ module _ (p : List ℕ) (w : length p ≡ pageLength) (l : ℕ) (u : upper l ≡
   unfolding putLevels
   put-levels-makers = slot-makers p w l u (slotAt l + quoteLength) (levelsBytes after) odd-low odd-high
 
+  put-levels-halted : haltedIn (putLevels l o p) ≡ haltedIn p
+  unfolding putLevels
+  put-levels-halted = slot-halted p w l u (slotAt l + quoteLength) (levelsBytes after) odd-low odd-high
+
   levels-stand : keptEntries (putLevels l o p) ≡ keptEntries p
   unfolding putLevels
   levels-stand = part-before p (slotAt l + quoteLength) (levelsBytes after) entriesAt publicationLength (omega (arith, upper-low l u .1)) (omega arith)
@@ -227,10 +238,10 @@ module _ (p : List ℕ) (w : length p ≡ pageLength) (l : ℕ) (u : upper l ≡
   unfolding oddOnPage putOdd oddReading readingOf
   odd-reads f g = go (idleOdd o) refl
     where
-      then : (p′ : List ℕ) → Kept p p′ → quotesIn p′ ≡ quotesIn p → makersIn p′ ≡ makersIn p → levelsFor p′ ≡ setAt l after (levelsFor p)
-          → readingOf (refreshed p′) ≡ worked (pageSymbol p) (pageLot p) (quotesIn p) (makersIn p) (setAt l after (levelsFor p))
-      then p′ = reads-by p p′ (quotesIn p) (makersIn p) (setAt l after (levelsFor p))
+      then : (p′ : List ℕ) → Kept p p′ → haltedIn p′ ≡ haltedIn p → quotesIn p′ ≡ quotesIn p → makersIn p′ ≡ makersIn p → levelsFor p′ ≡ setAt l after (levelsFor p)
+          → readingOf (refreshed p′) ≡ worked (pageSymbol p) (pageLot p) (pagePrimary p) (haltedIn p) (quotesIn p) (makersIn p) (setAt l after (levelsFor p))
+      then p′ = reads-by p p′ (haltedIn p) (quotesIn p) (makersIn p) (setAt l after (levelsFor p))
 
-      go : (t : Bool) → idleOdd o ≡ t → readingOf (refreshed (cond t p (putLevels l o p))) ≡ worked (pageSymbol p) (pageLot p) (quotesIn p) (makersIn p) (setAt l after (levelsFor p))
-      go true e = then p (kept-none p w) refl refl (sym (rw (odd-idle 0 (levelsFor p l) o e .1) (set-same l (levelsFor p))))
-      go false e = then (putLevels l o p) put-levels-kept put-levels-quotes put-levels-makers (put-levels-levels (odd-good-levels o (levelsFor p l) f g))
+      go : (t : Bool) → idleOdd o ≡ t → readingOf (refreshed (cond t p (putLevels l o p))) ≡ worked (pageSymbol p) (pageLot p) (pagePrimary p) (haltedIn p) (quotesIn p) (makersIn p) (setAt l after (levelsFor p))
+      go true e = then p (kept-none p w) refl refl refl (sym (rw (odd-idle 0 (levelsFor p l) o e .1) (set-same l (levelsFor p))))
+      go false e = then (putLevels l o p) put-levels-kept put-levels-halted put-levels-quotes put-levels-makers (put-levels-levels (odd-good-levels o (levelsFor p l) f g))

@@ -19,14 +19,14 @@ use Rattle.levels.specs.Levels.{Standing, Odd, oddOn, itemsBad, oddBad, fifth, 
 use Rattle.text.specs.Form.{makerGood, nameLength}
 use Rattle.message.specs.declared.Message.{Message}
 use Rattle.message.specs.declared.Message.the-variants as says
-use Rattle.message.specs.Message.{quoteAt, makerName, roundLotOdd, oddLotOdd, oddOf, roundConditions, makerConditions, sideBad, priceFault, quoteFault, messageOf, makerCode, codeBy, codeOf, makerText}
+use Rattle.message.specs.Message.{quoteAt, makerName, roundLotOdd, oddLotOdd, oddOf, roundConditions, makerConditions, sideBad, priceFault, quoteFault, messageOf, makerCode, statusOf, statusCode, codeBy, codeOf, makerText}
 use Rattle.entries.specs.Publication.{sameEntry, changeFlags, entryLength}
 use Rattle.page.specs.Page.{levelsFor}
-use Rattle.update.specs.Parts.{readingOf, roundOn, oddOnPage, makerOn, knownBy}
-use Rattle.update.specs.code.Update.{Updated, rejected, flagged, oddCodeOn, roundLotOn, oddLotOn, makerQuoteOn}
-use Rattle.message.proofs.SpokenLaws.{Spoken, refused, idle, finra, round, odd, maker, spoken}
+use Rattle.update.specs.Parts.{readingOf, roundOn, oddOnPage, makerOn, statusOn, knownBy}
+use Rattle.update.specs.code.Update.{Updated, rejected, flagged, oddCodeOn, roundLotOn, oddLotOn, makerQuoteOn, tradingStatusOn}
+use Rattle.message.proofs.SpokenLaws.{Spoken, refused, idle, finra, round, odd, maker, status, spoken}
 use Rattle.update.proofs.WorkLaws.{pageCode, saidPage, pageAfter}
-use Rattle.page.specs.Layout.{pageLot, keptEntries}
+use Rattle.page.specs.Layout.{pageLot, pagePrimary, keptEntries}
 
 -- ---- no entry changed
 
@@ -134,6 +134,14 @@ module _ (p : List ℕ) where
       go k (equal t e) = rw t (one k (cut k 0))
       go k (apart t e) = rw (t, t) (told-none f p)
 
+  status-told : (l x : ℕ) → tradingStatusOn l x p ≡ told (statusCode (pagePrimary p) l x) p (cond (eqb (statusCode (pagePrimary p) l x) 0) (statusOn x p) p)
+  unfolding tradingStatusOn flagged
+  status-told l x = go (statusCode (pagePrimary p) l x) (cut (statusCode (pagePrimary p) l x) 0)
+    where
+      go : (k : ℕ) → Cut k 0 → cond (eqb k 0) (told 0 p (statusOn x p)) (rejected k p) ≡ told k p (cond (eqb k 0) (statusOn x p) p)
+      go k (equal t e) = rw (t, e)
+      go k (apart t e) = rw t (told-none k p)
+
 -- ---- by what the message says
 
 -- what the page's code is asked for
@@ -144,6 +152,7 @@ updatedBy letter m p (says.Finra c) = rejected 0 p
 updatedBy letter m p (says.RoundLot f q o) = roundLotOn letter f q (oddOf m o) p
 updatedBy letter m p (says.OddLot o) = oddLotOn letter (oddOf m o) p
 updatedBy letter m p (says.Maker f name q) = makerQuoteOn f name q p
+updatedBy letter m p (says.Status x) = tradingStatusOn letter x p
 
 module _ (letter : ℕ) (m : List ℕ) (p : List ℕ) where
   update-by : (x : Message) → Spoken letter m x → updatedBy letter m p x ≡ told (codeBy (knownBy (readingOf p)) letter m x) p (saidPage (codeBy (knownBy (readingOf p)) letter m x) letter m p x)
@@ -154,6 +163,7 @@ module _ (letter : ℕ) (m : List ℕ) (p : List ℕ) where
   update-by x (round l k z) = round-told p letter (quoteFault roundConditions (quoteAt m) 0) (quoteAt m) (oddOf m (roundLotOdd m)) (fault-low roundConditions (quoteAt m) 0 (lit< tt))
   update-by x (odd l k z) = odd-told p letter (oddOf m (oddLotOdd m))
   update-by x (maker k z) = maker-told p (quoteFault makerConditions (quoteAt m) (cond (makerGood (makerText m)) 0 48)) (makerName m) (quoteAt m)
+  update-by x (status k z) = status-told p letter (statusOf m)
 
   -- the code of the page's message, its flags, and the page after it
   pub update-is : updatedBy letter m p (messageOf letter m) ≡ told (pageCode letter m p) p (pageAfter letter m (messageOf letter m) p)

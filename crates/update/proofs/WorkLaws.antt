@@ -10,10 +10,11 @@ use Rattle.lists.specs.Lists.{upper}
 use Rattle.message.specs.declared.Message.{Message}
 use Rattle.message.specs.declared.Message.the-variants as says
 use Rattle.message.specs.Message.{oddOf, codeOf}
-use Rattle.update.specs.Parts.{readingOf, roundOn, oddOnPage, makerOn, knownBy}
+use Rattle.update.specs.Parts.{readingOf, roundOn, oddOnPage, makerOn, statusOn, knownBy}
 use Rattle.update.proofs.EntryLaws.{Kept, kept-none, kept-then}
 use Rattle.update.proofs.SlotLaws.{round-kept, odd-kept}
 use Rattle.update.proofs.MakerLaws.{maker-kept}
+use Rattle.update.proofs.StatusLaws.{status-kept}
 use Rattle.page.specs.Layout.{pageLength}
 
 -- the code of a message that names the page's symbol
@@ -28,6 +29,7 @@ saidPage c letter m p (says.Finra k) = p
 saidPage c letter m p (says.RoundLot f q o) = cond (eqb c 0) (oddOnPage letter (oddOf m o) (roundOn letter q p)) (cond (leb 60 c) (roundOn letter q p) p)
 saidPage c letter m p (says.OddLot o) = cond (eqb c 0) (oddOnPage letter (oddOf m o) p) p
 saidPage c letter m p (says.Maker f name q) = cond (eqb c 0) (makerOn name q p) p
+saidPage c letter m p (says.Status x) = cond (eqb c 0) (statusOn x p) p
 
 -- with the code that the page itself gives
 abbrev pub pageAfter : ℕ → List ℕ → Message → List ℕ → List ℕ
@@ -55,4 +57,9 @@ module _ (letter : ℕ) (u : upper letter ≡ true) (m : List ℕ) (p : List ℕ
     where
       go : (s : Bool) → Kept p (cond s (makerOn name q p) p)
       go true = maker-kept name q p w
+      go false = kept-none p w
+  said-kept c (says.Status x) = go (eqb c 0)
+    where
+      go : (s : Bool) → Kept p (cond s (statusOn x p) p)
+      go true = status-kept x p w
       go false = kept-none p w

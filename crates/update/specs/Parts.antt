@@ -1,12 +1,12 @@
 -- What each part of a message does to a symbol's page (layout and reading: crate `page`): the page is written, then its six entries are worked
--- out anew. So every accepted part leaves them as worked out from the page's quotes, whatever bytes stood there.
+-- out anew. So every accepted part leaves them as worked out from the page's quotes, none while it is halted, whatever bytes stood there.
 -- Assumes nothing.
 use Prim.Native.Nat.{ℕ, _+_}
-use mathlib.Core.Bool.{true, false, cond}
+use mathlib.Core.Bool.{Bool, true, false, cond}
 use mathlib.Core.List.{List, _++_}
 use mathlib.Core.Option.{Option, none, some}
 use lib.ListN.{length, replicate}
-use Rattle.field.specs.Field.{part, splice}
+use Rattle.field.specs.Field.{part, splice, beBytes}
 use Rattle.lists.specs.Lists.{isSome, orElse}
 use Rattle.quote.specs.declared.Quote.{Quote}
 use Rattle.quote.specs.Quote.{quoteOver, quoteBytes, quoteLength}
@@ -14,8 +14,8 @@ use Rattle.levels.specs.Levels.{Standing, noLevels, Odd, oddOn, idleOdd, levels
 use Rattle.message.specs.Message.{Known}
 use Rattle.entries.specs.Entries.{Maker}
 use Rattle.entries.specs.Publication.{noEntries}
-use Rattle.page.specs.Page.{quotesIn, levelsFor, makersIn, occupied, refreshed}
-use Rattle.page.specs.Layout.{headLength, makerCount, quotesLength, pageSymbol, pageLot, keptEntries, slotAt}
+use Rattle.page.specs.Page.{quotesIn, levelsFor, makersIn, occupied, haltedIn, refreshed}
+use Rattle.page.specs.Layout.{headLength, makerCount, quotesLength, pageSymbol, pageLot, pagePrimary, keptEntries, slotAt, statusAt}
 use Rattle.makers.specs.Makers.{findMaker, makerOver, putMaker, markCells}
 
 -- ---- a page as what it says
@@ -23,6 +23,8 @@ use Rattle.makers.specs.Makers.{findMaker, makerOver, putMaker, markCells}
 pub record Reading : Type 0 where
   pub symbol : ℕ
   pub lot : ℕ
+  pub primary : ℕ
+  pub halted : Bool
   pub quotes : ℕ → Quote
   pub cells : List (Option Maker)
   pub levels : ℕ → Standing
@@ -34,6 +36,8 @@ readingOf p =
     record {
       symbol = pageSymbol p;
       lot = pageLot p;
+      primary = pagePrimary p;
+      halted = haltedIn p;
       quotes = quotesIn p;
       cells = makersIn p;
       levels = levelsFor p;
@@ -75,13 +79,23 @@ makerOn m q p = refreshed (putMaker m (makerOver (findMaker m (makersIn p)) q) p
 unfoldable pub finraOn : ℕ → List ℕ → List ℕ
 finraOn c p = refreshed (markCells c 0 makerCount p)
 
--- ---- a page with no quotes and six entries of none
+-- ---- trading status
 
--- head: symbol and round lot
+-- T-10: "status H for halted or T for trading", as the message has it
+unfoldable pub putStatus : ℕ → List ℕ → List ℕ
+putStatus x p = splice p statusAt (beBytes 1 x)
+
+-- "quotes go on being stored; trading brings the entries back from what then stands"
+unfoldable pub statusOn : ℕ → List ℕ → List ℕ
+statusOn x p = refreshed (putStatus x p)
+
+-- ---- a page with no quotes and six entries of none, which trades
+
+-- head: symbol, round lot and primary letter
 unfoldable pub blankPage : List ℕ → List ℕ
 blankPage head = head ++ (noEntries ++ replicate quotesLength 0)
 
--- "Start of Day empties all quotes, makers and levels, makes every entry none"
+-- "Start of Day empties all quotes, makers and levels, makes every entry none"; T-10: "Start of Day ends every halt"
 unfoldable pub emptied : List ℕ → List ℕ
 emptied p = blankPage (part p 0 headLength)
 
@@ -92,11 +106,12 @@ knownBy r =
     record {
       listed = true;
       lot = r .lot;
+      primary = r .primary;
       count = length (occupied (r .cells));
       stands = λ m. isSome (findMaker m (r .cells));
       levels = r .levels;
     }
 
 unfoldable pub knownOf : Option Reading → Known
-knownOf none = record { listed = false; lot = 0; count = 0; stands = λ m. false; levels = λ l. noLevels }
+knownOf none = record { listed = false; lot = 0; primary = 0; count = 0; stands = λ m. false; levels = λ l. noLevels }
 knownOf (some r) = knownBy r

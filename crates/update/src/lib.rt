@@ -14,7 +14,7 @@ ghost use Rattle.message.specs.Message.{oddWith, itemsLength};
 ghost use Rattle.entries.specs.Publication.{changeFlags};
 ghost use Rattle.page.specs.Page.{refreshed};
 ghost use Rattle.update.specs.Parts.{finraOn, blankPage, emptied};
-ghost use Rattle.update.specs.code.Update.{flagged, oddCodeOn, oddTaken, roundLotOn, oddLotOn, makerQuoteOn};
+ghost use Rattle.update.specs.code.Update.{flagged, oddCodeOn, oddTaken, roundLotOn, oddLotOn, makerQuoteOn, tradingStatusOn};
 ghost use Rattle.page.specs.Layout.{slotLength, pageLength, pageLot, keptEntries};
 ghost use Rattle.text.specs.Form.{symbolLength};
 use levels::Judged;
@@ -164,6 +164,21 @@ pub fn maker_quote(page: &mut [u8], fault: u8, name: u32, quote: Quote) -> Effec
     renewed(page, 0)
 }
 
+/// A T S on the page of its symbol: 76 on another line than its primary letter's, 77 for another status than H and T, else the status is stored.
+pub fn trading_status(page: &mut [u8], letter: u8, status: u8) -> Effect
+    requires { ⌜ length (now page) ≡ pageLength ⌝ }
+    ensures { λ r. ⌜ record { effect = r; page = now (page .exit) } ≡ tradingStatusOn letter status (now (page .entry)) ⌝ }
+{
+    if field::get8(page, Page::PRIMARY) != letter {
+        return Effect { code: 76, flags: 0 };
+    }
+    if message::is_status(status) {
+        field::put8(page, Page::STATUS, status);
+        return renewed(page, 0);
+    }
+    Effect { code: 77, flags: 0 }
+}
+
 /// FINRA Close (L) or Open (R) on one page: every standing maker quote gets the condition. Gives the flags of the entries that changed.
 pub fn finra(page: &mut [u8], condition: u8) -> u8
     requires { ⌜ length (now page) ≡ pageLength ⌝ }
@@ -173,7 +188,7 @@ pub fn finra(page: &mut [u8], condition: u8) -> u8
     publication::renew(page)
 }
 
-/// Empties a page: no quotes and six entries of none. Symbol and round lot stay.
+/// Empties a page: no quotes, six entries of none, no halt. Symbol, round lot and primary letter stay.
 pub fn empty(page: &mut [u8])
     requires { ⌜ length (now page) ≡ pageLength ⌝ }
     ensures { λ _. ⌜ now (page .exit) ≡ emptied (now (page .entry)) ⌝ }
@@ -182,14 +197,15 @@ pub fn empty(page: &mut [u8])
     makers::clear(page, Page::SLOTS, Page::LEN);
 }
 
-/// Lists a symbol on a page: its 11 bytes and its round lot, no quotes and six entries of none.
-pub fn list(page: &mut [u8], symbol: &[u8], lot: u8)
+/// Lists a symbol on a page: its 11 bytes, its round lot and its primary letter, no quotes and six entries of none, trading.
+pub fn list(page: &mut [u8], symbol: &[u8], lot: u8, primary: u8)
     requires { ⌜ (length (now page) ≡ pageLength) × (length (now symbol) ≡ symbolLength) ⌝ }
-    ensures { λ _. ⌜ now (page .exit) ≡ blankPage (now (symbol .entry) ++ (lot ∷ [])) ⌝ }
+    ensures { λ _. ⌜ now (page .exit) ≡ blankPage (now (symbol .entry) ++ (lot ∷ primary ∷ [])) ⌝ }
 {
     field::put64(page, Page::SYMBOL, field::get64(symbol, 0));
     field::put16(page, Page::SYMBOL + 8, field::get16(symbol, 8));
     field::put8(page, Page::SYMBOL + 10, field::get8(symbol, 10));
     field::put8(page, Page::LOT, lot);
+    field::put8(page, Page::PRIMARY, primary);
     empty(page);
 }

@@ -1,3 +1,4 @@
+pub mod HaltLaws
 pub mod OddLaws
 pub mod ReadLaws
 pub mod StepLaws

@@ -9,7 +9,7 @@ ghost use Rattle.lists.specs.Lists.{isSome};
 ghost use Rattle.ranking.specs.code.Choice.{live, choose, stepSides, sidesFrom, leadWith, stepLeads};
 ghost use Rattle.quote.specs.Quote.{levelIn, quoteIn, levelCandidate, candidateOf, quoteLength, levelLength};
 ghost use Rattle.entries.specs.Entries.{asD, ranks};
-ghost use Rattle.page.specs.Page.{quotesIn, pageEntries};
+ghost use Rattle.page.specs.Page.{quotesIn, pageEntries, publishedEntries};
 ghost use Rattle.page.specs.Cut.{cut};
 ghost use Rattle.walk.specs.Bests.{bestsOf};
 ghost use Rattle.walk.specs.code.Walk.{asked, makerAt, finraSides, quotedAt, withD, nationalAt, firstBy, noTops, stepTops, topsFrom};
@@ -35,6 +35,14 @@ pub struct BestEntries {
     pub national: Leads,
     pub finra: Sides,
     pub odd: Sides,
+}
+
+impl BestEntries {
+    pub const NONE: BestEntries = BestEntries {
+        national: Leads::NONE,
+        finra: Sides::NONE,
+        odd: Sides::NONE,
+    };
 }
 
 // The level at `at` under a name.
@@ -301,4 +309,16 @@ pub fn walk_page(page: &[u8], last: usize) -> BestEntries
             offer: odd_offer,
         },
     }
+}
+
+/// The six entries that such a page publishes: none while its symbol is halted (T-10), wherever it is stopped, else those of the walk.
+pub fn entries_behind(page: &[u8], last: usize) -> BestEntries
+    requires { ⌜ length (now page) ≡ pageLength ⌝ }
+    requires { ⌜ (ascii.A ≤ last) × (last ≤ ascii.Z) ⌝ }
+    ensures { λ r. ⌜ r ≡ bestsOf (publishedEntries (cut last (now (page .entry)))) ⌝ }
+{
+    if page::is_halted(page) {
+        return BestEntries::NONE;
+    }
+    walk_page(page, last)
 }

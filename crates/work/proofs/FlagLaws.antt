@@ -123,6 +123,7 @@ saidFlags letter m b (says.Finra c) = finraFlags c b
 saidFlags letter m b (says.RoundLot f q o) = foundBy (flagsBy (pageAfter letter m (says.RoundLot f q o)) b) 0 (pagePlace b (symbolOf m))
 saidFlags letter m b (says.OddLot o) = foundBy (flagsBy (pageAfter letter m (says.OddLot o)) b) 0 (pagePlace b (symbolOf m))
 saidFlags letter m b (says.Maker f name q) = foundBy (flagsBy (pageAfter letter m (says.Maker f name q)) b) 0 (pagePlace b (symbolOf m))
+saidFlags letter m b (says.Status x) = foundBy (flagsBy (pageAfter letter m (says.Status x)) b) 0 (pagePlace b (symbolOf m))
 
 module _ (n : ℕ) (b : List ℕ) (sd : Sound n b) (letter : ℕ) (u : upper letter ≡ true) (m : List ℕ) where
   keeps : (x : Message) (p : List ℕ) → length p ≡ pageLength → Kept p (pageAfter letter m x p)
@@ -135,6 +136,7 @@ module _ (n : ℕ) (b : List ℕ) (sd : Sound n b) (letter : ℕ) (u : upper let
   said-flags (says.RoundLot f q o) = flags-on n b sd (pageAfter letter m (says.RoundLot f q o)) (keeps (says.RoundLot f q o)) (symbolOf m)
   said-flags (says.OddLot o) = flags-on n b sd (pageAfter letter m (says.OddLot o)) (keeps (says.OddLot o)) (symbolOf m)
   said-flags (says.Maker f name q) = flags-on n b sd (pageAfter letter m (says.Maker f name q)) (keeps (says.Maker f name q)) (symbolOf m)
+  said-flags (says.Status x) = flags-on n b sd (pageAfter letter m (says.Status x)) (keeps (says.Status x)) (symbolOf m)
 
   -- a message's flags are those of the page that it changes, of FINRA Close and Open those of all counted pages together
   pub message-flags : flagsOf (publications (pagesIn b)) (publications (pagesIn (messageOn letter m b))) ≡ saidFlags letter m b (messageOf letter m)

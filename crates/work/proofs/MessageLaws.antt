@@ -18,10 +18,10 @@ use Rattle.text.specs.Form.{symbolLength}
 use Rattle.message.specs.declared.OddPart.{OddPart}
 use Rattle.message.specs.declared.Message.{Message}
 use Rattle.message.specs.declared.Message.the-variants as says
-use Rattle.message.specs.Message.{kindOf, symbolOf, oddLength, oddAt, messageOf, partlyTaken, headerLength, makerLength}
+use Rattle.message.specs.Message.{kindOf, symbolOf, oddLength, oddAt, messageOf, partlyTaken, headerLength, makerLength, statusLength}
 use Rattle.update.specs.Parts.{finraOn}
 use Rattle.update.specs.code.Update.{Updated}
-use Rattle.message.proofs.SpokenLaws.{Spoken, refused, idle, finra, round, odd, maker, spoken, partly-no}
+use Rattle.message.proofs.SpokenLaws.{Spoken, refused, idle, finra, round, odd, maker, status, spoken, partly-no}
 use Rattle.update.proofs.WorkLaws.{pageCode, pageAfter, said-kept}
 use Rattle.update.proofs.UpdateLaws.{updatedBy, update-is}
 use Rattle.opening.specs.Opening.{sound, symbolsOf, pageAt, setPage, pagePlace, eachPage}
@@ -50,6 +50,7 @@ Sized m (says.Finra c) = Unit {0}
 Sized m (says.RoundLot f q o) = length m ≡ oddLength o
 Sized m (says.OddLot o) = length m ≡ oddLength o
 Sized m (says.Maker f name q) = length m ≡ makerLength
+Sized m (says.Status x) = length m ≡ statusLength
 
 -- the part of the message from the items on
 abbrev pub items : List ℕ → OddPart → List ℕ
@@ -66,6 +67,7 @@ module _ (letter : ℕ) (m : List ℕ) where
   sized x (round l k z) = z
   sized x (odd l k z) = z
   sized x (maker k z) = z
+  sized x (status k z) = z
 
   -- its symbol is inside
   symbol-by : (x : Message) → Spoken letter m x → names x ≡ true → headerLength + symbolLength ≤ length m
@@ -76,6 +78,7 @@ module _ (letter : ℕ) (m : List ℕ) where
   symbol-by x (round l k z) h = omega (arith, z)
   symbol-by x (odd l k z) h = omega (arith, z)
   symbol-by x (maker k z) h = omega (arith, z)
+  symbol-by x (status k z) h = omega (arith, z)
 
   module _ (x : Message) (e : messageOf letter m ≡ x) where
     spoken-as : Spoken letter m x
@@ -103,6 +106,7 @@ low-code letter m x (finra c d w) = refl
 low-code letter m x (round l k z) = refl
 low-code letter m x (odd l k z) = refl
 low-code letter m x (maker k z) = refl
+low-code letter m x (status k z) = refl
 
 -- by what the message says
 abbrev pub partlyAs : ℕ → Message → Bool
@@ -112,6 +116,7 @@ partlyAs c (says.Finra k) = false
 partlyAs c (says.RoundLot f q o) = leb 60 c
 partlyAs c (says.OddLot o) = false
 partlyAs c (says.Maker f name q) = false
+partlyAs c (says.Status x) = false
 
 partly-named : (c letter : ℕ) (m : List ℕ) (x : Message) → Spoken letter m x → names x ≡ true → partlyTaken c m ≡ partlyAs c x
 unfolding partlyTaken
@@ -121,6 +126,7 @@ partly-named c letter m x (finra k d w) h = clash (sym h)
 partly-named c letter m x (round l k z) h = rw k
 partly-named c letter m x (odd l k z) h = rw k
 partly-named c letter m x (maker k z) h = rw k
+partly-named c letter m x (status k z) h = rw k
 
 -- ---- what is told of it, and the book after it
 

@@ -10,14 +10,15 @@ use Rattle.field.specs.Field.{Bytes}
 use Rattle.lists.specs.Lists.{upper}
 use Rattle.quote.specs.Quote.{QuoteFits}
 use Rattle.levels.proofs.LevelLaws.{OddGood}
-use Rattle.message.specs.Message.{Part, roundPart, oddPart, makerPart, finraPart}
-use Rattle.update.specs.Parts.{roundOn, oddOnPage, makerOn, finraOn}
-use Rattle.update.proofs.Model.{roundReading, oddReading, makerReading, finraReading, partReading}
+use Rattle.message.specs.Message.{Part, roundPart, oddPart, makerPart, finraPart, statusPart}
+use Rattle.update.specs.Parts.{roundOn, oddOnPage, makerOn, finraOn, statusOn}
+use Rattle.update.proofs.Model.{roundReading, oddReading, makerReading, finraReading, statusReading, partReading}
 use Rattle.update.proofs.CellLaws.{Stands}
 use Rattle.message.proofs.SpokenLaws.{Shaped, AllShaped}
 use Rattle.update.proofs.EntryLaws.{Kept}
 use Rattle.update.proofs.SlotLaws.{round-kept, round-reads, levels-for-good, odd-kept, odd-reads}
 use Rattle.update.proofs.MakerLaws.{maker-kept, maker-reads, finra-kept, finra-reads}
+use Rattle.update.proofs.StatusLaws.{status-kept, status-reads}
 use Rattle.opening.specs.Opening.{countOf, pageAt, pagesIn}
 use Rattle.work.specs.Work.{partOn, partsOn}
 use Rattle.opening.proofs.OpeningLaws.{Sound, length-page, bytes-page}
@@ -31,6 +32,7 @@ part-kept n (roundPart s l q) b sd u = on-kept n b sd s (roundOn l q) (λ p w. r
 part-kept n (oddPart s l o) b sd u = on-kept n b sd s (oddOnPage l o) (λ p w. odd-kept p w l u o)
 part-kept n (makerPart s m q) b sd u = on-kept n b sd s (makerOn m q) (λ p w. maker-kept m q p w)
 part-kept n (finraPart c) b sd u = each-kept n (finraOn c) (λ p w. finra-kept c p w) b sd
+part-kept n (statusPart s x) b sd u = on-kept n b sd s (statusOn x) (λ p w. status-kept x p w)
 
 pub parts-kept : (n : ℕ) (rs : List Part) (b : List ℕ) → Sound n b → AllShaped rs → OpeningKept b (partsOn rs b)
 unfolding partsOn
@@ -45,6 +47,7 @@ PartGood (roundPart s l q) = (upper l ≡ true) × QuoteFits q
 PartGood (oddPart s l o) = (upper l ≡ true) × OddGood o
 PartGood (makerPart s m q) = (m < 256 ^ 4) × QuoteFits q × Stands (q .condition)
 PartGood (finraPart c) = Stands c
+PartGood (statusPart s x) = x < 256
 
 pub record PartDone (r : Part) (b b′ : List ℕ) : Type 0 where
   pub pages : pagesIn b′ ≡ partReading r (pagesIn b)
@@ -77,4 +80,10 @@ part-done n (finraPart c) b sd y s =
     record {
       pages = each-reads n (finraOn c) (λ p w. finra-kept c p w) b sd (finraReading c) (λ p w. finra-reads c p w s);
       kept = each-kept n (finraOn c) (λ p w. finra-kept c p w) b sd;
+    }
+part-done n (statusPart s x) b sd y h =
+    let keeps : (p : List ℕ) → length p ≡ pageLength → Kept p (statusOn x p) = λ p w. status-kept x p w in
+    record {
+      pages = on-reads n b sd s (statusOn x) keeps (statusReading x) (λ k z. status-reads x (pageAt b k) (length-page n b sd k (omega (arith, sd .count))) h);
+      kept = on-kept n b sd s (statusOn x) keeps;
     }

@@ -29,6 +29,7 @@ names (says.Finra c) = false
 names (says.RoundLot f q o) = true
 names (says.OddLot o) = true
 names (says.Maker f name q) = true
+names (says.Status x) = true
 
 -- the code of one that names none
 abbrev pub saidCode : Message → ℕ
@@ -38,6 +39,7 @@ saidCode (says.Finra c) = 0
 saidCode (says.RoundLot f q o) = 0
 saidCode (says.OddLot o) = 0
 saidCode (says.Maker f name q) = 0
+saidCode (says.Status x) = 0
 
 module _ (n : ℕ) (b : List ℕ) (sd : Sound n b) (letter : ℕ) (u : upper letter ≡ true) (m : List ℕ) where
   -- what a message gets, and the book after it
@@ -57,6 +59,7 @@ module _ (n : ℕ) (b : List ℕ) (sd : Sound n b) (letter : ℕ) (u : upper let
     on-said (says.RoundLot f q o) h = on-at n b sd (symbolOf m) k e (pageAfter letter m (says.RoundLot f q o))
     on-said (says.OddLot o) h = on-at n b sd (symbolOf m) k e (pageAfter letter m (says.OddLot o))
     on-said (says.Maker f name q) h = on-at n b sd (symbolOf m) k e (pageAfter letter m (says.Maker f name q))
+    on-said (says.Status x) h = on-at n b sd (symbolOf m) k e (pageAfter letter m (says.Status x))
 
     flags-said : (x : Message) → names x ≡ true → saidFlags letter m b x ≡ told (pageCode letter m page) page (pageAfter letter m x page) .effect .flags
     flags-said (says.Refused j) h = clash (sym h)
@@ -65,6 +68,7 @@ module _ (n : ℕ) (b : List ℕ) (sd : Sound n b) (letter : ℕ) (u : upper let
     flags-said (says.RoundLot f q o) h = rw e
     flags-said (says.OddLot o) h = rw e
     flags-said (says.Maker f name q) h = rw e
+    flags-said (says.Status x) h = rw e
 
     -- a message that names a symbol, whose page is found at k: what the page's code answers for that page
     pub worked-at : names (messageOf letter m) ≡ true
@@ -86,6 +90,7 @@ module _ (n : ℕ) (b : List ℕ) (sd : Sound n b) (letter : ℕ) (u : upper let
     unlisted (says.RoundLot f q o) h = refl
     unlisted (says.OddLot o) h = refl
     unlisted (says.Maker f name q) h = refl
+    unlisted (says.Status x) h = refl
 
     no-flags : (x : Message) → names x ≡ true → saidFlags letter m b x ≡ 0
     no-flags (says.Refused j) h = clash (sym h)
@@ -94,6 +99,7 @@ module _ (n : ℕ) (b : List ℕ) (sd : Sound n b) (letter : ℕ) (u : upper let
     no-flags (says.RoundLot f q o) h = rw e
     no-flags (says.OddLot o) h = rw e
     no-flags (says.Maker f name q) h = rw e
+    no-flags (says.Status x) h = rw e
 
     same-book : (x : Message) → names x ≡ true → saidOn letter m b x ≡ b
     same-book (says.Refused j) h = clash (sym h)
@@ -102,6 +108,7 @@ module _ (n : ℕ) (b : List ℕ) (sd : Sound n b) (letter : ℕ) (u : upper let
     same-book (says.RoundLot f q o) h = on-nowhere n b sd (symbolOf m) e (pageAfter letter m (says.RoundLot f q o))
     same-book (says.OddLot o) h = on-nowhere n b sd (symbolOf m) e (pageAfter letter m (says.OddLot o))
     same-book (says.Maker f name q) h = on-nowhere n b sd (symbolOf m) e (pageAfter letter m (says.Maker f name q))
+    same-book (says.Status x) h = on-nowhere n b sd (symbolOf m) e (pageAfter letter m (says.Status x))
 
     -- whose page is not found: 45, and nothing changes
     pub worked-nowhere : names (messageOf letter m) ≡ true → Worked 45 0 b
@@ -120,6 +127,7 @@ module _ (n : ℕ) (b : List ℕ) (sd : Sound n b) (letter : ℕ) (u : upper let
   code-else e (says.RoundLot f q o) h = clash h
   code-else e (says.OddLot o) h = clash h
   code-else e (says.Maker f name q) h = clash h
+  code-else e (says.Status x) h = clash h
 
   -- one that names no symbol: refused, idle, or FINRA Close or Open on every page
   pub worked-else : names (messageOf letter m) ≡ false → Worked (saidCode (messageOf letter m)) (saidFlags letter m b (messageOf letter m)) (saidOn letter m b (messageOf letter m))

@@ -14,11 +14,11 @@ use Rattle.quote.specs.declared.Quote.{Quote}
 use Rattle.levels.specs.Levels.{Odd}
 use Rattle.message.specs.declared.Message.{Message}
 use Rattle.message.specs.declared.Message.the-variants as says
-use Rattle.message.specs.Message.{symbolOf, quoteAt, makerName, roundLotOdd, oddLotOdd, oddOf, messageOf, Known, codeBy, codeOf, Part, roundPart, oddPart, makerPartOf, partsOf}
-use Rattle.update.specs.Parts.{knownOf, roundOn, oddOnPage, makerOn, finraOn}
+use Rattle.message.specs.Message.{symbolOf, quoteAt, makerName, roundLotOdd, oddLotOdd, oddOf, messageOf, Known, codeBy, codeOf, Part, roundPart, oddPart, makerPartOf, statusOf, statusPartOf, partsOf}
+use Rattle.update.specs.Parts.{knownOf, roundOn, oddOnPage, makerOn, finraOn, statusOn}
 use Rattle.update.proofs.EntryLaws.{Kept}
 use Rattle.update.proofs.SlotLaws.{round-kept, odd-kept}
-use Rattle.message.proofs.SpokenLaws.{Spoken, refused, idle, finra, round, odd, maker, spoken, parts-refused, parts-whole, parts-round, parts-odd, parts-maker}
+use Rattle.message.proofs.SpokenLaws.{Spoken, refused, idle, finra, round, odd, maker, status, spoken, parts-refused, parts-whole, parts-round, parts-odd, parts-maker, parts-status}
 use Rattle.update.proofs.WorkLaws.{pageCode, pageAfter}
 use Rattle.opening.specs.Opening.{symbolsOf, pageAt, setPage, pagesIn, pagePlace, onPage, eachPage}
 use Rattle.work.specs.Work.{findReading, partOn, partsOn, codeOn, messageOn}
@@ -35,6 +35,7 @@ saidOn letter m b (says.Finra c) = eachPage (finraOn c) 0 (symbolsOf b) b
 saidOn letter m b (says.RoundLot f q o) = onPage (symbolOf m) (pageAfter letter m (says.RoundLot f q o)) b
 saidOn letter m b (says.OddLot o) = onPage (symbolOf m) (pageAfter letter m (says.OddLot o)) b
 saidOn letter m b (says.Maker f name q) = onPage (symbolOf m) (pageAfter letter m (says.Maker f name q)) b
+saidOn letter m b (says.Status x) = onPage (symbolOf m) (pageAfter letter m (says.Status x)) b
 
 -- ---- the parts of a message, as one change of its symbol's page
 
@@ -115,6 +116,8 @@ module _ (n : ℕ) (b : List ℕ) (sd : Sound n b) (letter : ℕ) (u : upper let
       ∙ one-on n b sd (symbolOf m) (pageCode letter m) c here (oddPart (symbolOf m) letter (oddOf m (oddLotOdd m))) (oddOnPage letter (oddOf m (oddLotOdd m))) refl)
   message-by c here x q (maker k z) =
       rw (parts-maker c m k) (one-on n b sd (symbolOf m) (pageCode letter m) c here (makerPartOf m) (makerOn (makerName m) (quoteAt m)) refl)
+  message-by c here x q (status k z) =
+      rw (parts-status c m k) (one-on n b sd (symbolOf m) (pageCode letter m) c here (statusPartOf m) (statusOn (statusOf m)) refl)
 
   -- a message changes the page of its symbol alone, or every page
   pub message-on : messageOn letter m b ≡ saidOn letter m b (messageOf letter m)

@@ -6,30 +6,39 @@ use mathlib.Core.List.{List, [], _∷_, map}
 use mathlib.Core.Option.{Option, none, some}
 use lib.Dec.{eqb}
 use lib.Bits.{bitOr}
-use Rattle.message.specs.Message.{symbolOf, codeOf, Part, roundPart, oddPart, makerPart, finraPart, partsOf, partlyTaken}
+use Rattle.message.specs.Message.{symbolOf, codeOf, Part, roundPart, oddPart, makerPart, finraPart, statusPart, partsOf, partlyTaken}
 use Rattle.entries.specs.Publication.{changeFlags}
-use Rattle.update.specs.Parts.{Reading, knownOf, roundOn, oddOnPage, makerOn, finraOn}
+use Rattle.update.specs.Parts.{Reading, knownOf, roundOn, oddOnPage, makerOn, finraOn, statusOn}
 use Rattle.told.specs.declared.Told.{Told}
 use Rattle.opening.specs.Opening.{symbolsOf, pagesIn, onPage, eachPage}
 
+-- a listed symbol with its round lot and, by document 02, T-10, its primary letter
 pub record Listed : Type 0 where
   pub symbol : ℕ
   pub lot : ℕ
+  pub primary : ℕ
 
 unfoldable pub isListed : ℕ → List Listed → Bool
 isListed s [] = false
 isListed s (x ∷ xs) = cond (eqb (x .symbol) s) true (isListed s xs)
 
-unfoldable pub lotOf : ℕ → List Listed → ℕ
-lotOf s [] = 0
-lotOf s (x ∷ xs) = cond (eqb (x .symbol) s) (x .lot) (lotOf s xs)
+-- what the list has of a symbol; 0 of one that is not listed
+unfoldable pub listedWith : (Listed → ℕ) → ℕ → List Listed → ℕ
+listedWith f s [] = 0
+listedWith f s (x ∷ xs) = cond (eqb (x .symbol) s) (f x) (listedWith f s xs)
+
+abbrev pub lotOf : ℕ → List Listed → ℕ
+lotOf s ls = listedWith (λ x. x .lot) s ls
+
+abbrev pub primaryOf : ℕ → List Listed → ℕ
+primaryOf s ls = listedWith (λ x. x .primary) s ls
 
 unfoldable pub findReading : ℕ → List Reading → Option Reading
 findReading s [] = none
 findReading s (r ∷ rs) = cond (eqb (r .symbol) s) (some r) (findReading s rs)
 
 abbrev pub listing : Reading → Listed
-listing r = record { symbol = r .symbol; lot = r .lot }
+listing r = record { symbol = r .symbol; lot = r .lot; primary = r .primary }
 
 unfoldable pub listedOf : List Reading → List Listed
 listedOf rs = map listing rs
@@ -46,6 +55,7 @@ partOn (roundPart s l q) b = onPage s (roundOn l q) b
 partOn (oddPart s l o) b = onPage s (oddOnPage l o) b
 partOn (makerPart s m q) b = onPage s (makerOn m q) b
 partOn (finraPart c) b = eachPage (finraOn c) 0 (symbolsOf b) b
+partOn (statusPart s x) b = onPage s (statusOn x) b
 
 unfoldable pub partsOn : List Part → List ℕ → List ℕ
 partsOn [] b = b

@@ -51,6 +51,7 @@ fn work(book: &mut [u8], letter: u8, msg: &[u8]) -> Told
         Message::Maker { fault, name, quote } => {
             work_maker(book, letter, msg, fault, name, quote)
         }
+        Message::Status(status) => work_status(book, letter, msg, status),
     }
 }
 
@@ -116,6 +117,26 @@ fn work_maker(book: &mut [u8], letter: u8, msg: &[u8], fault: u8, name: u32, quo
     let a = Book::OPENING_LEN + k * Book::PAGE_LEN;
     let e = a + Book::PAGE_LEN;
     let effect = update::maker_quote(&mut book[a..e], fault, name, quote);
+    Told {
+        code: effect.code,
+        flags: effect.flags,
+        partly: false,
+    }
+}
+
+// A T S.
+fn work_status(book: &mut [u8], letter: u8, msg: &[u8], status: u8) -> Told
+    requires { ⌜ (sound (now book) ≡ true) × (upper letter ≡ true) ⌝ }
+    requires { ⌜ messageOf letter (now msg) ≡ Message.Status status ⌝ }
+    ensures { λ r. ⌜ (r ≡ toldOne letter (now (msg .entry)) (now (book .entry))) × (now (book .exit) ≡ messageOn letter (now (msg .entry)) (now (book .entry))) ⌝ }
+{
+    let place = opening::find(book, &msg[Layout::SYMBOL..Layout::STATUS]);
+    let Found::At(k) = place else {
+        return Told::UNLISTED;
+    };
+    let a = Book::OPENING_LEN + k * Book::PAGE_LEN;
+    let e = a + Book::PAGE_LEN;
+    let effect = update::trading_status(&mut book[a..e], letter, status);
     Told {
         code: effect.code,
         flags: effect.flags,

@@ -7,15 +7,15 @@ use Rattle.book.proofs.add_symbol.Statement.{statement}
 use Rattle.book.proofs.add_symbol.Tie as tie
 
 returns : tie.Need-returns
-returns c = turned-down _ _ refl _ (add-small _ _ _) (c .before .judge-symbol .ensures) (c .if1 .taken)
+returns c = turned-down _ _ refl _ (add-small _ _ _ _) (c .before .judge-symbol .ensures) (c .if1 .taken)
 
-passed : (c : tie.Else1) → Addable (c .before .before .before .before .before .args .book .now) (c .before .before .before .before .before .args .symbol .now) (c .before .before .before .before .before .args .lot) (countOf (c .before .before .before .before .before .args .book .now))
-passed c = add-passed _ _ _ _ (c .before .judge-symbol .ensures) (c .if1 .left)
+passed : (c : tie.Else1) → Addable (c .before .before .before .before .before .args .book .now) (c .before .before .before .before .before .args .symbol .now) (c .before .before .before .before .before .args .lot) (c .before .before .before .before .before .args .primary) (countOf (c .before .before .before .before .before .args .book .now))
+passed c = add-passed _ _ _ _ _ (c .before .judge-symbol .ensures) (c .if1 .left)
 
 get8-requires : tie.Need-get8-requires
 get8-requires c κs = omega (arith, passed (c .before) .room)
 
-counted : (c : tie.After-get8) → Addable (c .before .before .before .before .before .before .before .args .book .now) (c .before .before .before .before .before .before .before .args .symbol .now) (c .before .before .before .before .before .before .before .args .lot) (c .get8 .result)
+counted : (c : tie.After-get8) → Addable (c .before .before .before .before .before .before .before .args .book .now) (c .before .before .before .before .before .before .before .args .symbol .now) (c .before .before .before .before .before .before .before .args .lot) (c .before .before .before .before .before .before .before .args .primary) (c .get8 .result)
 unfolding countOf
 counted c = rw (c .get8 .ensures) (passed (c .before .before))
 
@@ -48,7 +48,7 @@ returns-2 c =
     let p = c .before .before .before .before .before .before in
     let g = p .before .before in
     let n = g .before .before in
-    carried-out _ _ refl _ (sym (n .if1 .left) ∙ n .before .judge-symbol .ensures) (add-after _ _ _ _ _ _ (counted g .eleven) (g .get8 .ensures) (p .put8 .ensures) (c .before .before .list .ensures))
+    carried-out _ _ refl _ (sym (n .if1 .left) ∙ n .before .judge-symbol .ensures) (add-after _ _ _ _ _ _ _ (counted g .eleven) (g .get8 .ensures) (p .put8 .ensures) (c .before .before .list .ensures))
 
 pub add-symbol-spec : {M : Type 1} → statement M
 add-symbol-spec =

@@ -16,7 +16,13 @@ returns-2 c =
 
 returns-3 : tie.Need-returns-3
 unfolding kindOf
-returns-3 c = rw (← c .before .before .byte .ensures, ne-eqb _ _ (c .before .if1 .left), ne-eqb _ _ (c .if2 .left))
+returns-3 c =
+    let o = c .before .before .before in
+    rw (← o .before .before .byte .ensures, ne-eqb _ _ (o .before .if1 .left), ne-eqb _ _ (o .if2 .left), eq-eqb _ _ (c .before .before .if3 .taken), ← c .before .byte4 .ensures) (c .status-kind .ensures)
+
+returns-4 : tie.Need-returns-4
+unfolding kindOf
+returns-4 c = rw (← c .before .before .before .byte .ensures, ne-eqb _ _ (c .before .before .if1 .left), ne-eqb _ _ (c .before .if2 .left), ne-eqb _ _ (c .if3 .left))
 
 pub kind-of-spec : {M : Type 1} → statement M
 kind-of-spec =
@@ -29,4 +35,7 @@ kind-of-spec =
     (λ c κs. search needs)
     (λ c κs. search needs)
     returns-2
-    returns-3)
+    (λ c κs. search needs)
+    (λ c κs. search needs)
+    returns-3
+    returns-4)

@@ -16,7 +16,7 @@ use Rattle.message.proofs.read.Statement.{statement}
 use Rattle.message.proofs.read.Tie as tie
 
 -- a type whose tag is not that of the last
-known : (k : Kind) → OneOf (0 ∷ 1 ∷ 2 ∷ 3 ∷ 4 ∷ 5 ∷ 6 ∷ []) (tagOf the-type k) → isUnknown k ≡ false
+known : (k : Kind) → OneOf (0 ∷ 1 ∷ 2 ∷ 3 ∷ 4 ∷ 5 ∷ 6 ∷ 7 ∷ []) (tagOf the-type k) → isUnknown k ≡ false
 unfolding member
 known kind.Inquiry h = refl
 known kind.Close h = refl
@@ -25,7 +25,8 @@ known kind.Test h = refl
 known kind.RoundLot h = refl
 known (kind.OddLot f) h = refl
 known kind.Maker h = refl
-known kind.Unknown h = clash (sym (one-of (0 ∷ 1 ∷ 2 ∷ 3 ∷ 4 ∷ 5 ∷ 6 ∷ []) 7 h))
+known kind.Status h = refl
+known kind.Unknown h = clash (sym (one-of (0 ∷ 1 ∷ 2 ∷ 3 ∷ 4 ∷ 5 ∷ 6 ∷ 7 ∷ []) 8 h))
 
 returns : tie.Need-returns
 unfolding messageOf
@@ -82,7 +83,13 @@ returns-9 c =
 
 returns-10 : tie.Need-returns-10
 unfolding messageOf
-returns-10 c = rw (sym (c .before .before .before .before .before .kind-of .ensures) ∙ c .enum-told8 .given .1)
+returns-10 c =
+    let l = c .before .before .before in
+    rw (sym (l .before .before .before .kind-of .ensures) ∙ c .before .enum-told8 .given .1, ← l .before .byte .ensures, eq-eqb _ _ (l .if1 .left)) (c .read-status .ensures)
+
+returns-11 : tie.Need-returns-11
+unfolding messageOf
+returns-11 c = rw (sym (c .before .before .before .before .before .kind-of .ensures) ∙ c .enum-told9 .given .1)
 
 pub read-spec : {M : Type 1} → statement M
 read-spec =
@@ -108,6 +115,8 @@ read-spec =
     (λ c. search needs)
     (λ c κs. search needs)
     (λ c. search needs)
+    (λ c κs. search needs)
+    (λ c. search needs)
     returns-3
     returns-4
     returns-5
@@ -115,4 +124,5 @@ read-spec =
     returns-7
     returns-8
     returns-9
-    returns-10)
+    returns-10
+    returns-11)

@@ -50,5 +50,4 @@ search-spec =
     (λ c. search needs)
     (λ c. search needs)
     loop-again
-    (λ c. search needs)
     returns-2)

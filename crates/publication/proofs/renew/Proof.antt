@@ -5,7 +5,7 @@ use mathlib.Core.List.{List}
 use borrow.Author.Needs.{needs}
 use denote.Ref.{now}
 use Rattle.field.specs.Field.{Bytes}
-use Rattle.page.specs.Page.{pageEntries}
+use Rattle.page.specs.Page.{publishedEntries}
 use Rattle.walk.specs.Bests.{bestsOf}
 use Rattle.page.proofs.CutLaws.{cut-whole}
 use Rattle.publication.proofs.PublicationLaws.{renewed}
@@ -21,13 +21,13 @@ returns c =
     let q = c .before in
     let w = q .before .before .before in
     let k = w .before .before in
-    renewed-none _ (k .before .pre) (bytes k) _ _ (w .walk-page .ensures ∙ ap (λ (x : List ℕ). bestsOf (pageEntries x)) (cut-whole _)) (q .before .before .to-publish .ensures) _ (q .flags .ensures) (c .if1 .taken)
+    renewed-none _ (k .before .pre) (bytes k) _ _ (w .entries-behind .ensures ∙ ap (λ (x : List ℕ). bestsOf (publishedEntries x)) (cut-whole _)) (q .before .before .to-publish .ensures) _ (q .flags .ensures) (c .if1 .taken)
 
 returns-2 : tie.Need-returns-2
 returns-2 c =
     let q = c .before .before .before .before .before in
     let w = q .before .before .before in
-    renewed _ (bytes (w .before .before)) _ _ (w .walk-page .ensures ∙ ap (λ (x : List ℕ). bestsOf (pageEntries x)) (cut-whole _)) (q .before .before .to-publish .ensures) _ _ (q .flags .ensures) (c .before .before .put-entries .ensures)
+    renewed _ (bytes (w .before .before)) _ _ (w .entries-behind .ensures ∙ ap (λ (x : List ℕ). bestsOf (publishedEntries x)) (cut-whole _)) (q .before .before .to-publish .ensures) _ _ (q .flags .ensures) (c .before .before .put-entries .ensures)
 
 pub renew-spec : {M : Type 1} → statement M
 renew-spec =

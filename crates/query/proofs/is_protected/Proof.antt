@@ -21,8 +21,8 @@ add-a c = omega (arith, room c .1)
 add-e : tie.Need-add-e
 add-e c = omega (arith, room c .1)
 
-part-search-end : tie.Need-part-search-end
-part-search-end c = omega (arith, room c .0)
+part-look-end : tie.Need-part-look-end
+part-look-end c = omega (arith, room c .0)
 
 returns : tie.Need-returns
 returns c = query-refused _ _ _ _ _ (c .before .before .before .judge .ensures) _ (c .before .asked .given .1)
@@ -30,7 +30,7 @@ returns c = query-refused _ _ _ _ _ (c .before .before .before .judge .ensures) 
 returns-2 : tie.Need-returns-2
 returns-2 c =
     let a = c .before .before .before .before in
-    query-done _ _ _ _ _ (a .before .before .judge .ensures) _ _ _ _ (a .asked2 .given .1) (c .before .asked-side .ensures) (lent-page _ _) (c .search .ensures)
+    query-done _ _ _ _ _ (a .before .before .judge .ensures) _ _ _ _ (a .asked2 .given .1) (c .before .asked-side .ensures) (lent-page _ _) (c .look .ensures)
 
 pub is-protected-spec : {M : Type 1} → statement M
 is-protected-spec =
@@ -44,7 +44,7 @@ is-protected-spec =
     add-e
     (λ c. search needs)
     (λ c. search needs)
-    part-search-end
+    part-look-end
     (λ c κs. search needs)
     (λ c κs. search needs)
     returns

@@ -6,12 +6,12 @@ use mathlib.Core.List.{List}
 use lib.Dec.{eqb}
 use Rattle.quote.specs.declared.Quote.{Quote}
 use Rattle.levels.specs.Levels.{Odd, oddCode}
-use Rattle.message.specs.Message.{makerCode}
+use Rattle.message.specs.Message.{makerCode, statusCode}
 use Rattle.entries.specs.Publication.{changeFlags}
 use Rattle.page.specs.Page.{levelsFor}
 use Rattle.update.specs.declared.Effect.{Effect}
-use Rattle.update.specs.Parts.{readingOf, knownBy, roundOn, putOdd, oddOnPage, makerOn}
-use Rattle.page.specs.Layout.{pageLot, keptEntries}
+use Rattle.update.specs.Parts.{readingOf, knownBy, roundOn, putOdd, oddOnPage, makerOn, statusOn}
+use Rattle.page.specs.Layout.{pageLot, pagePrimary, keptEntries}
 
 pub record Updated : Type 0 where
   pub effect : Effect
@@ -50,3 +50,8 @@ makerQuoteOn fault m q p =
     cond (eqb fault 0)
     (cond (eqb (makerCode (knownBy (readingOf p)) m q) 0) (flagged 0 p (makerOn m q p)) (rejected (makerCode (knownBy (readingOf p)) m q) p))
     (rejected fault p)
+
+-- T S: 76, 77
+unfoldable pub tradingStatusOn : ℕ → ℕ → List ℕ → Updated
+tradingStatusOn l x p =
+    cond (eqb (statusCode (pagePrimary p) l x) 0) (flagged 0 p (statusOn x p)) (rejected (statusCode (pagePrimary p) l x) p)

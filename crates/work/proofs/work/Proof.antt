@@ -22,6 +22,11 @@ work-maker-requires c κs =
     let r = c .before .before .before .before in
     (r .before .before .before .pre, sym (r .read .ensures) ∙ c .before .before .said5 .given .1)
 
+work-status-requires : tie.Need-work-status-requires
+work-status-requires c κs =
+    let r = c .before .before .before .before in
+    (r .before .before .before .pre, sym (r .read .ensures) ∙ c .before .before .said6 .given .1)
+
 returns : tie.Need-returns
 returns c =
     let r = c .before .before .before in
@@ -56,10 +61,14 @@ work-spec =
     work-odd-lot-requires
     (λ c. search needs)
     work-maker-requires
+    (λ c. search needs)
+    work-status-requires
     returns
     returns-2
     (λ c. search needs)
     returns-3
+    (λ c. search needs)
+    (λ c. search needs)
     (λ c. search needs)
     (λ c. search needs)
     (λ c. search needs)
