@@ -11,7 +11,7 @@ use Rattle.opening.specs.declared.Line.{Line}
 use Rattle.opening.specs.Opening.{lineIn, linesIn}
 use Rattle.calls.specs.Call.{Call, add, openLine, startDay, Answer}
 use Rattle.review.specs.Reviewer.{freshReview, reviewAfter, reviewAnswers}
-use Rattle.review.proofs.Rows.{item, control, block, allTold, only, accepted, gap, refused, odd, nothing, shown, zt, levelsBy, makerOf, unknown, day, look, Row, inDay, answered, Answered, end, _▹_}
+use Rattle.review.proofs.Rows.{item, control, block, allTold, only, accepted, gap, refused, odd, nothing, shown, none, rejected, zt, levelsBy, statusBy, halt, trade, makerOf, unknown, day, look, Row, inDay, fromMake, answered, Answered, end, _▹_}
 use Rattle.mixing.specs.Mixing.{Received, calls, ofLine, OneLineEach, unflagged, heard, codesIn, codes}
 
 -- ---- blocks of three lines: 5 is N's, 6 is P's, 7 is D's, and 9 is not open
@@ -50,13 +50,40 @@ d1 = onLine 7 1 (makerOf 7 82 10000000 3 0 0 65 ∷ [])
 abbrev d2 : Received
 d2 = onLine 7 2 (control 67 68 ∷ [])
 
+-- N halts ZT, whose primary letter it is, and lets it trade; P may do neither
+abbrev h1 : Received
+h1 = onLine 5 1 (halt ∷ [])
+
+abbrev h2 : Received
+h2 = onLine 5 2 (trade ∷ [])
+
+abbrev q2 : Received
+q2 = onLine 6 2 (statusBy 80 9 zt 84 ∷ [])
+
 abbrev x1 : Received
 x1 = onLine 9 1 (bid 78 9000000 5 ∷ [])
 
 -- ---- two lines in both orders: all answers. The flags of N differ, all else is equal
 
+-- lines 5 and 6 are both N's
+abbrev twoOfN : List Call
+twoOfN = add zt 100 78 ∷ openLine 5 78 ∷ openLine 6 78 ∷ startDay ∷ []
+
 abbrev best : List ℕ
 best = shown nothing nothing nothing nothing (odd 80 9000000 6) nothing
+
+abbrev haltOn5 : Received
+haltOn5 = onLine 5 2 (halt ∷ [])
+
+abbrev tradeOn6 : Received
+tradeOn6 = onLine 6 1 (trade ∷ [])
+
+-- N's bid alone; the answers to `twoOfN`, then these
+abbrev led : List ℕ
+led = shown nothing nothing nothing nothing (odd 78 9000000 5) nothing
+
+abbrev four0 : List (List ℕ) → List (List ℕ)
+four0 rest = only 0 ∷ only 0 ∷ only 0 ∷ only 0 ∷ rest
 
 unfoldable pub table : List Row
 table =
@@ -70,6 +97,14 @@ table =
     -- and mixed
     ∷ inDay (calls (x1 ∷ d1 ∷ n1 ∷ p1 ∷ n2 ∷ d2 ∷ p2 ∷ n3 ∷ n4 ∷ []) ++ (look ∷ []))
     (only 21 ∷ accepted 2 1 5 ∷ accepted 2 1 0 ∷ accepted 2 1 0 ∷ refused 35 2 1 ∷ accepted 3 2 21 ∷ refused 32 2 1 ∷ only 9 ∷ gap 3 6 2 ∷ best ∷ [])
+    -- T-10: P's bid before N's halt, and in it; what P says of ZT's trading has 76 before the halt, in it and after it
+    ∷ inDay (calls (p1 ∷ q2 ∷ h1 ∷ []) ++ (look ∷ [])) (accepted 2 1 16 ∷ rejected 3 2 76 ∷ accepted 2 1 16 ∷ none ∷ [])
+    ∷ inDay (calls (h1 ∷ p1 ∷ q2 ∷ []) ++ (look ∷ [])) (accepted 2 1 0 ∷ accepted 2 1 0 ∷ rejected 3 2 76 ∷ none ∷ [])
+    ∷ inDay (calls (h1 ∷ p1 ∷ h2 ∷ q2 ∷ []) ++ (look ∷ [])) (accepted 2 1 0 ∷ accepted 2 1 0 ∷ accepted 3 2 16 ∷ rejected 3 2 76 ∷ best ∷ [])
+    ∷ inDay (calls (h1 ∷ h2 ∷ p1 ∷ q2 ∷ []) ++ (look ∷ [])) (accepted 2 1 0 ∷ accepted 3 2 0 ∷ accepted 2 1 16 ∷ rejected 3 2 76 ∷ best ∷ [])
+    -- which "at most one line" leaves out: a halt and its end on two lines of N
+    ∷ fromMake 1 (twoOfN ++ (calls (n1 ∷ haltOn5 ∷ tradeOn6 ∷ []) ++ (look ∷ []))) (four0 (accepted 2 1 16 ∷ accepted 3 2 16 ∷ accepted 2 1 16 ∷ led ∷ []))
+    ∷ fromMake 1 (twoOfN ++ (calls (n1 ∷ tradeOn6 ∷ haltOn5 ∷ []) ++ (look ∷ []))) (four0 (accepted 2 1 16 ∷ accepted 2 1 0 ∷ accepted 3 2 16 ∷ none ∷ []))
     ∷ []
 
 -- one for each row, in order
@@ -80,6 +115,12 @@ cases =
     ▹ refl  -- P, N
     ▹ refl  -- line by line
     ▹ refl  -- mixed
+    ▹ refl  -- before a halt
+    ▹ refl  -- in it
+    ▹ refl  -- a halt that ends, in it
+    ▹ refl  -- and after it
+    ▹ refl  -- two lines: halt, trading
+    ▹ refl  -- two lines: trading, halt
     ▹ end
 
 -- ---- what each line hears, by the definitions of the theorem
@@ -140,10 +181,6 @@ unfolding codesOf
 own-levels = refl
 
 -- ---- two lines of one letter, which the supposition leaves out: codes do differ
-
--- lines 5 and 6 are both N's
-abbrev twoOfN : List Call
-twoOfN = add zt 100 ∷ openLine 5 78 ∷ openLine 6 78 ∷ startDay ∷ []
 
 pub four-bids-first : codesOf twoOfN 6 (onLine 5 1 (four 78 ∷ []) ∷ onLine 6 1 (bid 78 9004000 5 ∷ []) ∷ []) ≡ (64 ∷ []) ∷ []
 unfolding codesOf

@@ -10,22 +10,22 @@ use borrow.Author.Tests.{ltb-true, ltb-false}
 use Rattle.field.specs.Field.{part, splice}
 use Rattle.lists.specs.Lists.{upper}
 use Rattle.lists.specs.declared.Found.{Found}
-use Rattle.message.specs.Message.{symbolOf, codeOf, partlyTaken, Part, roundPart, oddPart, makerPart, finraPart, partsOf}
+use Rattle.message.specs.Message.{symbolOf, codeOf, partlyTaken, Part, roundPart, oddPart, makerPart, finraPart, statusPart, partsOf}
+use Rattle.message.proofs.SpokenLaws.{Shaped, AllShaped, shaped}
 use Rattle.page.specs.Layout.{pageSymbol}
 use Rattle.update.specs.Parts.{Reading, knownOf}
 use Rattle.update.proofs.SearchLaws.{first-same}
 use Rattle.opening.specs.declared.Line.{Line}
 use Rattle.opening.specs.Layout.{lineLength, lineCount, openingLength, bookLength, lineAt}
-use Rattle.opening.specs.Opening.{lineBytes, countOf, pageAt, pagePlace}
+use Rattle.opening.specs.Opening.{lineBytes, countOf, pageAt, pagesIn, pagePlace}
 use Rattle.opening.proofs.OpeningLaws.{Sound, count-by}
 use Rattle.opening.proofs.PageLaws.{OpeningKept}
 use Rattle.opening.proofs.LineLaws.{length-line, lined-sound, lined-page, lined-pages}
+use Rattle.work.proofs.PartLaws.{part-kept}
 use Rattle.work.specs.Work.{findReading, partOn, partsOn, codeOn, messageOn, messagesOn, toldOn}
 use Rattle.regions.proofs.RegionLaws.{Region, within, in-within, of-within, Apart, within-apart, Alike, stretch, part-read, Local, local-splice, local-swap, local-reads}
-use Rattle.regions.proofs.PartLaws.{Sent}
-use Rattle.regions.proofs.SentLaws.{AllSent}
-use Rattle.mixing.proofs.PartSwaps.{same-book, hitBy, hits, onHit, sent-kept, sent-sound, page-after}
-use Rattle.mixing.proofs.MessageSwaps.{sent-on, message-sound, quiet}
+use Rattle.mixing.proofs.PartSwaps.{same-book, hitBy, hits, onHit, part-sound, page-after}
+use Rattle.mixing.proofs.MessageSwaps.{message-sound, quiet}
 
 -- line i's record written
 abbrev pub lineSet : ℕ → Line → List ℕ → List ℕ
@@ -83,22 +83,23 @@ module _ (n i : ℕ) (h : i < lineCount) (x : Line) where
     hits-lined (oddPart s l o) k = ap (λ (z : Found). hitBy z k) (place-lined s)
     hits-lined (makerPart s m q) k = ap (λ (z : Found). hitBy z k) (place-lined s)
     hits-lined (finraPart c) k = refl
+    hits-lined (statusPart s x) k = ap (λ (z : Found). hitBy z k) (place-lined s)
 
-    part-lined : (l : ℕ) → upper l ≡ true → (r : Part) → Sent l r → partOn r (lineSet i x b) ≡ lineSet i x (partOn r b)
-    part-lined l u r e =
+    part-lined : (r : Part) → Shaped r → partOn r (lineSet i x b) ≡ lineSet i x (partOn r b)
+    part-lined r e =
         let b′ : List ℕ = lineSet i x b in
         let s′ : Sound n b′ = line-sound b sd in
-        let o : OpeningKept b (partOn r b) = sent-kept n b sd l u r e in
-        let o′ : OpeningKept b′ (partOn r b′) = sent-kept n b′ s′ l u r e in
-        let s : Sound n (partOn r b) = sent-sound n b sd l u r e in
+        let o : OpeningKept b (partOn r b) = part-kept n r b sd e in
+        let o′ : OpeningKept b′ (partOn r b′) = part-kept n r b′ s′ e in
+        let s : Sound n (partOn r b) = part-sound n b sd r e in
         let a : Alike opening (lineSet i x b) (lineSet i x (partOn r b)) =
         opening-local n i h x .inside b (partOn r b) (sd .size) (s .size) (λ k m. sym (o .front k 1 (omega (arith, in-opening k m)))) in
         same-book n (partOn r b′) (lineSet i x (partOn r b))
         (o′ .front 0 openingLength (omega arith) ∙ stretch opening (lineSet i x b) (lineSet i x (partOn r b)) a openingLength 0 (in-within 0 openingLength))
         (λ k m.
-        page-after n b′ s′ l u r e k m
+        page-after n b′ s′ r e k m
         ∙ (λ t. onHit r (hits-lined r k t) (lined-page n b sd i h x k t))
-        ∙ sym (page-after n b sd l u r e k m) ∙ sym (lined-page n (partOn r b) s i h x k))
+        ∙ sym (page-after n b sd r e k m) ∙ sym (lined-page n (partOn r b) s i h x k))
         (o′ .size ∙ s′ .size) (line-local n i h x .size (partOn r b) (s .size))
       where
         in-opening : (k : ℕ) → opening k ≡ true → k < openingLength
@@ -108,14 +109,14 @@ module _ (n i : ℕ) (h : i < lineCount) (x : Line) where
     code-lined l m = ap (λ (rs : List Reading). codeOf (knownOf (findReading (symbolOf m) rs)) l m) (lined-pages n b sd i h x)
 
   module _ (l : ℕ) (u : upper l ≡ true) where
-    parts-lined : (rs : List Part) → AllSent l rs → (b : List ℕ) → Sound n b → partsOn rs (lineSet i x b) ≡ lineSet i x (partsOn rs b)
+    parts-lined : (rs : List Part) → AllShaped rs → (b : List ℕ) → Sound n b → partsOn rs (lineSet i x b) ≡ lineSet i x (partsOn rs b)
     unfolding partsOn
     parts-lined [] a b sd = refl
-    parts-lined (r ∷ rs) a b sd = ap (partsOn rs) (part-lined b sd l u r (a .0)) ∙ parts-lined rs (a .1) (partOn r b) (sent-sound n b sd l u r (a .0))
+    parts-lined (r ∷ rs) a b sd = ap (partsOn rs) (part-lined b sd r (a .0)) ∙ parts-lined rs (a .1) (partOn r b) (part-sound n b sd r (a .0))
 
     message-lined : (m b : List ℕ) → Sound n b → messageOn l m (lineSet i x b) ≡ lineSet i x (messageOn l m b)
     message-lined m b sd =
-        ap (λ (c : ℕ). partsOn (partsOf c m) (lineSet i x b)) (code-lined b sd l m) ∙ parts-lined (partsOf (codeOn l m b) m) (sent-on l m b) b sd
+        ap (λ (c : ℕ). partsOn (partsOf c m) (lineSet i x b)) (code-lined b sd l m) ∙ parts-lined (partsOf (codeOn l m b) m) (shaped (knownOf (findReading (symbolOf m) (pagesIn b))) l m u) b sd
 
     pub messages-lined : (ms : List (List ℕ)) (b : List ℕ) → Sound n b → messagesOn l ms (lineSet i x b) ≡ lineSet i x (messagesOn l ms b)
     unfolding messagesOn

@@ -4,50 +4,72 @@ use Prim.Native.Nat.{ℕ}
 use mathlib.Core.Path.{_≡_, refl, sym, ap, _∙_}
 use mathlib.Core.Bool.{true}
 use mathlib.Core.List.{List, [], _∷_, map}
+use mathlib.Core.Option.{Option, none, some}
 use Rattle.lists.specs.Lists.{upper}
+use Rattle.lists.specs.declared.Found.{Found}
+use Rattle.lists.specs.declared.Found.the-variants.{At, Nothing}
 use Rattle.message.specs.Message.{symbolOf, partlyTaken, Part, partsOf}
-use Rattle.update.specs.Parts.{knownOf}
+use Rattle.update.specs.Parts.{Reading, readingOf, knownBy, knownOf}
+use Rattle.update.proofs.SearchLaws.{foundBy}
 use Rattle.told.specs.declared.Told.{Told}
-use Rattle.opening.specs.Opening.{pagesIn}
+use Rattle.opening.specs.Opening.{pageAt, pagesIn, pagePlace}
 use Rattle.opening.proofs.OpeningLaws.{Sound}
 use Rattle.opening.proofs.PageLaws.{kept-sound}
 use Rattle.work.specs.Work.{findReading, partOn, partsOn, codeOn, messageOn, messagesOn, toldOn}
 use Rattle.work.proofs.KeptLaws.{message-kept}
-use Rattle.regions.proofs.PartLaws.{Sent}
+use Rattle.work.proofs.PlaceLaws.{find-page}
+use Rattle.page.specs.Layout.{pagePrimary}
 use Rattle.regions.proofs.SentLaws.{AllSent, sent}
-use Rattle.mixing.proofs.PartSwaps.{sent-sound, code-stays, part-swap}
+use Rattle.mixing.proofs.PartSwaps.{Primary, SentOn, sent-sound, still-sent, code-stays, part-swap}
+
+abbrev pub AllSentOn : List ℕ → ℕ → List Part → Type 0
+AllSentOn b l rs = AllSent (Primary b l) l rs
+
+-- what is sent to a book is sent to it after a part
+all-still : (n : ℕ) (b : List ℕ) → Sound n b → (l : ℕ) → upper l ≡ true → (r : Part) → SentOn b l r → (j : ℕ) (ts : List Part) → AllSentOn b j ts → AllSentOn (partOn r b) j ts
+all-still n b sd l u r x j [] a = tt
+all-still n b sd l u r x j (t ∷ ts) a = (still-sent n b sd l u r x j t (a .0), all-still n b sd l u r x j ts (a .1))
 
 module _ (n l j : ℕ) (u : upper l ≡ true) (v : upper j ≡ true) (d : l ≡ j → ⊥) where
   -- ---- parts
 
-  one-parts : (t : Part) → Sent j t → (rs : List Part) → AllSent l rs → (b : List ℕ) → Sound n b → partOn t (partsOn rs b) ≡ partsOn rs (partOn t b)
+  one-parts : (t : Part) (rs : List Part) (b : List ℕ) → SentOn b j t → AllSentOn b l rs → Sound n b → partOn t (partsOn rs b) ≡ partsOn rs (partOn t b)
   unfolding partsOn
-  one-parts t y [] a b sd = refl
-  one-parts t y (r ∷ rs) a b sd =
-      one-parts t y rs (a .1) (partOn r b) (sent-sound n b sd l u r (a .0)) ∙ ap (partsOn rs) (part-swap n b sd l j u v d r t (a .0) y)
+  one-parts t [] b y a sd = refl
+  one-parts t (r ∷ rs) b y a sd =
+      one-parts t rs (partOn r b) (still-sent n b sd l u r (a .0) j t y) (all-still n b sd l u r (a .0) l rs (a .1)) (sent-sound n b sd l u r (a .0))
+      ∙ ap (partsOn rs) (part-swap n b sd l j u v d r t (a .0) y)
 
-  parts-swap : (ts rs : List Part) → AllSent j ts → AllSent l rs → (b : List ℕ) → Sound n b → partsOn ts (partsOn rs b) ≡ partsOn rs (partsOn ts b)
+  parts-swap : (ts rs : List Part) (b : List ℕ) → AllSentOn b j ts → AllSentOn b l rs → Sound n b → partsOn ts (partsOn rs b) ≡ partsOn rs (partsOn ts b)
   unfolding partsOn
-  parts-swap [] rs z a b sd = refl
-  parts-swap (t ∷ ts) rs z a b sd = ap (partsOn ts) (one-parts t (z .0) rs a b sd) ∙ parts-swap ts rs (z .1) a (partOn t b) (sent-sound n b sd j v t (z .0))
+  parts-swap [] rs b z a sd = refl
+  parts-swap (t ∷ ts) rs b z a sd =
+      ap (partsOn ts) (one-parts t rs b (z .0) a sd)
+      ∙ parts-swap ts rs (partOn t b) (all-still n b sd j v t (z .0) j ts (z .1)) (all-still n b sd j v t (z .0) l rs a) (sent-sound n b sd j v t (z .0))
 
-  code-parts : (m : List ℕ) (rs : List Part) → AllSent l rs → (b : List ℕ) → Sound n b → codeOn j m (partsOn rs b) ≡ codeOn j m b
+  code-parts : (m : List ℕ) (rs : List Part) (b : List ℕ) → AllSentOn b l rs → Sound n b → codeOn j m (partsOn rs b) ≡ codeOn j m b
   unfolding partsOn
-  code-parts m [] a b sd = refl
-  code-parts m (r ∷ rs) a b sd = code-parts m rs (a .1) (partOn r b) (sent-sound n b sd l u r (a .0)) ∙ code-stays n b sd l u r (a .0) j v d m
+  code-parts m [] b a sd = refl
+  code-parts m (r ∷ rs) b a sd =
+      code-parts m rs (partOn r b) (all-still n b sd l u r (a .0) l rs (a .1)) (sent-sound n b sd l u r (a .0)) ∙ code-stays n b sd l u r (a .0) j v d m
 
 -- ---- messages
 
 -- the parts of a message on a book are of its line's letter
-pub sent-on : (l : ℕ) (m b : List ℕ) → AllSent l (partsOf (codeOn l m b) m)
-sent-on l m b = sent (knownOf (findReading (symbolOf m) (pagesIn b))) l m
+pub sent-on : (l : ℕ) (m b : List ℕ) → AllSentOn b l (partsOf (codeOn l m b) m)
+unfolding knownOf knownBy readingOf
+sent-on l m b = sent (Primary b l) (knownOf (findReading (symbolOf m) (pagesIn b))) l m one
+  where
+    one : knownOf (findReading (symbolOf m) (pagesIn b)) .primary ≡ l → Primary b l (symbolOf m)
+    one e k f =
+        sym (ap (λ (r : Option Reading). knownOf r .primary) (find-page b (symbolOf m) ∙ ap (foundBy (λ j. some (readingOf (pageAt b j))) none) f)) ∙ e
 
 pub message-sound : (n l : ℕ) → upper l ≡ true → (m b : List ℕ) → Sound n b → Sound n (messageOn l m b)
 message-sound n l u m b sd = kept-sound b (messageOn l m b) (message-kept n l u m b sd) n sd
 
 -- a message of l leaves the code of one of j
 code-message : (n l j : ℕ) → upper l ≡ true → upper j ≡ true → (l ≡ j → ⊥) → (m m′ b : List ℕ) → Sound n b → codeOn j m′ (messageOn l m b) ≡ codeOn j m′ b
-code-message n l j u v d m m′ b sd = code-parts n l j u v d m′ (partsOf (codeOn l m b) m) (sent-on l m b) b sd
+code-message n l j u v d m m′ b sd = code-parts n l j u v d m′ (partsOf (codeOn l m b) m) b (sent-on l m b) sd
 
 flip : (l j : ℕ) → (l ≡ j → ⊥) → j ≡ l → ⊥
 flip l j d e = d (sym e)
@@ -56,7 +78,7 @@ module _ (n l j : ℕ) (u : upper l ≡ true) (v : upper j ≡ true) (d : l ≡ 
   message-swap : (m m′ b : List ℕ) → Sound n b → messageOn j m′ (messageOn l m b) ≡ messageOn l m (messageOn j m′ b)
   message-swap m m′ b sd =
       ap (λ (c : ℕ). partsOn (partsOf c m′) (messageOn l m b)) (code-message n l j u v d m m′ b sd)
-      ∙ parts-swap n l j u v d (partsOf (codeOn j m′ b) m′) (partsOf (codeOn l m b) m) (sent-on j m′ b) (sent-on l m b) b sd
+      ∙ parts-swap n l j u v d (partsOf (codeOn j m′ b) m′) (partsOf (codeOn l m b) m) b (sent-on j m′ b) (sent-on l m b) sd
       ∙ ap (λ (c : ℕ). partsOn (partsOf c m) (messageOn j m′ b)) (sym (code-message n j l v u (flip l j d) m′ m b sd))
 
   one-messages : (m′ : List ℕ) (ms : List (List ℕ)) (b : List ℕ) → Sound n b → messageOn j m′ (messagesOn l ms b) ≡ messagesOn l ms (messageOn j m′ b)

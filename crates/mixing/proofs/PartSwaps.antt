@@ -7,18 +7,21 @@ use mathlib.Core.List.{List, _++_}
 use native.Mathlib.Omega.{arith}
 use lib.Dec.{eqb}
 use lib.ListN.{length}
+use borrow.Author.Tests.{eqb-true}
 use Rattle.field.specs.Field.{part}
 use Rattle.field.proofs.Laws.{part-join, part-all}
 use Rattle.lists.specs.Lists.{upper}
 use Rattle.lists.specs.declared.Found.{Found}
 use Rattle.lists.specs.declared.Found.the-variants.{At, Nothing}
-use Rattle.lists.proofs.Tests.{Cut, equal, apart, cut}
-use Rattle.message.specs.Message.{symbolOf, Part, roundPart, oddPart, makerPart, finraPart}
-use Rattle.page.specs.Layout.{pageLength, pageSymbol}
-use Rattle.update.specs.Parts.{roundOn, oddOnPage, makerOn, finraOn}
+use Rattle.lists.proofs.Tests.{clash, Cut, equal, apart, cut}
+use Rattle.message.specs.Message.{symbolOf, Part, roundPart, oddPart, makerPart, finraPart, statusPart}
+use Rattle.message.proofs.SpokenLaws.{Shaped}
+use Rattle.page.specs.Layout.{pageLength, pageSymbol, pagePrimary}
+use Rattle.update.specs.Parts.{roundOn, oddOnPage, makerOn, finraOn, statusOn}
 use Rattle.update.proofs.EntryLaws.{Kept}
 use Rattle.update.proofs.SlotLaws.{round-kept, odd-kept}
 use Rattle.update.proofs.MakerLaws.{maker-kept, finra-kept}
+use Rattle.update.proofs.StatusLaws.{status-kept}
 use Rattle.update.proofs.WorkLaws.{pageCode}
 use Rattle.opening.specs.Layout.{openingLength, bookLength, pageStart}
 use Rattle.opening.specs.Opening.{pageAt, pagePlace, onPage}
@@ -27,8 +30,8 @@ use Rattle.opening.proofs.PageLaws.{OpeningKept, kept-sound, opening-then, plac
 use Rattle.work.specs.Work.{partOn, codeOn}
 use Rattle.work.proofs.PartLaws.{part-kept}
 use Rattle.work.proofs.PlaceLaws.{place-same, code-at, code-nowhere}
-use Rattle.regions.proofs.PartLaws.{changes, Sent, sent-shaped, round-changes, odd-changes, maker-changes, finra-changes}
-use Rattle.regions.proofs.CodeLaws.{symbol-stays, page-code-stays, page-swap}
+use Rattle.regions.proofs.PartLaws.{changes, SentBy, Sent, sent-map, sent-shaped, round-changes, odd-changes, maker-changes, finra-changes, status-changes}
+use Rattle.regions.proofs.CodeLaws.{symbol-stays, primary-stays, page-code-stays, page-swap}
 
 -- ---- books by their openings and pages
 
@@ -60,6 +63,7 @@ hits (roundPart s l q) b k = hitBy (pagePlace b s) k
 hits (oddPart s l o) b k = hitBy (pagePlace b s) k
 hits (makerPart s m q) b k = hitBy (pagePlace b s) k
 hits (finraPart c) b k = true
+hits (statusPart s x) b k = hitBy (pagePlace b s) k
 
 abbrev pub onHit : Part → Bool → List ℕ → List ℕ
 onHit r t p = cond t (changes r p) p
@@ -77,84 +81,132 @@ module _ (n : ℕ) (b : List ℕ) (sd : Sound n b) where
       go (At j) e = one j e (cut j k)
       go Nothing e = on-other n b sd s h keeps k (λ y. nowhere k (sym e ∙ y))
 
-module _ (n : ℕ) (b : List ℕ) (sd : Sound n b) (l : ℕ) (u : upper l ≡ true) (r : Part) (x : Sent l r) where
-  pub sent-kept : OpeningKept b (partOn r b)
-  sent-kept = part-kept n r b sd (sent-shaped l u r x)
+pub part-sound : (n : ℕ) (b : List ℕ) → Sound n b → (r : Part) → Shaped r → Sound n (partOn r b)
+part-sound n b sd r z = kept-sound b (partOn r b) (part-kept n r b sd z) n sd
 
-  pub sent-sound : Sound n (partOn r b)
-  sent-sound = kept-sound b (partOn r b) sent-kept n sd
-
-pub page-after : (n : ℕ) (b : List ℕ) → Sound n b → (l : ℕ) → upper l ≡ true → (r : Part) → Sent l r → (k : ℕ) → k < n
-    → pageAt (partOn r b) k ≡ onHit r (hits r b k) (pageAt b k)
+pub page-after : (n : ℕ) (b : List ℕ) → Sound n b → (r : Part) → Shaped r → (k : ℕ) → k < n → pageAt (partOn r b) k ≡ onHit r (hits r b k) (pageAt b k)
 unfolding partOn
-page-after n b sd l u (roundPart s j q) x k h =
-    on-after n b sd s (roundOn j q) (λ p w. round-kept p w j (rw x u) q) k
+page-after n b sd (roundPart s j q) z k h =
+    on-after n b sd s (roundOn j q) (λ p w. round-kept p w j z q) k
     ∙ ap (λ (z : List ℕ). cond (hitBy (pagePlace b s) k) z (pageAt b k)) (round-changes s j q (pageAt b k))
-page-after n b sd l u (oddPart s j o) x k h =
-    on-after n b sd s (oddOnPage j o) (λ p w. odd-kept p w j (rw x u) o) k
+page-after n b sd (oddPart s j o) z k h =
+    on-after n b sd s (oddOnPage j o) (λ p w. odd-kept p w j z o) k
     ∙ ap (λ (z : List ℕ). cond (hitBy (pagePlace b s) k) z (pageAt b k)) (odd-changes s j o (pageAt b k))
-page-after n b sd l u (makerPart s m q) x k h =
+page-after n b sd (makerPart s m q) z k h =
     on-after n b sd s (makerOn m q) (λ p w. maker-kept m q p w) k
     ∙ ap (λ (z : List ℕ). cond (hitBy (pagePlace b s) k) z (pageAt b k)) (maker-changes s m q (pageAt b k))
-page-after n b sd l u (finraPart c) x k h = each-page n (finraOn c) (λ p w. finra-kept c p w) b sd k h ∙ finra-changes c (pageAt b k)
+page-after n b sd (finraPart c) z k h = each-page n (finraOn c) (λ p w. finra-kept c p w) b sd k h ∙ finra-changes c (pageAt b k)
+page-after n b sd (statusPart s x) z k h =
+    on-after n b sd s (statusOn x) (λ p w. status-kept x p w) k
+    ∙ ap (λ (z : List ℕ). cond (hitBy (pagePlace b s) k) z (pageAt b k)) (status-changes s x (pageAt b k))
 
-module _ (n : ℕ) (b : List ℕ) (sd : Sound n b) (l : ℕ) (u : upper l ≡ true) (r : Part) (x : Sent l r) where
+-- ---- a part that is sent to a book: a trading status on the line of its symbol's primary letter
+
+abbrev pub Primary : List ℕ → ℕ → ℕ → Type 0
+Primary b l s = (k : ℕ) → pagePlace b s ≡ At k → pagePrimary (pageAt b k) ≡ l
+
+abbrev pub SentOn : List ℕ → ℕ → Part → Type 0
+SentOn b l r = SentBy (Primary b l) l r
+
+module _ (b : List ℕ) (l : ℕ) (u : upper l ≡ true) (r : Part) (x : SentOn b l r) where
+  pub shape : Shaped r
+  shape = sent-shaped (Primary b l) l u r x
+
+  -- where only what it leaves is asked, each page may have its letter for the primary
+  anywhere : Sent l l r
+  anywhere = sent-map (Primary b l) (λ s. l ≡ l) (λ s f. refl) l r x
+
+-- to each page that it changes
+sent-at : (b : List ℕ) (l k : ℕ) (r : Part) → SentOn b l r → hits r b k ≡ true → Sent (pagePrimary (pageAt b k)) l r
+sent-at b l k (roundPart s j q) x h = x
+sent-at b l k (oddPart s j o) x h = x
+sent-at b l k (makerPart s m q) x h = x
+sent-at b l k (finraPart c) x h = x
+sent-at b l k (statusPart s y) x h = go (pagePlace b s) refl h
+  where
+    go : (f : Found) → pagePlace b s ≡ f → hitBy f k ≡ true → pagePrimary (pageAt b k) ≡ l
+    go (At j) e t = x k (e ∙ ap At (eqb-true j k t))
+    go Nothing e t = clash (sym t)
+
+module _ (n : ℕ) (b : List ℕ) (sd : Sound n b) (l : ℕ) (u : upper l ≡ true) (r : Part) (x : SentOn b l r) where
+  pub sent-sound : Sound n (partOn r b)
+  sent-sound = part-sound n b sd r (shape b l u r x)
+
+  -- symbols and primary letters stay
+  head-after : (f : List ℕ → ℕ) → ((k : ℕ) → k < n → f (changes r (pageAt b k)) ≡ f (pageAt b k)) → (k : ℕ) → k < n → f (pageAt (partOn r b) k) ≡ f (pageAt b k)
+  head-after f stays k h = ap f (page-after n b sd r (shape b l u r x) k h) ∙ go (hits r b k)
+    where
+      go : (t : Bool) → f (onHit r t (pageAt b k)) ≡ f (pageAt b k)
+      go true = stays k h
+      go false = refl
+
+  primary-after : (k : ℕ) → k < n → pagePrimary (pageAt (partOn r b) k) ≡ pagePrimary (pageAt b k)
+  primary-after = head-after (λ p. pagePrimary p) (λ k h. primary-stays l l u r (anywhere b l u r x) (pageAt b k) (length-page n b sd k h))
+
   -- every symbol stays where it is
   pub place-stays : (s : ℕ) → pagePlace (partOn r b) s ≡ pagePlace b s
-  place-stays s = place-same n b sd (partOn r b) s (sent-kept n b sd l u r x) (λ j h. one j (omega (arith, sd .count)))
+  place-stays s = place-same n b sd (partOn r b) s (part-kept n r b sd (shape b l u r x)) (λ j h. one j (omega (arith, sd .count)))
     where
       one : (j : ℕ) → j < n → pageSymbol (pageAt (partOn r b) j) ≡ pageSymbol (pageAt b j)
-      one j h = ap (λ (p : List ℕ). pageSymbol p) (page-after n b sd l u r x j h) ∙ go (hits r b j)
-        where
-          go : (t : Bool) → pageSymbol (onHit r t (pageAt b j)) ≡ pageSymbol (pageAt b j)
-          go true = symbol-stays l u r x (pageAt b j) (length-page n b sd j h)
-          go false = refl
+      one = head-after (λ p. pageSymbol p) (λ k h. symbol-stays l l u r (anywhere b l u r x) (pageAt b k) (length-page n b sd k h))
 
   pub hits-stay : (t : Part) (k : ℕ) → hits t (partOn r b) k ≡ hits t b k
   hits-stay (roundPart s j q) k = ap (λ (z : Found). hitBy z k) (place-stays s)
   hits-stay (oddPart s j o) k = ap (λ (z : Found). hitBy z k) (place-stays s)
   hits-stay (makerPart s m q) k = ap (λ (z : Found). hitBy z k) (place-stays s)
   hits-stay (finraPart c) k = refl
+  hits-stay (statusPart s x) k = ap (λ (z : Found). hitBy z k) (place-stays s)
+
+  -- what is sent to the book is sent to it afterwards
+  pub still-sent : (j : ℕ) (t : Part) → SentOn b j t → SentOn (partOn r b) j t
+  still-sent j t y = sent-map (Primary b j) (Primary (partOn r b) j) one j t y
+    where
+      one : (s : ℕ) → Primary b j s → Primary (partOn r b) j s
+      one s f k e =
+          let q : pagePlace b s ≡ At k = sym (place-stays s) ∙ e in
+          primary-after k (omega (arith, place-hit b s k q .0, sd .count)) ∙ f k q
 
   -- the code of a message of another letter stays
   pub code-stays : (j : ℕ) → upper j ≡ true → (l ≡ j → ⊥) → (m : List ℕ) → codeOn j m (partOn r b) ≡ codeOn j m b
   code-stays j v d m = go (pagePlace b (symbolOf m)) refl
     where
       one : (k : ℕ) → k < n → (t : Bool) → pageCode j m (onHit r t (pageAt b k)) ≡ pageCode j m (pageAt b k)
-      one k h true = page-code-stays l u r x (pageAt b k) (length-page n b sd k h) j v d m
+      one k h true = page-code-stays l l u r (anywhere b l u r x) (pageAt b k) (length-page n b sd k h) j v d m
       one k h false = refl
 
       go : (o : Found) → pagePlace b (symbolOf m) ≡ o → codeOn j m (partOn r b) ≡ codeOn j m b
       go (At k) e =
           let h : k < n = omega (arith, place-hit b (symbolOf m) k e .0, sd .count) in
           code-at j m (partOn r b) k (place-stays (symbolOf m) ∙ e)
-          ∙ ap (pageCode j m) (page-after n b sd l u r x k h) ∙ one k h (hits r b k)
+          ∙ ap (pageCode j m) (page-after n b sd r (shape b l u r x) k h) ∙ one k h (hits r b k)
           ∙ sym (code-at j m b k e)
       go Nothing e = code-nowhere j m (partOn r b) (place-stays (symbolOf m) ∙ e) ∙ sym (code-nowhere j m b e)
 
 -- one after the other, page by page
-twice : (n : ℕ) (b : List ℕ) → Sound n b → (l j : ℕ) → upper l ≡ true → upper j ≡ true → (r t : Part) → Sent l r → Sent j t → (k : ℕ) → k < n
+twice : (n : ℕ) (b : List ℕ) → Sound n b → (l j : ℕ) → upper l ≡ true → upper j ≡ true → (r t : Part) → SentOn b l r → SentOn b j t → (k : ℕ) → k < n
     → pageAt (partOn t (partOn r b)) k ≡ onHit t (hits t b k) (onHit r (hits r b k) (pageAt b k))
 twice n b sd l j u v r t x y k h =
-    page-after n (partOn r b) (sent-sound n b sd l u r x) j v t y k h
-    ∙ (λ i. onHit t (hits-stay n b sd l u r x t k i) (page-after n b sd l u r x k h i))
+    page-after n (partOn r b) (sent-sound n b sd l u r x) t (shape b j v t y) k h
+    ∙ (λ i. onHit t (hits-stay n b sd l u r x t k i) (page-after n b sd r (shape b l u r x) k h i))
 
-module _ (n : ℕ) (b : List ℕ) (sd : Sound n b) (l j : ℕ) (u : upper l ≡ true) (v : upper j ≡ true) (d : l ≡ j → ⊥) (r t : Part) (x : Sent l r) (y : Sent j t) where
+module _ (n : ℕ) (b : List ℕ) (sd : Sound n b) (l j : ℕ) (u : upper l ≡ true) (v : upper j ≡ true) (d : l ≡ j → ⊥) (r t : Part) (x : SentOn b l r) (y : SentOn b j t) where
   pages-swap : (k : ℕ) → k < n → pageAt (partOn t (partOn r b)) k ≡ pageAt (partOn r (partOn t b)) k
-  pages-swap k h = twice n b sd l j u v r t x y k h ∙ go (hits r b k) (hits t b k) ∙ sym (twice n b sd j l v u t r y x k h)
+  pages-swap k h = twice n b sd l j u v r t x y k h ∙ go (hits r b k) refl (hits t b k) refl ∙ sym (twice n b sd j l v u t r y x k h)
     where
-      go : (p q : Bool) → onHit t q (onHit r p (pageAt b k)) ≡ onHit r p (onHit t q (pageAt b k))
-      go true true = sym (page-swap l u r x (pageAt b k) (length-page n b sd k h) j v d t y)
-      go true false = refl
-      go false true = refl
-      go false false = refl
+      go : (p : Bool) → hits r b k ≡ p → (q : Bool) → hits t b k ≡ q → onHit t q (onHit r p (pageAt b k)) ≡ onHit r p (onHit t q (pageAt b k))
+      go true e true f = sym (page-swap (pagePrimary (pageAt b k)) l u r (sent-at b l k r x e) (pageAt b k) (length-page n b sd k h) j v d t (sent-at b j k t y f))
+      go true e false f = refl
+      go false e true f = refl
+      go false e false f = refl
 
   -- two letters' parts, in either order
   pub part-swap : partOn t (partOn r b) ≡ partOn r (partOn t b)
   part-swap =
+      let z : Shaped r = shape b l u r x in
+      let z′ : Shaped t = shape b j v t y in
       let s : Sound n (partOn r b) = sent-sound n b sd l u r x in
       let s′ : Sound n (partOn t b) = sent-sound n b sd j v t y in
-      let q : OpeningKept b (partOn t (partOn r b)) = opening-then b (partOn r b) (partOn t (partOn r b)) (sent-kept n b sd l u r x) (sent-kept n (partOn r b) s j v t y) in
-      let q′ : OpeningKept b (partOn r (partOn t b)) = opening-then b (partOn t b) (partOn r (partOn t b)) (sent-kept n b sd j v t y) (sent-kept n (partOn t b) s′ l u r x) in
+      let q : OpeningKept b (partOn t (partOn r b)) = opening-then b (partOn r b) (partOn t (partOn r b)) (part-kept n r b sd z) (part-kept n t (partOn r b) s z′) in
+      let q′ : OpeningKept b (partOn r (partOn t b)) = opening-then b (partOn t b) (partOn r (partOn t b)) (part-kept n t b sd z′) (part-kept n r (partOn t b) s′ z) in
       same-book n (partOn t (partOn r b)) (partOn r (partOn t b)) (q .front 0 openingLength (omega arith) ∙ sym (q′ .front 0 openingLength (omega arith))) pages-swap
       (q .size ∙ sd .size) (q′ .size ∙ sd .size)

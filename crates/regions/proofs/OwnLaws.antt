@@ -1,4 +1,5 @@
--- What of a page is a letter's own: its slot, and of D the makers' cells too. Two letters' own are apart, and apart from the head and from the entries.
+-- What of a page is a letter's own: its slot, of D the makers' cells too, and of the page's primary letter the trading status. Two letters' own are apart,
+-- and apart from the head and from the entries.
 -- Assumes nothing.
 use Prim.Native.Nat.{ℕ, _+_, _*_, _≤_, _<_}
 use mathlib.Core.Path.{_≡_, refl, sym, _∙_}
@@ -10,7 +11,7 @@ use Rattle.field.specs.Ascii.{D}
 use Rattle.lists.specs.Lists.{upper}
 use Rattle.lists.proofs.Tests.{and-true, upper-low}
 use Rattle.entries.specs.Publication.{publicationLength}
-use Rattle.page.specs.Layout.{symbolAt, headLength, entriesAt, slotsAt, slotLength, cellLength, makerCount, cellsAt, slotAt}
+use Rattle.page.specs.Layout.{symbolAt, headLength, entriesAt, slotsAt, slotLength, cellLength, makerCount, cellsAt, slotAt, statusAt}
 use Rattle.regions.proofs.RegionLaws.{Region, within, of-within, Apart, within-apart}
 use Rattle.regions.proofs.RefreshLaws.{entriesKept}
 
@@ -20,37 +21,48 @@ slotOf l = within (slotAt l) slotLength
 abbrev pub cells : Region
 cells = within cellsAt (makerCount * cellLength)
 
--- D's line sends makers' quotes, FINRA Close and Open
-abbrev pub own : ℕ → Region
-own l i = slotOf l i || (eqb l D && cells i)
+abbrev pub status : Region
+status = within statusAt 1
 
--- symbol and round lot
+-- on a page whose primary letter is m: D's line sends makers' quotes, FINRA Close and Open, the primary letter's trading statuses (document 02, T-10)
+abbrev pub own : ℕ → ℕ → Region
+own m l i = slotOf l i || ((eqb l D && cells i) || (eqb m l && status i))
+
+-- symbol, round lot and primary letter
 abbrev pub head : Region
 head = within symbolAt headLength
 
-pub slot-own : (l i : ℕ) → slotOf l i ≡ true → own l i ≡ true
-slot-own l i e = rw e
+or-first : (s t : Bool) → s ≡ true → s || t ≡ true
+or-first s t e = rw e
 
-pub cells-own : (l : ℕ) → l ≡ D → (i : ℕ) → cells i ≡ true → own l i ≡ true
-cells-own l d i e = rw (eq-eqb l D d, e) (go (slotOf l i))
+or-second : (s t : Bool) → t ≡ true → s || t ≡ true
+or-second true t e = refl
+or-second false t e = e
+
+pub slot-own : (m l i : ℕ) → slotOf l i ≡ true → own m l i ≡ true
+slot-own m l i e = or-first (slotOf l i) _ e
+
+pub cells-own : (m l : ℕ) → l ≡ D → (i : ℕ) → cells i ≡ true → own m l i ≡ true
+cells-own m l d i e = or-second (slotOf l i) _ (or-first (eqb l D && cells i) _ (rw (eq-eqb l D d, e)))
+
+pub status-own : (m l : ℕ) → m ≡ l → (i : ℕ) → status i ≡ true → own m l i ≡ true
+status-own m l d i e = or-second (slotOf l i) _ (or-second (eqb l D && cells i) _ (rw (eq-eqb m l d, e)))
+
+-- a place of the slot, of the cells, or the status
+data Owned (m l i : ℕ) : Type 0 where
+  slot : slotOf l i ≡ true → Owned m l i
+  cell : l ≡ D → cells i ≡ true → Owned m l i
+  state : m ≡ l → status i ≡ true → Owned m l i
+
+owned : (m l i : ℕ) → own m l i ≡ true → Owned m l i
+owned m l i e = go (slotOf l i) refl (eqb l D && cells i) refl e
   where
-    go : (t : Bool) → t || true ≡ true
-    go true = refl
-    go false = refl
+    go : (t : Bool) → slotOf l i ≡ t → (u : Bool) → eqb l D && cells i ≡ u → t || (u || (eqb m l && status i)) ≡ true → Owned m l i
+    go true s u c e = slot s
+    go false s true c e = let r = and-true (eqb l D) (cells i) c in cell (eqb-true l D (r .0)) (r .1)
+    go false s false c e = let r = and-true (eqb m l) (status i) e in state (eqb-true m l (r .0)) (r .1)
 
--- a place of the slot, or of the cells
-data Owned (l i : ℕ) : Type 0 where
-  slot : slotOf l i ≡ true → Owned l i
-  cell : l ≡ D → cells i ≡ true → Owned l i
-
-owned : (l i : ℕ) → own l i ≡ true → Owned l i
-owned l i e = go (slotOf l i) refl e
-  where
-    go : (t : Bool) → slotOf l i ≡ t → t || (eqb l D && cells i) ≡ true → Owned l i
-    go true s e = slot s
-    go false s e = let r = and-true (eqb l D) (cells i) e in cell (eqb-true l D (r .0)) (r .1)
-
--- slots stand in the order of their letters, the cells behind them
+-- slots stand in the order of their letters, the cells behind them, the status last
 slots-order : (l j : ℕ) → upper l ≡ true → l < j → slotAt l + slotLength ≤ slotAt j
 slots-order l j u h = omega (arith, upper-low l u .0)
 
@@ -67,57 +79,65 @@ slots-apart l j u v d i x y = go (ltb l j) refl
 slot-cells : (l : ℕ) → upper l ≡ true → Apart (slotOf l) cells
 slot-cells l u = within-apart (slotAt l) slotLength cellsAt (makerCount * cellLength) (slot-below l u)
 
+slot-status : (l : ℕ) → upper l ≡ true → Apart (slotOf l) status
+slot-status l u = within-apart (slotAt l) slotLength statusAt 1 (omega (arith, slot-below l u))
+
+cells-status : Apart cells status
+cells-status = within-apart cellsAt (makerCount * cellLength) statusAt 1 (omega arith)
+
 -- two letters
-pub own-apart : (l j : ℕ) → upper l ≡ true → upper j ≡ true → (l ≡ j → ⊥) → Apart (own l) (own j)
-own-apart l j u v d i x y = go (owned l i x) (owned j i y)
+pub own-apart : (m l j : ℕ) → upper l ≡ true → upper j ≡ true → (l ≡ j → ⊥) → Apart (own m l) (own m j)
+own-apart m l j u v d i x y = go (owned m l i x) (owned m j i y)
   where
-    go : Owned l i → Owned j i → ⊥
+    go : Owned m l i → Owned m j i → ⊥
     go (slot s) (slot t) = slots-apart l j u v d i s t
     go (slot s) (cell e t) = slot-cells l u i s t
+    go (slot s) (state e t) = slot-status l u i s t
     go (cell e s) (slot t) = slot-cells j v i t s
     go (cell e s) (cell f t) = d (e ∙ sym f)
+    go (cell e s) (state f t) = cells-status i s t
+    go (state e s) (slot t) = slot-status j v i t s
+    go (state e s) (cell f t) = cells-status i t s
+    go (state e s) (state f t) = d (sym e ∙ f)
 
 -- all of it stands behind the entries
-own-behind : (l i : ℕ) → own l i ≡ true → slotsAt ≤ i
-own-behind l i x = go (owned l i x)
+own-behind : (m l i : ℕ) → own m l i ≡ true → slotsAt ≤ i
+own-behind m l i x = go (owned m l i x)
   where
-    go : Owned l i → slotsAt ≤ i
+    go : Owned m l i → slotsAt ≤ i
     go (slot s) = omega (arith, of-within (slotAt l) slotLength i s .0)
     go (cell e s) = omega (arith, of-within cellsAt (makerCount * cellLength) i s .0)
+    go (state e s) = omega (arith, of-within statusAt 1 i s .0)
 
-pub own-entries : (l : ℕ) → Apart (own l) entriesKept
-own-entries l i x y = omega (arith, own-behind l i x, of-within entriesAt publicationLength i y .1)
+pub own-entries : (m l : ℕ) → Apart (own m l) entriesKept
+own-entries m l i x y = omega (arith, own-behind m l i x, of-within entriesAt publicationLength i y .1)
 
-pub own-head : (l : ℕ) → Apart (own l) head
-own-head l i x y = omega (arith, own-behind l i x, of-within symbolAt headLength i y .1)
+pub own-head : (m l : ℕ) → Apart (own m l) head
+own-head m l i x y = omega (arith, own-behind m l i x, of-within symbolAt headLength i y .1)
 
 pub entries-head : Apart entriesKept head
 entries-head i x y = omega (arith, of-within entriesAt publicationLength i x .0, of-within symbolAt headLength i y .1)
 
 -- ---- what the code of a message depends on: the head, and what is its line's letter's own
 
-abbrev pub seen : ℕ → Region
-seen l i = head i || own l i
+abbrev pub seen : ℕ → ℕ → Region
+seen m l i = head i || own m l i
 
-pub head-seen : (l i : ℕ) → head i ≡ true → seen l i ≡ true
-head-seen l i e = rw e
+pub head-seen : (m l i : ℕ) → head i ≡ true → seen m l i ≡ true
+head-seen m l i e = or-first (head i) _ e
 
-pub own-seen : (l i : ℕ) → own l i ≡ true → seen l i ≡ true
-own-seen l i e = rw e (go (head i))
+pub own-seen : (m l i : ℕ) → own m l i ≡ true → seen m l i ≡ true
+own-seen m l i e = or-second (head i) _ e
+
+seen-elim : (m l i : ℕ) → seen m l i ≡ true → (head i ≡ true → ⊥) → (own m l i ≡ true → ⊥) → ⊥
+seen-elim m l i e f g = go (head i) refl e
   where
-    go : (t : Bool) → t || true ≡ true
-    go true = refl
-    go false = refl
-
-seen-elim : (l i : ℕ) → seen l i ≡ true → (head i ≡ true → ⊥) → (own l i ≡ true → ⊥) → ⊥
-seen-elim l i e f g = go (head i) refl e
-  where
-    go : (t : Bool) → head i ≡ t → t || own l i ≡ true → ⊥
+    go : (t : Bool) → head i ≡ t → t || own m l i ≡ true → ⊥
     go true h e = f h
     go false h e = g e
 
-pub seen-apart : (l j : ℕ) → upper l ≡ true → upper j ≡ true → (l ≡ j → ⊥) → Apart (own l) (seen j)
-seen-apart l j u v d i x y = seen-elim j i y (own-head l i x) (own-apart l j u v d i x)
+pub seen-apart : (m l j : ℕ) → upper l ≡ true → upper j ≡ true → (l ≡ j → ⊥) → Apart (own m l) (seen m j)
+seen-apart m l j u v d i x y = seen-elim m j i y (own-head m l i x) (own-apart m l j u v d i x)
 
-pub entries-seen : (l : ℕ) → Apart entriesKept (seen l)
-entries-seen l i x y = seen-elim l i y (entries-head i x) (λ z. own-entries l i z x)
+pub entries-seen : (m l : ℕ) → Apart entriesKept (seen m l)
+entries-seen m l i x y = seen-elim m l i y (entries-head i x) (λ z. own-entries m l i z x)

@@ -7,9 +7,9 @@ use mathlib.Core.List.{List}
 use mathlib.Core.Option.{Option}
 use native.Mathlib.Omega.{arith}
 use lib.ListN.{length}
-use Rattle.field.specs.Field.{part, splice}
+use Rattle.field.specs.Field.{part, splice, beBytes}
 use Rattle.field.specs.Ascii.{D}
-use Rattle.field.proofs.Laws.{length-part}
+use Rattle.field.proofs.Laws.{length-part, length-beBytes}
 use Rattle.lists.specs.Lists.{upper, isSome}
 use Rattle.lists.specs.declared.Found.{Found}
 use Rattle.lists.specs.declared.Found.the-variants.{At, Nothing}
@@ -19,20 +19,20 @@ use Rattle.quote.specs.Quote.{emptyQuote, noQuote, quoteIn, quoteBytes, quoteOv
 use Rattle.quote.proofs.QuoteLaws.{length-quote}
 use Rattle.levels.specs.Levels.{Odd, idleOdd, levelsIn, levelsBytes, levelsLength, noLevels}
 use Rattle.levels.proofs.SideLaws.{length-levels}
-use Rattle.message.specs.Message.{Part, roundPart, oddPart, makerPart, finraPart}
+use Rattle.message.specs.Message.{Part, roundPart, oddPart, makerPart, finraPart, statusPart}
 use Rattle.message.proofs.SpokenLaws.{Shaped}
 use Rattle.entries.specs.Entries.{Maker}
-use Rattle.page.specs.Layout.{slotLength, cellLength, makerCount, cellsAt, pageLength, slotAt, cellAt}
+use Rattle.page.specs.Layout.{slotLength, cellLength, makerCount, cellsAt, pageLength, slotAt, cellAt, statusAt}
 use Rattle.page.specs.Page.{quotesIn, levelsFor, makerIn, makersIn, refreshed}
 use Rattle.makers.specs.Makers.{named, findMaker, cellOf, makerPlace, freePlace, cellFor, putAt, putMakerBy, putMaker, makerOver, markCell, markCells}
-use Rattle.update.specs.Parts.{putRound, roundOn, putLevels, putOdd, oddOnPage, makerOn, finraOn}
+use Rattle.update.specs.Parts.{putRound, roundOn, putLevels, putOdd, oddOnPage, makerOn, finraOn, putStatus, statusOn}
 use Rattle.update.proofs.EntryLaws.{makers-same}
 use Rattle.update.proofs.SearchLaws.{first-same}
 use Rattle.update.proofs.SlotLaws.{afterOdd}
 use Rattle.update.proofs.CellLaws.{length-for, mark-length}
 use Rattle.update.proofs.MakerLaws.{maker-hit, free-hit}
 use Rattle.regions.proofs.RegionLaws.{in-within, Covers, stretch, Reads, Local, local-none, local-then, local-wider, local-choose, local-splice}
-use Rattle.regions.proofs.OwnLaws.{slotOf, cells, own, slot-own, cells-own}
+use Rattle.regions.proofs.OwnLaws.{slotOf, cells, status, own, slot-own, cells-own, status-own}
 
 -- ---- a part: what it writes, then the entries
 
@@ -41,6 +41,7 @@ writes (roundPart s l q) p = putRound l (quoteOver (quotesIn p l) q) p
 writes (oddPart s l o) p = putOdd l o p
 writes (makerPart s m q) p = putMaker m (makerOver (findMaker m (makersIn p)) q) p
 writes (finraPart c) p = markCells c 0 makerCount p
+writes (statusPart s x) p = putStatus x p
 
 abbrev pub changes : Part → List ℕ → List ℕ
 changes r p = refreshed (writes r p)
@@ -61,18 +62,35 @@ pub finra-changes : (c : ℕ) (p : List ℕ) → finraOn c p ≡ changes (finraP
 unfolding finraOn
 finra-changes c p = refl
 
--- sent on the line of a letter: makers' quotes, FINRA Close and Open come on D's line
-abbrev pub Sent : ℕ → Part → Type 0
-Sent l (roundPart s k q) = k ≡ l
-Sent l (oddPart s k o) = k ≡ l
-Sent l (makerPart s m q) = l ≡ D
-Sent l (finraPart c) = l ≡ D
+pub status-changes : (s x : ℕ) (p : List ℕ) → statusOn x p ≡ changes (statusPart s x) p
+unfolding statusOn
+status-changes s x p = refl
 
-pub sent-shaped : (l : ℕ) → upper l ≡ true → (r : Part) → Sent l r → Shaped r
-sent-shaped l u (roundPart s k q) e = rw e u
-sent-shaped l u (oddPart s k o) e = rw e u
-sent-shaped l u (makerPart s m q) e = tt
-sent-shaped l u (finraPart c) e = tt
+-- sent on the line of a letter, where P tells whose line a symbol's trading statuses come on: makers' quotes, FINRA Close and Open come on D's line
+abbrev pub SentBy : (ℕ → Type 0) → ℕ → Part → Type 0
+SentBy P l (roundPart s k q) = k ≡ l
+SentBy P l (oddPart s k o) = k ≡ l
+SentBy P l (makerPart s m q) = l ≡ D
+SentBy P l (finraPart c) = l ≡ D
+SentBy P l (statusPart s x) = P s
+
+pub sent-map : (P Q : ℕ → Type 0) → ((s : ℕ) → P s → Q s) → (l : ℕ) (r : Part) → SentBy P l r → SentBy Q l r
+sent-map P Q f l (roundPart s k q) e = e
+sent-map P Q f l (oddPart s k o) e = e
+sent-map P Q f l (makerPart s m q) e = e
+sent-map P Q f l (finraPart c) e = e
+sent-map P Q f l (statusPart s x) e = f s e
+
+-- to a page whose primary letter is m
+abbrev pub Sent : ℕ → ℕ → Part → Type 0
+Sent m l r = SentBy (λ s. m ≡ l) l r
+
+pub sent-shaped : (P : ℕ → Type 0) (l : ℕ) → upper l ≡ true → (r : Part) → SentBy P l r → Shaped r
+sent-shaped P l u (roundPart s k q) e = rw e u
+sent-shaped P l u (oddPart s k o) e = rw e u
+sent-shaped P l u (makerPart s m q) e = tt
+sent-shaped P l u (finraPart c) e = tt
+sent-shaped P l u (statusPart s x) e = tt
 
 -- ---- a slot
 
@@ -179,14 +197,23 @@ marks-local c i (suc k) h =
     local-then pageLength cells (λ p. splice p (cellAt i) (markCell c (part p (cellAt i) cellLength))) (markCells c (i + 1) k)
     (cell-local i (omega arith) (markCell c) (mark-length c)) (marks-local c (i + 1) k (omega arith))
 
+-- ---- the trading status
+
+status-local : (s x : ℕ) → Local pageLength status (writes (statusPart s x))
+unfolding putStatus
+status-local s x =
+    local-splice pageLength status statusAt 1 (λ p. beBytes 1 x) (omega arith) (in-within statusAt 1) (λ p w. length-beBytes 1 x) (λ p q v w a. refl)
+
 -- ---- every part
 
-pub part-local : (l : ℕ) → upper l ≡ true → (r : Part) → Sent l r → Local pageLength (own l) (writes r)
-part-local l u (roundPart s k q) e =
-    subst (λ (j : ℕ). Local pageLength (own l) (writes (roundPart s j q))) (sym e)
-    (local-wider pageLength (slotOf l) (own l) (writes (roundPart s l q)) (slot-own l) (round-local l u s q))
-part-local l u (oddPart s k o) e =
-    subst (λ (j : ℕ). Local pageLength (own l) (writes (oddPart s j o))) (sym e)
-    (local-wider pageLength (slotOf l) (own l) (writes (oddPart s l o)) (slot-own l) (odd-local l u s o))
-part-local l u (makerPart s m q) e = local-wider pageLength cells (own l) (writes (makerPart s m q)) (cells-own l e) (maker-local s m q)
-part-local l u (finraPart c) e = local-wider pageLength cells (own l) (writes (finraPart c)) (cells-own l e) (marks-local c 0 makerCount (omega arith))
+module _ (n l : ℕ) (u : upper l ≡ true) where
+  pub part-local : (r : Part) → Sent n l r → Local pageLength (own n l) (writes r)
+  part-local (roundPart s k q) e =
+      subst (λ (j : ℕ). Local pageLength (own n l) (writes (roundPart s j q))) (sym e)
+      (local-wider pageLength (slotOf l) (own n l) (writes (roundPart s l q)) (slot-own n l) (round-local l u s q))
+  part-local (oddPart s k o) e =
+      subst (λ (j : ℕ). Local pageLength (own n l) (writes (oddPart s j o))) (sym e)
+      (local-wider pageLength (slotOf l) (own n l) (writes (oddPart s l o)) (slot-own n l) (odd-local l u s o))
+  part-local (makerPart s m q) e = local-wider pageLength cells (own n l) (writes (makerPart s m q)) (cells-own n l e) (maker-local s m q)
+  part-local (finraPart c) e = local-wider pageLength cells (own n l) (writes (finraPart c)) (cells-own n l e) (marks-local c 0 makerCount (omega arith))
+  part-local (statusPart s x) e = local-wider pageLength status (own n l) (writes (statusPart s x)) (status-own n l e) (status-local s x)

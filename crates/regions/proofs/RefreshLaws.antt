@@ -11,8 +11,8 @@ use Rattle.entries.specs.Entries.{Entries}
 use Rattle.entries.specs.Publication.{publication, publicationLength}
 use Rattle.entries.proofs.LengthLaws.{length-publication}
 use Rattle.page.specs.Layout.{entriesAt, pageLength}
-use Rattle.page.specs.Page.{pageEntries, refreshed}
-use Rattle.page.proofs.FrameLaws.{entries-kept}
+use Rattle.page.specs.Page.{publishedEntries, refreshed}
+use Rattle.page.proofs.FrameLaws.{published-kept}
 use Rattle.update.proofs.RefreshLaws.{splice-over}
 use Rattle.regions.proofs.RegionLaws.{Region, within, in-within, Apart, Reads, Local, local-splice, local-swap, local-reads}
 
@@ -32,20 +32,20 @@ written-local e n =
 pub refreshed-reads : {A : Type 0} (R : Region) (f : List ℕ → A) → Reads pageLength R f → Apart entriesKept R → (p : List ℕ) → length p ≡ pageLength → f (refreshed p) ≡ f p
 unfolding refreshed
 refreshed-reads R f x d p w =
-    local-reads pageLength entriesKept R (written (publication (pageEntries p))) f (written-local (publication (pageEntries p)) (length-publication (pageEntries p))) x d p w
+    local-reads pageLength entriesKept R (written (publication (publishedEntries p))) f (written-local (publication (publishedEntries p)) (length-publication (publishedEntries p))) x d p w
 
 -- worked out, written, worked out: the first is not needed
 module _ (R : Region) (g : List ℕ → List ℕ) (x : Local pageLength R g) (d : Apart R entriesKept) where
   pub late : (p : List ℕ) → length p ≡ pageLength → refreshed (g (refreshed p)) ≡ refreshed (g p)
   unfolding refreshed
   late p w =
-      let E : List ℕ = publication (pageEntries p) in
-      let n : length E ≡ publicationLength = length-publication (pageEntries p) in
+      let E : List ℕ = publication (publishedEntries p) in
+      let n : length E ≡ publicationLength = length-publication (publishedEntries p) in
       let y : List ℕ = g p in
-      let k : length (publication (pageEntries y)) ≡ publicationLength = length-publication (pageEntries y) in
-      ap (λ (z : List ℕ). splice z entriesAt (publication (pageEntries z))) (local-swap pageLength R entriesKept g (written E) x (written-local E n) d p w)
-      ∙ ap (λ (e : Entries). splice (splice y entriesAt E) entriesAt (publication e)) (entries-kept y E n)
-      ∙ splice-over y entriesAt E (publication (pageEntries y)) (omega (arith, x .size p w)) (n ∙ sym k)
+      let k : length (publication (publishedEntries y)) ≡ publicationLength = length-publication (publishedEntries y) in
+      ap (λ (z : List ℕ). splice z entriesAt (publication (publishedEntries z))) (local-swap pageLength R entriesKept g (written E) x (written-local E n) d p w)
+      ∙ ap (λ (e : Entries). splice (splice y entriesAt E) entriesAt (publication e)) (published-kept y E n)
+      ∙ splice-over y entriesAt E (publication (publishedEntries y)) (omega (arith, x .size p w)) (n ∙ sym k)
 
 -- in either order
 pub refresh-swap : (R S : Region) (g h : List ℕ → List ℕ) → Local pageLength R g → Local pageLength S h → Apart R entriesKept → Apart S entriesKept → Apart R S
