@@ -25,7 +25,7 @@ extern "C" {
 /* Sizes in bytes. A book for n symbols has QB_OPENING_LEN + n * QB_PAGE_LEN. */
 enum {
     QB_OPENING_LEN = 847,
-    QB_PAGE_LEN = 6054,
+    QB_PAGE_LEN = 6056,
     QB_SYMBOL_LEN = 11,
     QB_BLOCK_MAX = 1000,     /* no block is longer */
     QB_ANSWER_LEN = 180,     /* at least: 4 bytes for each of up to 45 messages */
@@ -60,7 +60,8 @@ enum {
     QB_WRITE_MESSAGES = 71,     /* write: no messages, over 45, one under 20 bytes, lengths that do not add up, or a block over 1,000 */
     QB_WRITE_CONTROL = 72,      /* write: a control message among others */
     QB_WRITE_SHORT = 73,        /* write: the output is shorter than the block */
-    QB_SIDE = 74                /* is protected: the side mark is not B or S */
+    QB_SIDE = 74,               /* is protected: the side mark is not B or S */
+    QB_PRIMARY = 75             /* add: the primary letter is not A to Z without S */
 };
 
 /* Codes of messages, in the answer buffer. A Q K with 60 to 64 is partly accepted: its quote is in force, its odd lots did nothing. */
@@ -80,7 +81,9 @@ enum {
     QB_CODE_ITEM_COUNT = 61,         /* more than four odd bids or odd offers */
     QB_CODE_ITEM_PRICE = 62,         /* an odd lot with price 0 */
     QB_CODE_ITEM_SHARES = 63,        /* an odd lot of a round lot or more */
-    QB_CODE_FIFTH_LEVEL = 64         /* an odd lot would make a fifth level */
+    QB_CODE_FIFTH_LEVEL = 64,        /* an odd lot would make a fifth level */
+    QB_CODE_NOT_PRIMARY = 76,        /* T S: the line's letter is not the symbol's primary letter */
+    QB_CODE_STATUS = 77              /* T S: the status is not H or T */
 };
 
 /* Change flags of a message, in the answer buffer: the entries that it changed. */
@@ -119,13 +122,15 @@ uint64_t qb_book_len(uint32_t n);
 /* Makes a book for n symbols in len bytes of any contents: no symbols, no lines, a closed day. Answers 0, 2. */
 uint8_t qb_make(uint8_t *book, size_t len, uint32_t n);
 
-/* Lists a symbol of 11 bytes (A to Z, then printable bytes, then spaces) with its round lot in shares. Answers 0, 1, 3, 6, 4, 5. */
-uint8_t qb_add_symbol(uint8_t *book, size_t len, const uint8_t *symbol, size_t symbol_len, uint32_t round_lot);
+/* Lists a symbol of 11 bytes (A to Z, then printable bytes, then spaces) with its round lot in shares and its primary letter, A to Z
+ * without S: lines of that letter, and no others, may halt the symbol (T S). It starts as trading. Answers 0, 1, 3, 6, 75, 4, 5.
+ * The last parameter is new (it came with trading halts): code that calls the function of five parameters has to be compiled anew. */
+uint8_t qb_add_symbol(uint8_t *book, size_t len, const uint8_t *symbol, size_t symbol_len, uint32_t round_lot, uint8_t primary);
 
 /* Opens line 0 to 63 for an exchange's letter; D is FINRA. It expects sequence number 1. Answers 0, 1, 7, 8. */
 uint8_t qb_open_line(uint8_t *book, size_t len, uint32_t line, uint8_t letter);
 
-/* Start of Day: forgets all quotes, sets every line to sequence number 1, opens the day. Answers 0, 1, 11. */
+/* Start of Day: forgets all quotes, ends every halt, sets every line to sequence number 1, opens the day. Answers 0, 1, 11. */
 uint8_t qb_start_day(uint8_t *book, size_t len);
 
 /* End of Day: closes the day and keeps the quotes. Answers 0, 1, 12. */
@@ -137,7 +142,8 @@ uint8_t qb_end_day(uint8_t *book, size_t len);
 uint8_t qb_take_block(uint8_t *book, size_t len, uint32_t line, const uint8_t *block, size_t block_len,
                       uint8_t *answer, size_t answer_len, uint64_t report[7]);
 
-/* Copies a symbol's six best entries: national bid, offer, FINRA bid, offer, odd-lot bid, offer. Answers 0, 1, 9, 10.
+/* Copies a symbol's six best entries: national bid, offer, FINRA bid, offer, odd-lot bid, offer; while it is halted six times none.
+ * Answers 0, 1, 9, 10.
  * Each entry is a name of 4 bytes (national: letter, condition, reason, a space; FINRA: maker; odd lots: letter, three spaces), a price of
  * 8 bytes with six implied decimals, and a size of 4 (round lots; of odd lots, shares), big-endian. None is four spaces and zeros.
  * The reason is what put the national leader ahead of the second best: P price, S size, T time, L letter; a space without a second best. */
@@ -145,7 +151,8 @@ uint8_t qb_read(const uint8_t *book, size_t len, const uint8_t *symbol, size_t s
                 uint8_t *publication, size_t publication_len);
 
 /* Does a national candidate bid price or more (side B), or offer price or less (side S)? Answers 0, 1, 10, 74.
- * A candidate is an exchange's quote that counts, or for D the FINRA best; the price has six implied decimals, and 0 is a price.
+ * A candidate is an exchange's quote that counts, or for D the FINRA best; the price has six implied decimals, and 0 is a price. A
+ * halted symbol has none: no, with 26.
  * report: number, 1 for yes or 0 for no, letters looked at (A is 1; 26 for no); always filled, 0 behind the number after a refusal.
  * The book isn't changed; no day need be open. */
 uint8_t qb_is_protected(const uint8_t *book, size_t len, const uint8_t *symbol, size_t symbol_len,

@@ -3,7 +3,7 @@
 #include <stdint.h>
 #include <string.h>
 
-enum { SLOTS = 108, SLOT = 201, CELLS = 5334, CELL = 45, ENTRIES = 12 };
+enum { SLOTS = 109, SLOT = 201, CELLS = 5335, CELL = 45, ENTRIES = 13, STATUS = 6055 };
 
 typedef struct {
     uint64_t price, time;
@@ -124,7 +124,8 @@ uint64_t c_walk(const uint8_t *page) {
 uint8_t c_renew(uint8_t *page) {
     Best e[6];
     uint8_t flags = 0;
-    walk(page, e);
+    if (page[STATUS] == 'H') memset(e, 0, sizeof e); // halted: none
+    else walk(page, e);
     for (int i = 0; i < 6; i++) {
         uint8_t *p = page + ENTRIES + 16 * i;
         uint32_t name = 0x20202020;

@@ -1,5 +1,5 @@
 /* One quote of the New York Stock Exchange becomes a block, the block goes into a book, and the best prices come out; then a desk asks
- * whether prices are protected. `tests/c-example` builds and runs it. */
+ * whether prices are protected, and the exchange halts the symbol. `tests/c-example` builds and runs it. */
 #include <stdio.h>
 #include <stdlib.h>
 #include <string.h>
@@ -27,14 +27,23 @@ static void quote_message(uint8_t quote[60]) {
     quote[56] = ' ';                                                        /* clears no odd lots */
 }
 
+/* A trading status (T S) of N for ZT: H halts it, T lets it trade. */
+static void status_message(uint8_t message[32], char status) {
+    memset(message, 0, 32);
+    memcpy(message, "TSN", 3);
+    put(message + 4, 8, 34201000000000);
+    memcpy(message + 20, "ZT         ", 11);
+    message[31] = (uint8_t)status;
+}
+
 int main(void) {
     static const uint8_t zt[] = "ZT         ";
-    uint8_t quote[60], block[QB_BLOCK_MAX], answer[QB_ANSWER_LEN], publication[QB_PUBLICATION_LEN];
-    const uint32_t lengths[] = {sizeof quote};                              /* one for each message */
+    uint8_t quote[60], status[32], block[QB_BLOCK_MAX], answer[QB_ANSWER_LEN], publication[QB_PUBLICATION_LEN];
+    const uint32_t lengths[] = {sizeof quote}, halt[] = {sizeof status};    /* one for each message */
     uint64_t written[2], report[QB_REPORT_LEN], told[QB_PROTECTED_LEN];
     size_t len = (size_t)qb_book_len(1);
     uint8_t *book = (uint8_t *)malloc(len);
-    if (!book || qb_make(book, len, 1) || qb_add_symbol(book, len, zt, QB_SYMBOL_LEN, 100)
+    if (!book || qb_make(book, len, 1) || qb_add_symbol(book, len, zt, QB_SYMBOL_LEN, 100, 'N') /* N may halt it */
         || qb_open_line(book, len, 5, 'N') || qb_start_day(book, len)) return 1;
 
     quote_message(quote);                                                   /* the block carries it under sequence number 1 */
@@ -55,6 +64,14 @@ int main(void) {
         printf("a bid at %.2f or more: %s, letters looked at %d\n", (double)price / 1e6,
                told[QB_PROTECTED_YES] ? "yes" : "no", (int)told[QB_PROTECTED_LOOKED]);
     }
+
+    status_message(status, 'H');                                            /* its primary exchange halts ZT */
+    if (qb_write_block(status, sizeof status, halt, 1, 2, block, sizeof block, written)
+        || qb_take_block(book, len, 5, block, (size_t)written[1], answer, sizeof answer, report)
+        || qb_is_protected(book, len, zt, QB_SYMBOL_LEN, 'B', 9990000, told)
+        || qb_read(book, len, zt, QB_SYMBOL_LEN, publication, sizeof publication)) return 1;
+    printf("halted: code %d, flags %d; a bid at 9.99 or more: %s; best bid: %s\n", answer[1], answer[2],
+           told[QB_PROTECTED_YES] ? "yes" : "no", publication[0] == ' ' ? "none" : "one");
     free(book);
     return 0;
 }

@@ -30,8 +30,8 @@ impl QuoteBook for Library {
         lent::make(&mut self.memory, n).into()
     }
 
-    fn add_symbol(&mut self, symbol: &[u8], round_lot: u32) -> u8 {
-        lent::add_symbol(&mut self.memory, symbol, round_lot).into()
+    fn add_symbol(&mut self, symbol: &[u8], round_lot: u32, primary: u8) -> u8 {
+        lent::add_symbol(&mut self.memory, symbol, round_lot, primary).into()
     }
 
     fn open_line(&mut self, line: u32, letter: u8) -> u8 {

@@ -30,7 +30,7 @@ fn symbol(at: usize) -> [u8; 11] {
 /// 20.00; of D's sixteen makers the last one does, the others bid and offer 5.00 and 30.00.
 fn set_up(book: &mut impl QuoteBook, n: usize) {
     for at in 0..n {
-        assert_eq!(book.add_symbol(&symbol(at), 100), 0);
+        assert_eq!(book.add_symbol(&symbol(at), 100, b'N'), 0);
     }
     let letters = (b'A'..=b'Z').filter(|&letter| letter != b'S');
     for (line, letter) in letters.clone().enumerate() {

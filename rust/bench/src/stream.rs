@@ -107,7 +107,8 @@ impl Stream {
     /// Lists the symbols and opens the lines in a fresh book.
     pub fn set_up(&self, book: &mut impl QuoteBook) {
         for (symbol, round_lot) in &self.symbols {
-            assert_eq!(book.add_symbol(symbol, *round_lot), 0, "a symbol is added");
+            let added = book.add_symbol(symbol, *round_lot, b'N');
+            assert_eq!(added, 0, "a symbol is added");
         }
         for (line, &letter) in LETTERS.iter().enumerate() {
             assert_eq!(book.open_line(line as u32, letter), 0, "a line is opened");

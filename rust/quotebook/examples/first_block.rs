@@ -13,7 +13,7 @@ fn main() -> Result<(), Box<dyn std::error::Error>> {
     let block = write_block(1, [quote.to_bytes(), odd_lot.to_bytes()])?;
 
     let mut book = Book::new(1)?; // room for one symbol
-    book.add_symbol(zt, 100)?; // round lots of 100 shares
+    book.add_symbol(zt, 100, b'N')?; // round lots of 100 shares; N may halt it
     book.open_line(5, b'N')?;
     book.start_day()?;
     for answer in book.take_block(5, &block)?.answers() {

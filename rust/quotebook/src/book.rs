@@ -33,9 +33,16 @@ impl Book {
         lent::make(&mut self.memory, n).result()
     }
 
-    /// Adds a symbol with its round lot: 1, 10, 25, 50 or 100 shares.
-    pub fn add_symbol(&mut self, symbol: impl AsRef<[u8]>, round_lot: u32) -> Result<(), Refusal> {
-        lent::add_symbol(&mut self.memory, &symbol_bytes(symbol), round_lot).result()
+    /// Adds a symbol with its round lot, 1, 10, 25, 50 or 100 shares, and its primary letter, A to Z
+    /// without S: lines of that letter may halt it (T S), and no others.
+    pub fn add_symbol(
+        &mut self,
+        symbol: impl AsRef<[u8]>,
+        round_lot: u32,
+        primary: u8,
+    ) -> Result<(), Refusal> {
+        let symbol = symbol_bytes(symbol);
+        lent::add_symbol(&mut self.memory, &symbol, round_lot, primary).result()
     }
 
     /// Opens a line, 0 to 63, for a letter: A to Z without S. D is FINRA.
@@ -43,7 +50,8 @@ impl Book {
         lent::open_line(&mut self.memory, line, letter).result()
     }
 
-    /// Start of Day: empties all quotes, sets every line to its beginning and opens the day.
+    /// Start of Day: empties all quotes, ends every halt, sets every line to its beginning and opens
+    /// the day.
     pub fn start_day(&mut self) -> Result<(), Refusal> {
         lent::start_day(&mut self.memory).result()
     }

@@ -21,12 +21,14 @@ table! {
     62 ItemPrice "An odd item has price 0.";
     63 ItemShares "An odd item has a round lot of shares or more.";
     64 FifthLevel "An odd item would make a fifth level.";
+    76 NotPrimary "The line's letter is not the symbol's primary letter, which alone may halt it.";
+    77 Status "The trading status is not H (halted) or T (trading).";
 }
 
 impl Code {
     /// Whether an odd part was refused. Of a round lot quote (Q K) the round part is then in force;
     /// an odd lot quote (Q M, FINRA's Q T) is rejected.
     pub fn refuses_odd_part(self) -> bool {
-        self >= Code::ClearMark
+        (Code::ClearMark..=Code::FifthLevel).contains(&self)
     }
 }

@@ -15,6 +15,7 @@ mod c {
             symbol: *const u8,
             symbol_len: usize,
             round_lot: u32,
+            primary: u8,
         ) -> u8;
         pub fn qb_open_line(book: *mut u8, len: usize, line: u32, letter: u8) -> u8;
         pub fn qb_start_day(book: *mut u8, len: usize) -> u8;
@@ -69,7 +70,7 @@ pub fn make(book: &mut [u8], n: u32) -> u8 {
     unsafe { c::qb_make(book.as_mut_ptr(), book.len(), n) }
 }
 
-pub fn add_symbol(book: &mut [u8], symbol: &[u8], round_lot: u32) -> u8 {
+pub fn add_symbol(book: &mut [u8], symbol: &[u8], round_lot: u32, primary: u8) -> u8 {
     // SAFETY: each pointer and its length are one slice's; the symbol is only read.
     unsafe {
         c::qb_add_symbol(
@@ -78,6 +79,7 @@ pub fn add_symbol(book: &mut [u8], symbol: &[u8], round_lot: u32) -> u8 {
             symbol.as_ptr(),
             symbol.len(),
             round_lot,
+            primary,
         )
     }
 }

@@ -36,9 +36,10 @@ pub fn make(book: &mut [u8], n: u32) -> Number {
     number(ffi::make(book, n))
 }
 
-/// Adds a symbol, eleven bytes, with its round lot in shares.
-pub fn add_symbol(book: &mut [u8], symbol: &[u8], round_lot: u32) -> Number {
-    number(ffi::add_symbol(book, symbol, round_lot))
+/// Adds a symbol, eleven bytes, with its round lot in shares and its primary letter, whose line may
+/// halt it.
+pub fn add_symbol(book: &mut [u8], symbol: &[u8], round_lot: u32, primary: u8) -> Number {
+    number(ffi::add_symbol(book, symbol, round_lot, primary))
 }
 
 /// Opens a line, 0 to 63, for a letter.
@@ -70,7 +71,7 @@ pub fn read(book: &[u8], symbol: &[u8], publication: &mut [u8]) -> Number {
 }
 
 /// Whether a national candidate of a symbol bids a price or more (side mark B), or offers it or less
-/// (S).
+/// (S). No, while the symbol is halted.
 pub fn is_protected(book: &[u8], symbol: &[u8], side: u8, price: u64) -> Protected {
     let mut fields = [0; 3];
     let answered = ffi::is_protected(book, symbol, side, price, &mut fields);
@@ -126,7 +127,7 @@ mod tests {
         let mut book = vec![0; book_len(1).expect("one symbol")];
         assert_eq!(make(&mut book, 1), Number::Done);
         let zt = b"ZT         ";
-        assert_eq!(add_symbol(&mut book, zt, 100), Number::Done);
+        assert_eq!(add_symbol(&mut book, zt, 100, b'N'), Number::Done);
         let filled = |book: &[u8], symbol: &[u8], side| {
             let mut fields = [u64::MAX; 3];
             let result = ffi::is_protected(book, symbol, side, 0, &mut fields);

@@ -11,7 +11,7 @@
 //! let block = write_block(1, [quote.to_bytes()])?;
 //!
 //! let mut book = Book::new(1)?;
-//! book.add_symbol("ZT", 100)?;
+//! book.add_symbol("ZT", 100, b'N')?;
 //! book.open_line(5, b'N')?;
 //! book.start_day()?;
 //! let taken = book.take_block(5, &block)?;

@@ -34,6 +34,7 @@ table! {
     72 WriteControl "A control message among others: it has to be alone in its block.";
     73 WriteShort "The output is shorter than the block to write.";
     74 Side "The side mark is not B (bids) or S (offers).";
+    75 Primary "The primary letter is not A to Z, or it is S.";
 }
 
 impl Number {

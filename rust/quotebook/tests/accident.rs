@@ -22,8 +22,8 @@ const ODD_LOTS: [(u32, u8, OddLot); 2] =
 /// N and D each have four odd bids, from 10.01 to 10.04, and one odd offer.
 fn book() -> Book {
     let mut book = Book::new(2).expect("two symbols");
-    book.add_symbol("YY", 100).expect("a symbol");
-    book.add_symbol("ZT", 100).expect("a symbol");
+    book.add_symbol("YY", 100, b'N').expect("a symbol");
+    book.add_symbol("ZT", 100, b'N').expect("a symbol");
     for (line, letter, _) in ODD_LOTS {
         book.open_line(line, letter).expect("a line");
     }

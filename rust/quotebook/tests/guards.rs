@@ -13,7 +13,7 @@ use support::writing::Lent;
 fn book() -> Guarded {
     let mut book = Guarded::fresh(2);
     for symbol in ["ZT", "YY"] {
-        assert_eq!(book.add_symbol(&build::symbol(symbol), 100), 0);
+        assert_eq!(book.add_symbol(&build::symbol(symbol), 100, b'N'), 0);
     }
     assert_eq!((book.open_line(5, b'N'), book.start_day()), (0, 0));
     book

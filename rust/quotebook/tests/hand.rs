@@ -15,6 +15,8 @@ mod closed;
 mod entries;
 #[path = "../../second/tests/hand/finra_odd_lots.rs"]
 mod finra_odd_lots;
+#[path = "../../second/tests/hand/halts.rs"]
+mod halts;
 #[path = "../../second/tests/hand/leading.rs"]
 mod leading;
 #[path = "../../second/tests/hand/line.rs"]

@@ -137,7 +137,11 @@ fn make_call(book: &mut Guarded, call: &Call, buffer: &mut [u8]) -> (Report, Opt
     let mut asked = None;
     let number = match call {
         Call::Make { n } => book.make(*n),
-        Call::AddSymbol { symbol, round_lot } => book.add_symbol(symbol, *round_lot),
+        Call::AddSymbol {
+            symbol,
+            round_lot,
+            primary,
+        } => book.add_symbol(symbol, *round_lot, *primary),
         Call::OpenLine { line, letter } => book.open_line(*line, *letter),
         Call::StartDay => book.start_day(),
         Call::EndDay => book.end_day(),

@@ -199,7 +199,7 @@ fn marks_are_those_of_document_01() {
 /// A book with ZT, round lot 100, line 5 for N and line 7 for D, on an open day.
 fn book() -> Book {
     let mut book = Book::new(1).expect("a book of one symbol");
-    book.add_symbol(zt(), 100).expect("a symbol");
+    book.add_symbol(zt(), 100, b'N').expect("a symbol");
     book.open_line(5, b'N').expect("a line");
     book.open_line(7, b'D').expect("a line");
     book.start_day().expect("a day");

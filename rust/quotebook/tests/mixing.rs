@@ -21,8 +21,8 @@ const MIXED: u64 = 1_500;
 const USING: usize = 60;
 const AFTER: usize = 80;
 /// Every code of a message.
-const CODES: [u8; 16] = [
-    0, 40, 41, 42, 43, 44, 45, 46, 47, 48, 49, 60, 61, 62, 63, 64,
+const CODES: [u8; 18] = [
+    0, 40, 41, 42, 43, 44, 45, 46, 47, 48, 49, 60, 61, 62, 63, 64, 76, 77,
 ];
 
 #[test]
@@ -122,7 +122,7 @@ fn symbols(memory: &[u8]) -> Vec<Vec<u8>> {
 /// A book with ZT, line 5 for N and line 6 for another letter, the day open.
 fn begun(other: u8) -> Guarded {
     let mut book = Guarded::fresh(1);
-    assert_eq!(book.add_symbol(&build::symbol("ZT"), 100), 0);
+    assert_eq!(book.add_symbol(&build::symbol("ZT"), 100, b'N'), 0);
     assert_eq!(book.open_line(5, b'N'), 0);
     assert_eq!(book.open_line(6, other), 0);
     assert_eq!(book.start_day(), 0);
@@ -161,6 +161,23 @@ fn flags_that_differ() {
     let (mut first, mut second) = (begun(b'P'), begun(b'P'));
     assert_eq!(told(&mut first, [(5, &n), (6, &p)]), [(0, 16), (0, 16)]);
     assert_eq!(told(&mut second, [(6, &p), (5, &n)]), [(0, 16), (0, 0)]);
+    assert!(first.bytes() == second.bytes());
+}
+
+/// N, the primary letter, halts ZT before or after P's odd lot; a status on P's line is 76 in any order.
+#[test]
+fn a_halt_that_meets_a_quote() {
+    let status = |letter, sequence, status| {
+        let message = build::trading_status(letter, 9, build::symbol("ZT"), status);
+        build::block(sequence, &[message])
+    };
+    let (n, p) = (status(b'N', 1, b'H'), odd_bids(b'P', 6, &[9_000_000]));
+    let other = status(b'P', 2, b'T');
+    let (mut first, mut second) = (begun(b'P'), begun(b'P'));
+    let told_first = told(&mut first, [(5, &n), (6, &p), (6, &other)]);
+    assert_eq!(told_first, [(0, 0), (0, 0), (76, 0)]);
+    let told_second = told(&mut second, [(6, &p), (6, &other), (5, &n)]);
+    assert_eq!(told_second, [(0, 16), (76, 0), (0, 16)]);
     assert!(first.bytes() == second.bytes());
 }
 

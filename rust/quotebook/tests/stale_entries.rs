@@ -58,7 +58,7 @@ const MADE: [&str; 6] = [
 fn book() -> Guarded {
     let mut book = Guarded::fresh(3);
     for symbol in ["ZT", "YY"] {
-        assert_eq!(book.add_symbol(&build::symbol(symbol), 100), 0);
+        assert_eq!(book.add_symbol(&build::symbol(symbol), 100, b'N'), 0);
     }
     for (line, letter) in [(N, b'N'), (P, b'P'), (D, b'D')] {
         assert_eq!(book.open_line(line, letter), 0);
@@ -163,6 +163,10 @@ fn bids(clear: u8, items: &[(u64, u32)]) -> Odd {
         bids: items.to_vec(),
         offers: Vec::new(),
     }
+}
+
+fn status(status: u8) -> Vec<u8> {
+    build::trading_status(b'N', 9, build::symbol("ZT"), status)
 }
 
 fn finra(kind: u8) -> Vec<u8> {
@@ -274,6 +278,40 @@ fn odd_lots_that_change_no_level() {
         bids(b' ', &[(TEN, 0)]),
     ] {
         check(book(), N, odd_lot(b'N', &odd), (0, 3), NOTHING);
+    }
+}
+
+/// A status works the entries out, also one that changes no status; while halted they are none.
+#[test]
+fn statuses() {
+    let quoted = || after(book(), N, quote(b'N', &Odd::IDLE));
+    check(quoted(), N, status(b'H'), (0, 3), NOTHING);
+    check(quoted(), N, status(b'T'), (0, 3), QUOTED);
+    let halted = || after(quoted(), N, status(b'H'));
+    check(halted(), N, status(b'H'), (0, 3), NOTHING);
+    check(halted(), N, status(b'T'), (0, 3), QUOTED);
+}
+
+/// Every accepted part of a halted symbol leaves none.
+#[test]
+fn parts_in_a_halt() {
+    let odd = bids(b' ', &[(TEN + CENT, 5)]);
+    for (line, message) in [
+        (N, quote(b'N', &odd)),
+        (N, odd_lot(b'N', &odd)),
+        (N, odd_lot(b'N', &Odd::IDLE)),
+        (D, finra_odd_lot(b'D', &odd)),
+        (D, maker()),
+        (D, empty_maker()),
+        (D, finra(b'C')),
+    ] {
+        check(
+            after(book(), N, status(b'H')),
+            line,
+            message,
+            (0, 3),
+            NOTHING,
+        );
     }
 }
 
@@ -392,6 +430,7 @@ fn a_rejected_message_leaves_wrong_entries() {
         ..Round::regular(b'N', 7, "ZT", (TEN, 3), (TEN, 2))
     };
     let no_price = Round::regular(b'N', 7, "ZT", (0, 3), (TEN, 2));
+    let zt = build::symbol("ZT");
     let of_maker = Round::regular(b'D', 7, "ZT", (TEN, 3), (TEN, 2));
     for (line, message, code) in [
         (N, build::header(b'Q', b'V', b'N', 7), 40),
@@ -408,6 +447,8 @@ fn a_rejected_message_leaves_wrong_entries() {
         (N, odd_lot(b'N', &bids(b' ', &[(TEN, 100)])), 63),
         (D, finra_odd_lot(b'D', &bids(b'X', &[(TEN, 100)])), 63),
         (D, build::maker_quote(&of_maker, *b"M  M"), 48),
+        (P, build::trading_status(b'P', 7, zt, b'H'), 76),
+        (N, status(b'h'), 77),
         (N, build::header(b'C', b'I', b'N', 7), 0),
         (N, build::header(b'C', b'T', b'N', 7), 0),
         (N, build::test(b'N', 7), 0),

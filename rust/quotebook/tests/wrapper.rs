@@ -70,10 +70,10 @@ fn refusals_say_why() {
 
 #[test]
 fn lengths() {
-    assert_eq!(lent::book_len(1), Some(847 + 6054));
-    assert_eq!(lent::book_len(64), Some(847 + 64 * 6054));
+    assert_eq!(lent::book_len(1), Some(847 + 6056));
+    assert_eq!(lent::book_len(64), Some(847 + 64 * 6056));
     assert_eq!([0, 65, 257, u32::MAX].map(lent::book_len), [None; 4]);
-    assert_eq!(Book::new(3).unwrap().as_bytes().len(), 847 + 3 * 6054);
+    assert_eq!(Book::new(3).unwrap().as_bytes().len(), 847 + 3 * 6056);
 }
 
 #[test]
@@ -106,7 +106,7 @@ fn quote(sequence: u32, bid: (u64, u32), odd: &Odd) -> Vec<u8> {
 
 fn book() -> Result<Book, Refusal> {
     let mut book = Book::new(2)?;
-    book.add_symbol("ZT", 100)?;
+    book.add_symbol("ZT", 100, b'N')?;
     book.open_line(5, b'N')?;
     book.open_line(7, b'D')?;
     book.start_day()?;
@@ -273,17 +273,17 @@ fn a_desk_asks_whether_a_price_is_protected() -> Result<(), Refusal> {
 fn symbols_are_filled_up() -> Result<(), Refusal> {
     let mut book = book()?;
     assert_eq!(
-        book.add_symbol(build::symbol("ZT"), 100)
+        book.add_symbol(build::symbol("ZT"), 100, b'N')
             .unwrap_err()
             .number,
         Number::SymbolListed
     );
     for wrong in ["", " ", "zt", "Z T", "ABCDEFGHIJKL"] {
-        let refusal = book.add_symbol(wrong, 100).unwrap_err();
+        let refusal = book.add_symbol(wrong, 100, b'N').unwrap_err();
         assert_eq!(refusal.number, Number::SymbolMalformed);
         assert_eq!(book.read(wrong).unwrap_err().number, Number::SymbolUnknown);
     }
-    book.add_symbol("ABCDEFGHIJK", 1)?;
+    book.add_symbol("ABCDEFGHIJK", 1, b'N')?;
     assert!(book.read(b"ABCDEFGHIJK").is_ok());
     Ok(())
 }
@@ -299,10 +299,14 @@ fn a_book_and_lent_memory_agree() {
         for call in &list.calls {
             let (method, lent) = match call {
                 Call::Make { n } => (book.make(*n), lent::make(&mut memory, *n)),
-                Call::AddSymbol { symbol, round_lot } => {
+                Call::AddSymbol {
+                    symbol,
+                    round_lot,
+                    primary,
+                } => {
                     let filled = filled_up(symbol);
-                    let lent = lent::add_symbol(&mut memory, &filled, *round_lot);
-                    (book.add_symbol(symbol, *round_lot), lent)
+                    let lent = lent::add_symbol(&mut memory, &filled, *round_lot, *primary);
+                    (book.add_symbol(symbol, *round_lot, *primary), lent)
                 }
                 Call::OpenLine { line, letter } => {
                     let lent = lent::open_line(&mut memory, *line, *letter);

@@ -113,7 +113,11 @@ fn told(observed: &Observed) -> Vec<u64> {
 fn term(call: &Call) -> String {
     match call {
         Call::Make { n } => format!("make {n}"),
-        Call::AddSymbol { symbol, round_lot } => format!("add {} {round_lot}", row(symbol)),
+        Call::AddSymbol {
+            symbol,
+            round_lot,
+            primary,
+        } => format!("add {} {round_lot} {primary}", row(symbol)),
         Call::OpenLine { line, letter } => format!("openLine {line} {letter}"),
         Call::StartDay => "startDay".to_string(),
         Call::EndDay => "endDay".to_string(),

@@ -147,6 +147,14 @@ pub fn maker_quote(round: &Round, maker: [u8; 4]) -> Vec<u8> {
     message
 }
 
+/// T S: a symbol's trading status, H for halted or T for trading.
+pub fn trading_status(letter: u8, time: u64, symbol: [u8; SYMBOL_LEN], status: u8) -> Vec<u8> {
+    let mut message = header(b'T', b'S', letter, time);
+    message.extend(symbol);
+    message.push(status);
+    message
+}
+
 /// A block that carries these messages under a sequence number. Its length field and checksum are
 /// right whenever its length fits the field.
 pub fn block(sequence: u32, messages: &[Vec<u8>]) -> Vec<u8> {

@@ -17,6 +17,8 @@ pub enum Call {
         symbol: Vec<u8>,
         /// The round lot in shares.
         round_lot: u32,
+        /// The primary letter.
+        primary: u8,
     },
     /// Open a line.
     OpenLine {
@@ -82,9 +84,11 @@ impl Display for Call {
     fn fmt(&self, f: &mut Formatter) -> fmt::Result {
         match self {
             Call::Make { n } => write!(f, "make {n}"),
-            Call::AddSymbol { symbol, round_lot } => {
-                write!(f, "add {} {round_lot}", Hex(symbol))
-            }
+            Call::AddSymbol {
+                symbol,
+                round_lot,
+                primary,
+            } => write!(f, "add {} {round_lot} {primary}", Hex(symbol)),
             Call::OpenLine { line, letter } => write!(f, "open {line} {letter}"),
             Call::StartDay => write!(f, "start"),
             Call::EndDay => write!(f, "end"),
@@ -140,9 +144,10 @@ impl FromStr for Call {
 fn parse_call(words: &[&str]) -> Option<Call> {
     Some(match words {
         ["make", n] => Call::Make { n: n.parse().ok()? },
-        ["add", symbol, round_lot] => Call::AddSymbol {
+        ["add", symbol, round_lot, primary] => Call::AddSymbol {
             symbol: bytes(symbol)?,
             round_lot: round_lot.parse().ok()?,
+            primary: primary.parse().ok()?,
         },
         ["open", line, letter] => Call::OpenLine {
             line: line.parse().ok()?,

@@ -79,7 +79,11 @@ fn observe_call(book: &mut dyn QuoteBook, call: &Call, watched: &Watched) -> Obs
     let mut buffer = Vec::new();
     let number = match call {
         Call::Make { n } => book.make(*n),
-        Call::AddSymbol { symbol, round_lot } => book.add_symbol(symbol, *round_lot),
+        Call::AddSymbol {
+            symbol,
+            round_lot,
+            primary,
+        } => book.add_symbol(symbol, *round_lot, *primary),
         Call::OpenLine { line, letter } => book.open_line(*line, *letter),
         Call::StartDay => book.start_day(),
         Call::EndDay => book.end_day(),

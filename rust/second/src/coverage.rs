@@ -1,8 +1,9 @@
-//! Counting which numbers, codes, flags, answers to queries, cases of resent quotes, of closed venues
-//! and of leaders a run of lists has reached.
+//! Counting which numbers, codes, flags, answers to queries, cases of resent quotes, of closed venues,
+//! of leaders and of halts a run of lists has reached.
 
 mod closed;
 mod finra;
+mod halts;
 mod leading;
 mod prices;
 mod resent;
@@ -16,13 +17,14 @@ use crate::compare::{lent_part, Observed};
 use crate::quote_book::Protected;
 use closed::Closed;
 use finra::Finra;
+use halts::Halts;
 use leading::Leading;
 use resent::Resent;
 
 /// The numbers that each call can answer in a list.
 const NUMBERS: [(&str, &[u8]); 8] = [
     ("make", &[0, 2]),
-    ("add", &[0, 3, 4, 5, 6]),
+    ("add", &[0, 3, 4, 5, 6, 75]),
     ("open", &[0, 7, 8]),
     ("start", &[0, 11]),
     ("end", &[0, 12]),
@@ -46,7 +48,7 @@ const ANSWERS: [(&str, &[u8]); 6] = [
 ];
 
 /// The codes that each type of message can get.
-const CODES: [(&str, &[u8]); 10] = [
+const CODES: [(&str, &[u8]); 11] = [
     ("C I", &[0, 41, 42, 43]),
     ("C T", &[0, 41, 42, 43]),
     ("C 5", &[0, 41, 42, 43]),
@@ -56,17 +58,19 @@ const CODES: [(&str, &[u8]); 10] = [
     ("Q M", &[0, 41, 42, 43, 44, 45, 60, 61, 62, 63, 64]),
     ("Q T", &[0, 41, 42, 43, 44, 45, 60, 61, 62, 63, 64]),
     ("Q U", &[0, 41, 42, 43, 44, 45, 46, 47, 48, 49]),
+    ("T S", &[0, 41, 42, 43, 45, 76, 77]),
     ("other", &[40]),
 ];
 
 /// The flags that each type of message can set.
-const FLAGS: [(&str, &[u8]); 6] = [
+const FLAGS: [(&str, &[u8]); 7] = [
     ("C C", &[1, 2, 4, 8, 16, 32]),
     ("C O", &[1, 2, 4, 8, 16, 32]),
     ("Q K", &[1, 2, 16, 32]),
     ("Q M", &[16, 32]),
     ("Q T", &[16, 32]),
     ("Q U", &[1, 2, 4, 8, 16, 32]),
+    ("T S", &[1, 2, 4, 8, 16, 32]),
 ];
 
 /// How often each number, code, flag, answer and case was reached.
@@ -81,6 +85,7 @@ pub struct Coverage {
     closed: Closed,
     finra: Finra,
     leading: Leading,
+    halts: Halts,
 }
 
 impl Coverage {
@@ -98,6 +103,7 @@ impl Coverage {
         self.resent.start_list();
         self.closed.start_list();
         self.finra.start();
+        self.halts.start_list();
     }
 
     fn note_call(&mut self, call: &Call, observed: &Observed) {
@@ -110,25 +116,40 @@ impl Coverage {
                 self.resent.start_day();
                 self.closed.start_day();
                 self.finra.start();
+                self.halts.start_day();
             }
+            (Call::EndDay, 0) => self.halts.end_day(),
+            (Call::AddSymbol { .. }, 0) => self.halts.add_symbol(),
             _ => {}
         }
         if let (Call::TakeBlock { block, .. }, 0 | 70) = (call, observed.number) {
             let messages = build::split(block).map_or(Vec::new(), |(_, messages)| messages);
             let answers = lent_part(&observed.buffer).chunks_exact(4);
-            for (message, answer) in messages.iter().zip(answers) {
+            self.halts.start_block();
+            for (at, (message, answer)) in messages.iter().zip(answers).enumerate() {
                 let name = type_name(message);
                 self.note_message(name, answer[1], answer[2]);
                 self.closed.note(message, answer[1], answer[2]);
                 self.finra.note(message, answer[1], answer[2]);
+                self.halts.note(at, name, message, answer[1], answer[2]);
                 if answer[1] == 0 || name == "Q K" && answer[1] >= 60 {
                     self.resent.note(message);
                 }
             }
         }
-        if let (Call::IsProtected { side, price, .. }, Some(answer)) = (call, observed.protected) {
+        let asked = (call, observed.protected);
+        if let (
+            Call::IsProtected {
+                symbol,
+                side,
+                price,
+            },
+            Some(answer),
+        ) = asked
+        {
             if answer.number == 0 {
                 self.note_answer(*side, *price, answer);
+                self.halts.ask(symbol);
             }
         }
     }
@@ -172,6 +193,7 @@ impl Coverage {
         missing.extend(missing_in("code", &CODES, &self.codes));
         missing.extend(missing_in("flag", &FLAGS, &self.flags));
         missing.extend(self.resent.missing());
+        missing.extend(self.halts.missing());
         missing.extend(missing_in("answer", &ANSWERS, &self.answers));
         missing.extend(self.closed.missing());
         missing.extend(self.finra.missing());
@@ -238,6 +260,7 @@ fn type_name(message: &[u8]) -> &'static str {
         Some(b"QM") => "Q M",
         Some(b"QT") => "Q T",
         Some(b"QU") => "Q U",
+        Some(b"TS") => "T S",
         _ => "other",
     }
 }
@@ -263,6 +286,6 @@ impl Display for Coverage {
             }
         }
         write!(f, "{}{}", self.resent, self.closed)?;
-        writeln!(f, "{}{}", self.finra, self.leading)
+        writeln!(f, "{}{}{}", self.finra, self.leading, self.halts)
     }
 }

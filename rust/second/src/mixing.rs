@@ -85,7 +85,11 @@ pub fn make_calls(book: &mut dyn QuoteBook, calls: &[Call]) {
     for call in calls {
         match call {
             Call::Make { n } => drop(book.make(*n)),
-            Call::AddSymbol { symbol, round_lot } => drop(book.add_symbol(symbol, *round_lot)),
+            Call::AddSymbol {
+                symbol,
+                round_lot,
+                primary,
+            } => drop(book.add_symbol(symbol, *round_lot, *primary)),
             Call::OpenLine { line, letter } => drop(book.open_line(*line, *letter)),
             Call::StartDay => drop(book.start_day()),
             Call::EndDay => drop(book.end_day()),

@@ -65,8 +65,8 @@ pub trait QuoteBook {
     /// Makes the book anew: no symbols, no lines, a closed day.
     fn make(&mut self, n: u32) -> u8;
 
-    /// Adds a symbol with its round lot in shares.
-    fn add_symbol(&mut self, symbol: &[u8], round_lot: u32) -> u8;
+    /// Adds a symbol with its round lot in shares and its primary letter, whose line may halt it.
+    fn add_symbol(&mut self, symbol: &[u8], round_lot: u32, primary: u8) -> u8;
 
     /// Opens a line for a letter.
     fn open_line(&mut self, line: u32, letter: u8) -> u8;

@@ -53,6 +53,8 @@ pub mod number {
     pub const WRITE_SHORT: u8 = 73;
     /// The side mark of a query is not B or S.
     pub const SIDE: u8 = 74;
+    /// The primary letter of the symbol to add is bad.
+    pub const PRIMARY: u8 = 75;
 }
 
 /// Codes that a message gets.
@@ -89,6 +91,10 @@ pub mod code {
     pub const ITEM_SHARES: u8 = 63;
     /// An odd item would make a fifth level.
     pub const FIFTH_LEVEL: u8 = 64;
+    /// T S on a line whose letter is not the symbol's primary letter.
+    pub const NOT_PRIMARY: u8 = 76;
+    /// The status of T S is neither H nor T.
+    pub const STATUS: u8 = 77;
 }
 
 /// n is 1 to 64.

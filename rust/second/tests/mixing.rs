@@ -134,8 +134,8 @@ impl QuoteBook for Sharing {
         self.engine.make(n)
     }
 
-    fn add_symbol(&mut self, symbol: &[u8], round_lot: u32) -> u8 {
-        self.engine.add_symbol(symbol, round_lot)
+    fn add_symbol(&mut self, symbol: &[u8], round_lot: u32, primary: u8) -> u8 {
+        self.engine.add_symbol(symbol, round_lot, primary)
     }
 
     fn open_line(&mut self, line: u32, letter: u8) -> u8 {
@@ -177,7 +177,7 @@ impl QuoteBook for Sharing {
 /// Books whose publications, records or codes depend on the order in which lines meet.
 #[test]
 fn books_that_go_by_the_order_are_found() {
-    let wrong: [(&str, Fresh); 4] = [
+    let wrong: [(&str, Fresh); 6] = [
         (
             "a leader that worsened stays",
             mistaken_incremental::<{ mistake::LEADER_STAYS }>,
@@ -185,6 +185,14 @@ fn books_that_go_by_the_order_are_found() {
         (
             "FINRA Close and Open in one page",
             mistaken::<{ mistake::CLOSE_IN_ONE_PAGE }>,
+        ),
+        (
+            "a status taken on any line",
+            mistaken::<{ mistake::STATUS_ANYWHERE }>,
+        ),
+        (
+            "no quote stored in a halt",
+            mistaken::<{ mistake::HALT_DROPS_QUOTES }>,
         ),
         ("one count for all lines", sharing_count),
         ("codes by the count of all lines", sharing_code),

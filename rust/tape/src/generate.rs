@@ -22,11 +22,15 @@ pub fn tape(seed: u64, blocks: usize) -> Tape {
 /// Adds what a call stands for, if the setup of a tape takes it.
 fn add(tape: &mut Tape, book: &mut Engine, call: Call) {
     match call {
-        Call::AddSymbol { symbol, round_lot } => {
-            let added = book.add_symbol(&symbol, round_lot);
+        Call::AddSymbol {
+            symbol,
+            round_lot,
+            primary,
+        } => {
+            let added = book.add_symbol(&symbol, round_lot, primary);
             if added == number::DONE {
                 let symbol = symbol[..].try_into().expect("an added symbol is 11 bytes");
-                tape.symbols.push((symbol, round_lot as u8));
+                tape.symbols.push((symbol, round_lot as u8, primary));
             }
         }
         Call::OpenLine { line, letter } => {

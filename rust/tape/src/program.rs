@@ -104,8 +104,8 @@ fn add_symbols<'a>(
     let mut symbols = Vec::new();
     for _ in 0..count {
         let symbol = input.take(SYMBOL_LEN)?;
-        let round_lot = input.byte()?;
-        done(book.add_symbol(symbol, u32::from(round_lot)))?;
+        let (round_lot, primary) = (input.byte()?, input.byte()?);
+        done(book.add_symbol(symbol, u32::from(round_lot), primary))?;
         symbols.push(symbol);
     }
     Ok(symbols)

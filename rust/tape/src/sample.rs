@@ -25,6 +25,7 @@ pub fn tape() -> Tape {
     morning(&mut feed);
     trading(&mut feed);
     mishaps(&mut feed);
+    halt(&mut feed);
     afternoon(&mut feed);
     feed.tape
 }
@@ -123,6 +124,20 @@ fn mishaps(feed: &mut Feed) {
     });
 }
 
+/// The primary exchange of NVR halts it: its best prices are gone, quotes go on being stored, and
+/// trading brings back what then stands. No other exchange may do so.
+fn halt(feed: &mut Feed) {
+    feed.block(NYSE, |block| {
+        block.status("NVR", b'H');
+        block.quote("NVR", b'R', (7_921_500_000, 3), (7_931_000_000, 2));
+    });
+    feed.block(CBOE, |block| {
+        block.quote("NVR", b'R', (7_921_000_000, 1), (7_929_500_000, 2));
+        block.status("NVR", b'T');
+    });
+    feed.block(NYSE, |block| block.status("NVR", b'T'));
+}
+
 /// FINRA closes and opens again, makers move, venues clear their odd lots.
 fn afternoon(feed: &mut Feed) {
     feed.block(ARCA, |block| {
@@ -174,6 +189,7 @@ struct Feed {
 impl Feed {
     fn new() -> Feed {
         let symbols = [("IBM", 100), ("F", 100), ("NVR", 10), ("BRK.A", 1)];
+        let symbols = symbols.map(|(symbol, round_lot)| (symbol, round_lot, NYSE.1));
         let lines = [NYSE, ARCA, NASDAQ, CBOE, FINRA];
         Feed {
             tape: Tape::new(&symbols, &lines.map(|Line(line, letter)| (line, letter))),
@@ -262,6 +278,12 @@ impl Messages {
             false => build::odd_lot,
         };
         let message = write(self.letter, time, build::symbol(symbol), &odd);
+        self.written.push(message);
+    }
+
+    fn status(&mut self, symbol: &str, status: u8) {
+        let time = self.tick();
+        let message = build::trading_status(self.letter, time, build::symbol(symbol), status);
         self.written.push(message);
     }
 

@@ -100,8 +100,8 @@ fn add_block(rows: &mut Vec<Row>, bytes: &[u8], block: &Block) {
 /// A row, and one more for the odd part of a quote, if it has one.
 fn add_message(rows: &mut Vec<Row>, number: u32, message: &[u8], told: &Message) {
     let kind = message.get(..2).unwrap_or_default();
-    let symbol = match kind.first() {
-        Some(b'Q') => text(message, 20, 11),
+    let symbol = match kind {
+        [b'Q', _] | b"TS" => text(message, 20, 11),
         _ => String::new(),
     };
     let condition = text(message, 31, 1);
@@ -112,6 +112,7 @@ fn add_message(rows: &mut Vec<Row>, number: u32, message: &[u8], told: &Message)
             sides(message),
         ),
         b"QM" | b"QT" => (OddPart::ALONE.words(message), OddPart::ALONE.sides(message)),
+        b"TS" => (words::status(message.get(31)), Default::default()),
         _ => (control(kind), Default::default()),
     };
     let [number, changed] = [number.to_string(), words::changed(told.flags)];

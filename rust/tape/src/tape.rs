@@ -6,8 +6,8 @@ use second::terms::SYMBOL_LEN;
 /// A tape that may be refused anywhere: nothing in it is checked.
 #[derive(Clone, PartialEq, Eq, Debug, Default)]
 pub struct Tape {
-    /// The symbols, each with its round lot.
-    pub symbols: Vec<([u8; SYMBOL_LEN], u8)>,
+    /// The symbols, each with its round lot and its primary letter.
+    pub symbols: Vec<([u8; SYMBOL_LEN], u8, u8)>,
     /// The lines, each with its letter.
     pub lines: Vec<(u8, u8)>,
     /// The records: a line and a block.
@@ -15,12 +15,13 @@ pub struct Tape {
 }
 
 impl Tape {
-    /// A tape of no records, with symbols and their round lots, lines and their letters.
-    pub fn new(symbols: &[(&str, u8)], lines: &[(u8, u8)]) -> Tape {
+    /// A tape of no records, with symbols, their round lots and primary letters, lines and their
+    /// letters.
+    pub fn new(symbols: &[(&str, u8, u8)], lines: &[(u8, u8)]) -> Tape {
         let symbols = symbols.iter();
         Tape {
             symbols: symbols
-                .map(|&(symbol, round_lot)| (build::symbol(symbol), round_lot))
+                .map(|&(symbol, round_lot, primary)| (build::symbol(symbol), round_lot, primary))
                 .collect(),
             lines: lines.to_vec(),
             records: Vec::new(),
@@ -41,9 +42,9 @@ impl Tape {
     /// counts are cut.
     pub fn setup(&self) -> Vec<u8> {
         let mut bytes = vec![self.symbols.len() as u8];
-        for (symbol, round_lot) in &self.symbols {
+        for (symbol, round_lot, primary) in &self.symbols {
             bytes.extend(symbol);
-            bytes.push(*round_lot);
+            bytes.extend([*round_lot, *primary]);
         }
         bytes.push(self.lines.len() as u8);
         for &(line, letter) in &self.lines {
@@ -66,7 +67,8 @@ impl Tape {
         let mut tape = Tape::default();
         for _ in 0..byte(&mut bytes)? {
             let symbol = part(&mut bytes, SYMBOL_LEN)?.try_into().ok()?;
-            tape.symbols.push((symbol, byte(&mut bytes)?));
+            let (round_lot, primary) = (byte(&mut bytes)?, byte(&mut bytes)?);
+            tape.symbols.push((symbol, round_lot, primary));
         }
         for _ in 0..byte(&mut bytes)? {
             tape.lines.push((byte(&mut bytes)?, byte(&mut bytes)?));

@@ -34,7 +34,18 @@ pub fn fault(code: u8) -> &'static str {
         62 => "an odd lot without a price",
         63 => "an odd lot too large",
         64 => "a fifth odd-lot price",
+        76 => "not by the primary exchange",
+        77 => "unknown status",
         _ => "an unknown code",
+    }
+}
+
+/// The status of a T S, none if it is too short.
+pub fn status(status: Option<&u8>) -> String {
+    match status {
+        Some(b'H') => "TRADING HALTED".to_string(),
+        Some(b'T') => "trading".to_string(),
+        _ => "trading status".to_string(),
     }
 }
 

@@ -157,7 +157,8 @@ fn one_to_eight_symbols() {
     let names = ["ZT", "A", "BRK.A", "ZZZZZZZZZZZ", "S", "Q~!", "Ma.pr", "YY"];
     let round_lots = [100, 1, 10, 25, 50, 100, 1, 10];
     for count in 1..=8 {
-        let symbols: Vec<(&str, u8)> = names.into_iter().zip(round_lots).take(count).collect();
+        let listed = names.into_iter().zip(round_lots).take(count);
+        let symbols: Vec<_> = listed.map(|(name, lot)| (name, lot, b'N')).collect();
         let mut tape = Tape::new(&symbols, &[(0, b'N'), (63, b'Z')]);
         for (place, name) in names.into_iter().enumerate() {
             let price = TEN + place as u64 * CENT;

@@ -22,7 +22,7 @@ OO - - 0 0
 
 #[test]
 fn worked_example() {
-    let mut tape = Tape::new(&[("ZT", 100)], &[(N, b'N')]);
+    let mut tape = Tape::new(&[("ZT", 100, b'N')], &[(N, b'N')]);
     tape.send(N, 1, &[quote(b'N')]);
     assert_eq!(program::output(&tape.bytes()), EXAMPLE);
     assert_eq!(run(&tape.bytes()), EXAMPLE);
@@ -60,6 +60,8 @@ fn sample_of_the_demo() {
         "REFUSED: a duplicate (35)",
         "REJECTED: the symbol is not listed (45)",
         "PARTLY ACCEPTED: a fifth odd-lot price (64)",
+        "TRADING HALTED",
+        "REJECTED: not by the primary exchange (76)",
         "        odd lots  D         11.0415  x 40               D          11.049  x 25",
         "F       national  D    R      11.04  x 600  by size     Q    R      11.05  x 120  by size",
         "BRK.A   national  D    R  741420.00  x 1    by price    P    E  741950.00  x 1    by price",

@@ -20,7 +20,7 @@ const MESSAGES: usize = 15;
 /// Blocks of fifteen quotes, about 1,000 bytes each.
 fn large_tape() -> Vec<u8> {
     let mut random = Random::new(7);
-    let symbols = SYMBOLS.map(|symbol| (symbol, 100));
+    let symbols = SYMBOLS.map(|symbol| (symbol, 100, b'N'));
     let lines: Vec<(u8, u8)> = (0..).zip(LETTERS.iter().copied()).collect();
     let mut bytes = Tape::new(&symbols, &lines).setup();
     let mut next = [1; 8];

@@ -12,10 +12,11 @@ fn stops(what: &str, tape: &[u8], line: &str) {
     assert_eq!(agreed(what, tape), format!("{line}\n"), "{what}");
 }
 
+/// One symbol, its round lot and the primary letter N.
 fn symbol(bytes: &[u8; 11], round_lot: u8) -> Vec<u8> {
     let mut tape = vec![1];
     tape.extend(bytes);
-    tape.push(round_lot);
+    tape.extend([round_lot, b'N']);
     tape
 }
 
@@ -52,7 +53,7 @@ fn malformed_symbols() {
     ] {
         let tape = symbol(bytes, 100);
         stops(&format!("{bytes:?}"), &tape, "setup 3");
-        stops(&format!("{bytes:?} without its lot"), &tape[..12], "cut");
+        stops(&format!("{bytes:?} without its letter"), &tape[..13], "cut");
         stops("3 before 6", &symbol(bytes, 99), "setup 3");
     }
     for bytes in [b"S          ", b"Z!~az09.:/@", b"ZTZTZTZTZTZ"] {
@@ -72,16 +73,34 @@ fn round_lots() {
     }
 }
 
+/// The letter behind the round lot: A to Z without S. The add comes when it is read.
+#[test]
+fn primary_letters() {
+    for primary in 0..=255u8 {
+        let letter = primary.is_ascii_uppercase() && primary != b'S';
+        let mut tape = symbol(b"ZT         ", 100);
+        tape[13] = primary;
+        let line = if letter { "cut" } else { "setup 75" };
+        stops(&format!("primary letter {primary}"), &tape, line);
+        tape[12] = 7;
+        stops("6 before 75", &tape, "setup 6");
+        stops("a bad lot without its letter", &tape[..13], "cut");
+    }
+}
+
 #[test]
 fn symbol_listed() {
-    let twice = Tape::new(&[("ZT", 100), ("YY", 10), ("ZT", 1)], &[]).setup();
+    let n = |symbol, round_lot| (symbol, round_lot, b'N');
+    let twice = Tape::new(&[n("ZT", 100), n("YY", 10), n("ZT", 1)], &[]).setup();
     stops("twice ZT", &twice, "setup 4");
-    stops("twice ZT, no line count", &twice[..1 + 3 * 12], "setup 4");
-    stops("the second ZT is cut", &twice[..3 * 12], "cut");
-    let lot = Tape::new(&[("ZT", 100), ("ZT", 2)], &[]).setup();
+    stops("twice ZT, no line count", &twice[..1 + 3 * 13], "setup 4");
+    stops("the second ZT is cut", &twice[..3 * 13], "cut");
+    let lot = Tape::new(&[n("ZT", 100), n("ZT", 2)], &[]).setup();
     stops("6 before 4", &lot, "setup 6");
-    let eighth: Vec<(&str, u8)> = ["A", "B", "C", "E", "F", "G", "H", "A"]
-        .map(|symbol| (symbol, 25))
+    let primary = Tape::new(&[n("ZT", 100), ("ZT", 100, b'S')], &[]).setup();
+    stops("75 before 4", &primary, "setup 75");
+    let eighth: Vec<(&str, u8, u8)> = ["A", "B", "C", "E", "F", "G", "H", "A"]
+        .map(|symbol| n(symbol, 25))
         .to_vec();
     stops(
         "the eighth is the first",
@@ -92,7 +111,7 @@ fn symbol_listed() {
 
 #[test]
 fn lines_and_letters() {
-    let with = |lines: &[(u8, u8)]| Tape::new(&[("ZT", 100)], lines).setup();
+    let with = |lines: &[(u8, u8)]| Tape::new(&[("ZT", 100, b'N')], lines).setup();
     for line in 64..=255 {
         stops(&format!("line {line}"), &with(&[(line, b'N')]), "setup 7");
     }
@@ -117,25 +136,28 @@ fn lines_and_letters() {
     all.push((63, b'Z'));
     stops("65 lines", &with(&all), "setup 8");
     let mut counted = with(&[(5, b'N')]);
-    counted[13] = 255;
+    counted[14] = 255;
     stops("255 lines, one there", &counted, "cut");
 }
 
 /// What is refused early is told although the input ends there, or is cut behind it.
 #[test]
 fn refusal_before_cut() {
-    let tape = Tape::new(&[("ZT", 100), ("YY", 7), ("ZT", 100)], &[(64, b'N')]).setup();
+    let n = |symbol, round_lot| (symbol, round_lot, b'N');
+    let symbols = [n("ZT", 100), n("YY", 7), n("ZT", 100)];
+    let tape = Tape::new(&symbols, &[(64, b'N')]).setup();
     stops("all that follows is there", &tape, "setup 6");
-    stops("nothing follows", &tape[..25], "setup 6");
-    stops("a byte less", &tape[..24], "cut");
-    let lines = Tape::new(&[("ZT", 100)], &[(5, b'N'), (5, b'P'), (64, b'N')]).setup();
-    stops("line 5 again, nothing follows", &lines[..18], "setup 8");
-    stops("its letter is missing", &lines[..17], "cut");
+    stops("nothing follows", &tape[..27], "setup 6");
+    stops("a byte less", &tape[..26], "cut");
+    let lines = [(5, b'N'), (5, b'P'), (64, b'N')];
+    let lines = Tape::new(&[n("ZT", 100)], &lines).setup();
+    stops("line 5 again, nothing follows", &lines[..19], "setup 8");
+    stops("its letter is missing", &lines[..18], "cut");
 }
 
 #[test]
 fn no_lines_and_no_records() {
-    let tape = Tape::new(&[("ZT", 100), ("A.very!long", 1)], &[]);
+    let tape = Tape::new(&[("ZT", 100, b'N'), ("A.very!long", 1, b'P')], &[]);
     let none = "NB - - 0 0\nNO - - 0 0\nFB - - 0 0\nFO - - 0 0\nOB - - 0 0\nOO - - 0 0\n";
     let expected = format!("sym ZT\n{none}sym A.very!long\n{none}");
     assert_eq!(agreed("no lines, no records", &tape.bytes()), expected);
@@ -156,7 +178,7 @@ fn arbitrary_setups() {
         tape.insert(0, 1 + random.below(9) as u8);
         if random.percent(50) {
             tape.splice(1..1, build::symbol("ZT"));
-            tape.insert(12, 100);
+            tape.splice(12..12, [100, b'N']);
             tape[0] = 1;
         }
         agreed(&format!("arbitrary setup {round}"), &tape);

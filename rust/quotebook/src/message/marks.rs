@@ -26,6 +26,13 @@ table! {
 }
 
 table! {
+    /// A symbol's trading status.
+    TradingStatus:
+    b'H' Halted "Halted: all six entries are none, and quotes go on being stored.";
+    b'T' Trading "Trading: the entries come back from what then stands.";
+}
+
+table! {
     /// Which of its letter's odd lots a message removes before its own are put in.
     Clear:
     b' ' Nothing "No odd lots are removed.";

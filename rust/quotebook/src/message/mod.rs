@@ -8,6 +8,7 @@
 //! - a letter that is not the line's (41), and a type on the wrong line (44);
 //! - a symbol that is malformed or not listed (45), a malformed maker (48);
 //! - a size without a price (47);
+//! - a trading status on another line than the symbol's primary letter's (76);
 //! - over four odd lots of a side (61), one at price 0 (62) or of a round lot or more (63).
 //!
 //! ```
@@ -36,7 +37,7 @@ mod odd_lot;
 mod round_lot;
 mod text;
 
-pub use marks::{Clear, Condition, MakerCondition};
+pub use marks::{Clear, Condition, MakerCondition, TradingStatus};
 pub use odd_lot::OddLotQuote;
 pub use round_lot::{MakerQuote, RoundLotQuote};
 pub(crate) use text::filled_up;
@@ -98,6 +99,15 @@ pub fn finra_open(header: Header) -> Vec<u8> {
 pub fn test(header: Header) -> Vec<u8> {
     let mut message = header.of_type(*b"C5");
     message.extend(0x20..=0x7E);
+    message
+}
+
+/// T S, a symbol's trading status. On lines of the symbol's primary letter only (else 76); it may
+/// stand among quotes.
+pub fn trading_status(header: Header, symbol: Symbol, status: TradingStatus) -> Vec<u8> {
+    let mut message = header.of_type(*b"TS");
+    message.extend(symbol.as_ref());
+    message.push(status.into());
     message
 }
 

@@ -6,21 +6,21 @@ use second::generate::Random;
 
 use super::layout::{
     in_page, line, moved, page, CELLS, CELL_LEN, CONTENTS, COUNT, ENTRIES, LEVELS, LEVEL_LEN,
-    LINES, LOT, N, OPENING_LEN, PAGE_LEN, SLOTS, SLOT_LEN, SYMBOL,
+    LINES, N, OPENING_LEN, PAGE_LEN, PRIMARY, SLOTS, SLOT_LEN, STATUS, SYMBOL,
 };
 
-/// Damages a book: its opening, its length, its lines, its symbols, its pages, their entries or times
-/// alone, or all of it.
+/// Damages a book: its opening, its length, its lines, its symbols, its pages, their entries, times or
+/// statuses alone, or all of it.
 pub fn damage(random: &mut Random, memory: &mut Vec<u8>) {
     let pages = (memory.len() - OPENING_LEN) / PAGE_LEN;
     let at = random.below(pages);
-    match random.below(13) {
+    match random.below(15) {
         0 => {
             let (at, any) = (random.below(line(0).start), random.byte());
             memory[at] = random.usually(50, &[0, 1, 2, 64, 65, 255], &[any]);
         }
         1 => {
-            let lengths = [0, 1, 8, 15, 846, 847, 848, 6900, 6901, 6902, 12955];
+            let lengths = [0, 1, 8, 15, 846, 847, 848, 6902, 6903, 6904, 12959];
             memory.resize(random.pick(&lengths), 0x51);
         }
         2 => {
@@ -40,7 +40,7 @@ pub fn damage(random: &mut Random, memory: &mut Vec<u8>) {
         5 => {
             let symbol = memory[in_page(at, SYMBOL)].to_vec();
             memory[in_page(random.below(pages), SYMBOL)].copy_from_slice(&symbol);
-            memory[page(at).start + random.below(LOT + 1)] = random.byte();
+            memory[page(at).start + random.below(PRIMARY + 1)] = random.byte();
         }
         6 => scatter(random, &mut memory[OPENING_LEN..]),
         7 | 8 => {
@@ -53,6 +53,13 @@ pub fn damage(random: &mut Random, memory: &mut Vec<u8>) {
             overwrite(random, wrong, memory);
         }
         10 => retime(random, &mut memory[page(at)]),
+        11 | 12 => {
+            for page in memory[OPENING_LEN..].chunks_exact_mut(PAGE_LEN) {
+                let any = random.byte();
+                page[PRIMARY] = random.usually(50, &[page[PRIMARY]], &[b'N', b'D', any]);
+                page[STATUS] = random.usually(50, b"H", &[0, b'T', b'h', any]);
+            }
+        }
         _ => shuffle(random, &mut memory[page(at)]),
     }
 }
@@ -132,8 +139,9 @@ fn scatter(random: &mut Random, memory: &mut [u8]) {
     }
 }
 
-/// Gives most quotes of a page a condition under which they count.
+/// Gives most quotes of a page a condition under which they count, and halts some pages.
 fn admit(random: &mut Random, page: &mut [u8]) {
+    page[STATUS] = random.usually(80, &[page[STATUS]], b"H");
     for slot in page[SLOTS].chunks_exact_mut(SLOT_LEN) {
         slot[0] = random.usually(50, b"ABEFHORWL", &[slot[0]]);
     }

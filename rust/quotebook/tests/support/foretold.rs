@@ -6,14 +6,14 @@ use second::{build, Call, Protected, Report};
 use super::guarded::Guarded;
 use super::layout::{
     in_page, is_book, is_letter, line, listed_page, page, record, COUNT, DAY, ENTRIES, LINES, LOT,
-    N, OPENING_LEN, PAGE_LEN, SYMBOL,
+    N, OPENING_LEN, PAGE_LEN, PRIMARY, SYMBOL,
 };
 use super::reading::Reading;
 
 /// The numbers that each call can answer.
 pub const NUMBERS: [(&str, &[u8]); 8] = [
     ("make", &[0, 2]),
-    ("add", &[0, 1, 3, 4, 5, 6]),
+    ("add", &[0, 1, 3, 4, 5, 6, 75]),
     ("open", &[0, 1, 7, 8]),
     ("start", &[0, 1, 11]),
     ("end", &[0, 1, 12]),
@@ -65,9 +65,14 @@ pub fn number(memory: &[u8], call: &Call) -> Option<u8> {
     let is_open = |at: u32| at < LINES as u32 && is_letter(memory[line(at as usize).start]);
     let checks = match call {
         Call::Make { .. } => vec![],
-        Call::AddSymbol { symbol, round_lot } => vec![
+        Call::AddSymbol {
+            symbol,
+            round_lot,
+            primary,
+        } => vec![
             (!is_symbol(symbol), 3),
             (![1, 10, 25, 50, 100].contains(round_lot), 6),
+            (!is_letter(*primary), 75),
             (listed(symbol), 4),
             (memory[COUNT] == memory[N], 5),
         ],
@@ -137,7 +142,11 @@ impl Left<'_> {
         }
         match call {
             Call::Make { n } => ensure(self.after == Guarded::fresh(*n).bytes(), "no fresh book"),
-            Call::AddSymbol { symbol, round_lot } => self.check_added(symbol, *round_lot),
+            Call::AddSymbol {
+                symbol,
+                round_lot,
+                primary,
+            } => self.check_added(symbol, *round_lot, *primary),
             Call::OpenLine { line, letter } => self.check_line(*line as usize, *letter, (1, 0)),
             Call::StartDay => self.check_started(),
             Call::EndDay => ensure(self.after[DAY] == 0, "the day is open"),
@@ -162,12 +171,13 @@ impl Left<'_> {
         ensure(*report == expected, format!("{report:?}, not {expected:?}"))
     }
 
-    fn check_added(&self, symbol: &[u8], round_lot: u32) -> Result<(), String> {
+    fn check_added(&self, symbol: &[u8], round_lot: u32, primary: u8) -> Result<(), String> {
         let count = usize::from(self.before[COUNT]);
         let added = &self.after[page(count)];
         ensure(usize::from(self.after[COUNT]) == count + 1, "not counted")?;
         ensure(added[SYMBOL] == *symbol, "the symbol is not written")?;
         ensure(u32::from(added[LOT]) == round_lot, "the lot is not written")?;
+        ensure(added[PRIMARY] == primary, "the letter is not written")?;
         ensure(is_blank(added), "the page is not empty")
     }
 
@@ -266,7 +276,7 @@ impl Pages<'_> {
         }
     }
 
-    /// Follows one message by its code. Codes 0, 49 and 60 to 64 are the page's and are foretold;
+    /// Follows one message by its code. Codes 0, 49, 60 to 64, 76 and 77 are the page's and are foretold;
     /// any other code leaves every page alone. "An accepted part leaves them as worked out from the
     /// page's quotes", whatever entries the page kept.
     fn follow(&mut self, message: &[u8], code: u8, flags: u8) -> Result<(), String> {
@@ -274,7 +284,7 @@ impl Pages<'_> {
         let kind = &message[..2];
         let concerned = match kind {
             b"CC" | b"CO" if code == 0 => 0..self.pages.len(),
-            b"QK" | b"QM" | b"QT" | b"QU" if code == 0 || code >= 49 => {
+            b"QK" | b"QM" | b"QT" | b"QU" | b"TS" if code == 0 || code >= 49 => {
                 let named = listed_page(self.before, &message[20..31]).ok_or("not listed")?;
                 named..named + 1
             }

@@ -149,7 +149,7 @@ impl Guarded {
                 continue;
             }
             match kind {
-                b"QK" | b"QM" | b"QT" | b"QU" => {
+                b"QK" | b"QM" | b"QT" | b"QU" | b"TS" => {
                     let named = layout::listed_page(self.bytes(), &message[20..31]);
                     allowed.extend(named.map(|named| in_page(named, CONTENTS)));
                 }
@@ -171,9 +171,10 @@ impl QuoteBook for Guarded {
         self.settle(number, &[all], true)
     }
 
-    fn add_symbol(&mut self, symbol: &[u8], round_lot: u32) -> u8 {
+    fn add_symbol(&mut self, symbol: &[u8], round_lot: u32, primary: u8) -> u8 {
         let argument = Fenced::new(symbol);
-        let number = lent::add_symbol(self.memory.bytes_mut(), argument.bytes(), round_lot);
+        let book = self.memory.bytes_mut();
+        let number = lent::add_symbol(book, argument.bytes(), round_lot, primary);
         let kept = argument.keeps(symbol);
         if number.is_refusal() {
             return self.settle(number, &[], kept);

@@ -9,21 +9,25 @@ pub const DAY: usize = 10;
 pub const FIRST_PAGE: Range<usize> = 11..15;
 pub const LINES: usize = 64;
 pub const OPENING_LEN: usize = 847;
-pub const PAGE_LEN: usize = 6054;
+pub const PAGE_LEN: usize = 6056;
 
-/// Within a page: the symbol, the round lot, the six entries, and all that follows the round lot.
+/// Within a page: the symbol, the round lot, the primary letter, the six entries, and all that
+/// follows the primary letter.
 pub const SYMBOL: Range<usize> = 0..11;
 pub const LOT: usize = 11;
-pub const ENTRIES: Range<usize> = 12..108;
-pub const CONTENTS: Range<usize> = 12..PAGE_LEN;
+pub const PRIMARY: usize = 12;
+pub const ENTRIES: Range<usize> = 13..109;
+pub const CONTENTS: Range<usize> = 13..PAGE_LEN;
 /// A slot for each letter: a quote, then four odd lot bids and four odd lot offers.
-pub const SLOTS: Range<usize> = 108..5334;
+pub const SLOTS: Range<usize> = 109..5335;
 pub const SLOT_LEN: usize = 201;
 pub const LEVELS: usize = 41;
 pub const LEVEL_LEN: usize = 20;
 /// A cell for each of sixteen makers: the name, then a quote.
-pub const CELLS: Range<usize> = 5334..PAGE_LEN;
+pub const CELLS: Range<usize> = 5335..6055;
 pub const CELL_LEN: usize = 45;
+/// H while the symbol is halted.
+pub const STATUS: usize = 6055;
 
 /// One byte of the opening.
 pub fn byte(at: usize) -> Range<usize> {

@@ -6,7 +6,7 @@ use second::Call;
 use super::layout::{in_page, listed_page, number, page, ENTRIES, N};
 use super::reading::{is_empty_quote, Reading};
 
-pub const PARTS: [&str; 11] = [
+pub const PARTS: [&str; 14] = [
     "Q K without odd lots",
     "Q K with odd lots",
     "Q K, partly accepted",
@@ -18,6 +18,9 @@ pub const PARTS: [&str; 11] = [
     "Q U, empty, of an unknown maker",
     "C C",
     "C O",
+    "T S, halted",
+    "T S, trading",
+    "a quote of a halted symbol",
 ];
 
 /// A query whose answer is not what the entry that the page keeps says.
@@ -92,7 +95,11 @@ pub fn resent(book: &[u8], message: &[u8], code: u8) -> Vec<&'static str> {
 fn kind(reading: &Reading, message: &[u8], code: u8) -> Option<&'static str> {
     let idle = |clear: usize| message[clear..clear + 3] == *b" \0\0";
     let unknown = || !reading.has_maker([message[56], message[57], message[58], message[59]]);
+    let named = matches!(&message[..2], b"QK" | b"QM" | b"QT" | b"QU");
     let at = match (&message[..2], code) {
+        _ if named && reading.is_halted() && code == 0 => 13,
+        (b"TS", 0) if message[31] == b'H' => 11,
+        (b"TS", 0) => 12,
         (b"QK", 0) if idle(56) => 0,
         (b"QK", 0) => 1,
         (b"QK", 60..=64) => 2,

@@ -3,7 +3,9 @@
 
 use std::cmp::Reverse;
 
-use super::layout::{low, number, CELLS, CELL_LEN, LEVELS, LEVEL_LEN, LOT, SLOTS, SLOT_LEN};
+use super::layout::{
+    low, number, CELLS, CELL_LEN, LEVELS, LEVEL_LEN, LOT, PRIMARY, SLOTS, SLOT_LEN, STATUS,
+};
 
 const NONE: [u8; 16] = *b"    \0\0\0\0\0\0\0\0\0\0\0\0";
 
@@ -28,6 +30,9 @@ pub struct Quote {
 #[derive(Clone, PartialEq, Eq, Debug)]
 pub struct Reading {
     lot: u8,
+    primary: u8,
+    /// The status is H; any other byte is trading.
+    halted: bool,
     /// For each letter: its quote, and its levels of both sides, best first.
     letters: Vec<(Quote, [Vec<Shown>; 2])>,
     /// The cells, none if free.
@@ -88,15 +93,18 @@ impl Reading {
         });
         Reading {
             lot: page[LOT],
+            primary: page[PRIMARY],
+            halted: page[STATUS] == b'H',
             letters: letters.collect(),
             makers: makers.collect(),
         }
     }
 
-    /// Whether nothing stands: no maker, no level, and no quote that counts.
+    /// Whether nothing stands: no halt, no maker, no level, and no quote that counts.
     pub fn is_empty(&self) -> bool {
         let nothing = |(_, levels): &(Quote, [Vec<Shown>; 2])| levels.iter().all(Vec::is_empty);
-        self.makers.iter().all(Option::is_none)
+        !self.halted
+            && self.makers.iter().all(Option::is_none)
             && self.letters.iter().all(nothing)
             && self.entries().chunks_exact(16).all(|entry| entry == NONE)
     }
@@ -108,14 +116,17 @@ impl Reading {
             makers.sort();
             makers
         };
-        self.lot == other.lot && self.letters == other.letters && sorted(self) == sorted(other)
+        let head = |reading: &Reading| (reading.lot, reading.primary, reading.halted);
+        head(self) == head(other) && self.letters == other.letters && sorted(self) == sorted(other)
     }
 
-    /// What a message that passed checks 40 to 48 makes of the page: its code, 0, 49 or 60 to 64.
+    /// What a message that passed checks 40 to 48 makes of the page: its code, 0, 49, 60 to 64, 76 or
+    /// 77.
     pub fn take(&mut self, message: &[u8]) -> u8 {
         let at = usize::from(message[2] - b'A');
         match &message[..2] {
             b"QU" => self.take_maker(message),
+            b"TS" => self.take_status(message),
             b"QM" | b"QT" => self.take_odd(at, message, 31, 36),
             b"QK" => {
                 self.letters[at].0 = over(&self.letters[at].0, round(message));
@@ -129,6 +140,24 @@ impl Reading {
                 0
             }
         }
+    }
+
+    /// The line's letter is the message's, by check 41.
+    fn take_status(&mut self, message: &[u8]) -> u8 {
+        let (letter, status) = (message[2], message[31]);
+        if letter != self.primary {
+            return 76;
+        }
+        if !b"HT".contains(&status) {
+            return 77;
+        }
+        self.halted = status == b'H';
+        0
+    }
+
+    /// Whether the symbol is halted.
+    pub fn is_halted(&self) -> bool {
+        self.halted
     }
 
     /// The quote that stands of a Q K's letter or a Q U's maker.
@@ -228,8 +257,12 @@ impl Reading {
     }
 
     /// Which letter from A on first has a national candidate that reaches a price: whether there is
-    /// one, and how many letters were looked at. D has its best maker; S has nothing.
+    /// one, and how many letters were looked at. D has its best maker; S has nothing. A halted symbol
+    /// has no candidate.
     pub fn protection(&self, side: usize, price: u64) -> (bool, u8) {
+        if self.halted {
+            return (false, 26);
+        }
         let reaches = |quote: &Quote| {
             counting(side, quote, [0; 4]).is_some_and(|(shown, _)| {
                 let bids = side == 0;
@@ -258,9 +291,13 @@ impl Reading {
         all.nth(place).map_or(0, |quote| quote.sides[side].price)
     }
 
-    /// The six entries that follow.
+    /// The six entries that follow, none while the symbol is halted.
     pub fn entries(&self) -> [u8; 96] {
         let mut entries = [0; 96];
+        if self.halted {
+            entries.copy_from_slice(&NONE.repeat(6));
+            return entries;
+        }
         for side in SIDES {
             let makers = self.makers.iter().flatten();
             let makers = makers.filter_map(|(name, quote)| counting(side, quote, *name));

@@ -14,6 +14,7 @@ const ROUND_LOT_LEN: usize = 60;
 const ODD_LOT_LEN: usize = 36;
 const MAKER_LEN: usize = 60;
 const TEST_LEN: usize = MESSAGE_MIN + 95;
+const STATUS_LEN: usize = 32;
 
 /// How a message was worked.
 #[derive(Clone, Copy)]
@@ -67,6 +68,7 @@ impl<U: Update, const M: u8> Book<U, M> {
             [b'Q', b'T'] if M == mistake::FINRA_ODD_UNKNOWN => Err(code::UNKNOWN_TYPE),
             [b'Q', b'M' | b'T'] => self.odd_lot(letter, message),
             [b'Q', b'U'] => self.maker(letter, message),
+            [b'T', b'S'] => self.status(letter, message),
             [b'C', b'C'] => self.finra_day(letter, message, b'L'),
             [b'C', b'O'] => self.finra_day(letter, message, b'R'),
             [b'C', b'I' | b'T' | b'5'] => inquiry_or_test(letter, message),
@@ -107,7 +109,8 @@ impl<U: Update, const M: u8> Book<U, M> {
         };
         let code = odd_part.err().unwrap_or(code::ACCEPTED);
         let lost = M == mistake::ROUND_PART_LOST && code != code::ACCEPTED
-            || M == mistake::EMPTY_QUOTE_IGNORED && quote.is_empty::<M>();
+            || M == mistake::EMPTY_QUOTE_IGNORED && quote.is_empty::<M>()
+            || M == mistake::HALT_DROPS_QUOTES && page.halted;
         if !lost {
             page.set_quote::<M>(letter, &quote);
         }
@@ -191,6 +194,50 @@ impl<U: Update, const M: u8> Book<U, M> {
         Ok(Worked::accepted(page.changes::<M>(&before)))
     }
 
+    /// T S: halts a symbol, or lets it trade, on a line of its primary letter. While it is halted
+    /// its entries are none; quotes go on being stored.
+    fn status(&mut self, letter: u8, message: &[u8]) -> Result<Worked, u8> {
+        check(message[2] == letter, code::LETTER)?;
+        let fixed: &[u8; STATUS_LEN] = message.try_into().map_err(|_| code::LENGTH)?;
+        check(fixed[3] == 0, code::FIXED_BYTE)?;
+        if M == mistake::STATUS_OFF_D {
+            check(letter != FINRA, code::WRONG_LINE)?;
+        }
+        let page = self.listed(bytes_at(fixed, 20))?;
+        let known = matches!(fixed[31], b'H' | b'T') || M == mistake::STATUS_UNCHECKED;
+        if M == mistake::STATUS_BEFORE_PRIMARY {
+            check(known, code::STATUS)?;
+        }
+        let in_place = letter == page.primary || M == mistake::STATUS_ANYWHERE;
+        check(in_place, code::NOT_PRIMARY)?;
+        check(known, code::STATUS)?;
+
+        let (before, time) = (page.entries, u64_at(fixed, 4));
+        if M == mistake::LATEST_STATUS && time < page.status_time {
+            return Ok(Worked::accepted(0));
+        }
+        page.status_time = time;
+        page.halted = fixed[31] == b'H';
+        let waits = match M {
+            mistake::HALT_WAITS => page.halted,
+            mistake::TRADING_WAITS => !page.halted,
+            _ => false,
+        };
+        if !waits {
+            U::update::<M>(page, Touched::Status);
+        }
+        let flags = page.changes::<M>(&before);
+        if M == mistake::HALT_OF_A_LETTER {
+            for page in &mut self.pages {
+                if page.primary == letter {
+                    page.halted = fixed[31] == b'H';
+                    U::update::<M>(page, Touched::Status);
+                }
+            }
+        }
+        Ok(Worked::accepted(flags))
+    }
+
     /// C C and C O: every page's makers get condition L or R. A flag is set if that entry changed
     /// in any symbol.
     fn finra_day(&mut self, letter: u8, message: &[u8], condition: u8) -> Result<Worked, u8> {
@@ -204,6 +251,9 @@ impl<U: Update, const M: u8> Book<U, M> {
         let mut flags = 0;
         for (i, page) in self.pages.iter_mut().enumerate() {
             let before = page.entries;
+            if M == mistake::CLOSE_PASSES_HALTED && page.halted {
+                continue;
+            }
             page.set_conditions::<M>(condition, u64_at(message, 4));
             if M == mistake::CLOSE_CLEARS_LEVELS {
                 page.set_levels::<M>(FINRA, [Levels::EMPTY; 2]);

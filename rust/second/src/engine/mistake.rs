@@ -114,4 +114,26 @@ mistakes! {
     96 TIME_SHOWN_AS_SIZE "A leader by time is shown as one by size.";
     97 SECOND_STAYS "The incremental engine keeps a second best that worsened or left.";
     98 SECOND_NOT_PASSED "The incremental engine does not see a quote that passes the second best.";
+    99 PRIMARY_AFTER_LISTED "Adding a symbol checks 4 before 75.";
+    100 PROCESSOR_IS_PRIMARY "S is taken as a primary letter.";
+    101 FINRA_NOT_PRIMARY "D is refused as a primary letter.";
+    102 PRIMARY_UNCHECKED "A primary letter may be any byte but S.";
+    103 STATUS_ANYWHERE "T S is taken off the primary letter's lines too.";
+    104 STATUS_BEFORE_PRIMARY "77 is checked before 76.";
+    105 STATUS_UNCHECKED "T S with any other byte than H is taken as trading.";
+    106 STATUS_OFF_D "T S on D's line is 44.";
+    107 STATUS_ALONE "T S among others is 34.";
+    108 HALT_KEEPS_FINRA "A halt leaves the FINRA entries.";
+    109 HALT_KEEPS_ODD "A halt leaves the odd entries.";
+    110 HALT_KEEPS_OFFERS "A halt leaves the national offer.";
+    111 HALT_WAITS "A halt shows with the next message of its symbol.";
+    112 TRADING_WAITS "Trading brings the entries back with the next message of its symbol.";
+    113 HALT_DROPS_QUOTES "A letter's quote is not stored while its symbol is halted.";
+    114 HALT_OF_A_LETTER "A status goes to every symbol of that primary letter.";
+    115 LATEST_STATUS "A status with an earlier time than the last one does nothing.";
+    116 START_KEEPS_HALTS "Start of Day keeps the halts.";
+    117 END_ENDS_HALTS "End of Day ends the halts.";
+    118 CLOSE_PASSES_HALTED "FINRA Open and Close leave the makers of a halted symbol.";
+    119 HALTED_ANSWERS "A query about a halted symbol goes by its quotes.";
+    120 HALTED_LOOKS_0 "A query about a halted symbol reports no letters.";
 }

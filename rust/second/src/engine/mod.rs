@@ -18,10 +18,11 @@ mod update;
 use std::marker::PhantomData;
 
 use crate::quote_book::{Protected, QuoteBook, Report};
-use crate::terms::{number, LINES, PROCESSOR, PUBLICATION_LEN, ROUND_LOTS, SYMBOLS_MAX};
+use crate::terms::{number, FINRA, LINES, PROCESSOR, PUBLICATION_LEN, ROUND_LOTS, SYMBOLS_MAX};
 use candidate::Side;
 use directory::{well_formed, Directory, Symbol};
 use page::Page;
+use update::Touched;
 pub use update::{FollowLeader, Recompute, Update};
 
 /// The engine that works out a touched symbol's entries anew.
@@ -99,8 +100,8 @@ impl<U: Update, const M: u8> QuoteBook for Book<U, M> {
         number::DONE
     }
 
-    /// Checks 3, 6, 4, 5.
-    fn add_symbol(&mut self, symbol: &[u8], round_lot: u32) -> u8 {
+    /// Checks 3, 6, 75, 4, 5.
+    fn add_symbol(&mut self, symbol: &[u8], round_lot: u32, primary: u8) -> u8 {
         let Some(symbol) = as_symbol(symbol) else {
             return number::SYMBOL_MALFORMED;
         };
@@ -115,6 +116,17 @@ impl<U: Update, const M: u8> QuoteBook for Book<U, M> {
         if !ROUND_LOTS.contains(&round_lot) {
             return number::ROUND_LOT;
         }
+        if M == mistake::PRIMARY_AFTER_LISTED && listed {
+            return number::SYMBOL_LISTED;
+        }
+        let is_primary = match primary {
+            PROCESSOR => M == mistake::PROCESSOR_IS_PRIMARY,
+            FINRA => M != mistake::FINRA_NOT_PRIMARY,
+            _ => primary.is_ascii_uppercase() || M == mistake::PRIMARY_UNCHECKED,
+        };
+        if !is_primary {
+            return number::PRIMARY;
+        }
         if listed {
             return number::SYMBOL_LISTED;
         }
@@ -122,7 +134,7 @@ impl<U: Update, const M: u8> QuoteBook for Book<U, M> {
             return number::BOOK_FULL;
         }
         self.directory.list(symbol, self.pages.len() as u8);
-        self.pages.push(Page::empty(round_lot));
+        self.pages.push(Page::empty(round_lot, primary));
         number::DONE
     }
 
@@ -161,6 +173,12 @@ impl<U: Update, const M: u8> QuoteBook for Book<U, M> {
         if M == mistake::END_EMPTIES {
             for page in &mut self.pages {
                 page.start_day::<M>();
+            }
+        }
+        if M == mistake::END_ENDS_HALTS {
+            for page in &mut self.pages {
+                page.halted = false;
+                U::update::<M>(page, Touched::Status);
             }
         }
         self.day_open = false;

@@ -16,6 +16,11 @@ pub type Entries = [Entry; 6];
 
 pub struct Page {
     pub round_lot: u32,
+    /// The letter whose lines may halt the symbol.
+    pub primary: u8,
+    pub halted: bool,
+    /// The time of the last accepted status; no rule reads it.
+    pub status_time: u64,
     pub sides: [PageSide; 2],
     /// The name of each cell's maker.
     maker_names: [u32; MAKERS_MAX],
@@ -23,19 +28,25 @@ pub struct Page {
 }
 
 impl Page {
-    /// An added symbol begins with no quotes and six entries of none.
-    pub fn empty(round_lot: u32) -> Page {
+    /// An added symbol begins with no quotes and six entries of none, and trades.
+    pub fn empty(round_lot: u32, primary: u8) -> Page {
         Page {
             round_lot,
+            primary,
+            halted: false,
+            status_time: 0,
             sides: [PageSide::EMPTY; 2],
             maker_names: [FREE_CELL; MAKERS_MAX],
             entries: [Entry::NONE; 6],
         }
     }
 
-    /// Start of Day empties all quotes, makers and levels and makes every entry none.
+    /// Start of Day empties all quotes, makers and levels, makes every entry none and ends a halt.
     pub fn start_day<const M: u8>(&mut self) {
-        let old = std::mem::replace(self, Page::empty(self.round_lot));
+        let old = std::mem::replace(self, Page::empty(self.round_lot, self.primary));
+        if M == mistake::START_KEEPS_HALTS {
+            self.halted = old.halted;
+        }
         if M == mistake::START_KEEPS_LEVELS {
             for letter in b'A'..=b'Z' {
                 self.set_levels::<M>(letter, old.levels(letter));
@@ -146,9 +157,9 @@ impl Page {
         }
     }
 
-    /// Keeps one side's three entries as its leaders give them. "The third byte of a national entry
-    /// becomes P, S, T or L by the comparison with the second best, or a space if there is no
-    /// second." An odd level is published if it is
+    /// Keeps one side's three entries as its leaders give them, or none while the symbol is halted.
+    /// "The third byte of a national entry becomes P, S, T or L by the comparison with the second
+    /// best, or a space if there is no second." An odd level is published if it is
     /// priced above the national bid (below the national offer), or if that side has none, whose
     /// rank is 0. The odd order begins with the price, so only the best level has to be looked at.
     #[inline]
@@ -180,14 +191,29 @@ impl Page {
         if M == mistake::ODD_WITH_REASON {
             odd = odd.with_reason(reason);
         }
-        self.entries[at] = Entry::of(national, side).with_reason(reason);
-        self.entries[2 + at] = finra;
-        self.entries[4 + at] = if inside { odd } else { Entry::NONE };
+        let entries = [
+            Entry::of(national, side).with_reason(reason),
+            finra,
+            if inside { odd } else { Entry::NONE },
+        ];
+        let kept_in_a_halt = match M {
+            mistake::HALT_KEEPS_FINRA => 1,
+            mistake::HALT_KEEPS_ODD => 2,
+            mistake::HALT_KEEPS_OFFERS if side == Side::Offer => 0,
+            _ => entries.len(),
+        };
+        for (i, entry) in entries.into_iter().enumerate() {
+            let shown = !self.halted || i == kept_in_a_halt;
+            self.entries[2 * i + at] = if shown { entry } else { Entry::NONE };
+        }
     }
 
     /// The first letter from A with a counting bid at or above the price, or offer at or below it:
-    /// whether there is one, and how many letters were looked at.
+    /// whether there is one, and how many letters were looked at. A halted symbol has none.
     pub fn search<const M: u8>(&self, side: Side, price: u64) -> (bool, u8) {
+        if self.halted && M != mistake::HALTED_ANSWERS {
+            return (false, if M == mistake::HALTED_LOOKS_0 { 0 } else { 26 });
+        }
         let page_side = &self.sides[side as usize];
         let answers = |letter: u8| {
             if M == mistake::D_NOT_ASKED && letter == FINRA {

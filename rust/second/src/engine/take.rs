@@ -136,7 +136,9 @@ fn admit<'a, const M: u8>(
     if M == mistake::DAY_BEFORE_CONTROL && block.control_not_alone() && !day_open {
         return Err(number::BLOCK_WHILE_CLOSED);
     }
-    if block.control_not_alone() {
+    let among_others = block.count() > 1;
+    let has_status = (0..block.count()).any(|i| block.message(i)[0] == b'T');
+    if block.control_not_alone() || M == mistake::STATUS_ALONE && among_others && has_status {
         return Err(number::CONTROL_NOT_ALONE);
     }
     let first = block.message(0);

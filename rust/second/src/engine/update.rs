@@ -17,9 +17,11 @@ pub enum Touched {
     Maker(usize, u32),
     /// The conditions of all makers' quotes.
     Makers,
+    /// The trading status alone.
+    Status,
 }
 
-/// A way to keep the six entries. It leaves them as worked out from the page's quotes.
+/// A way to keep the six entries. It leaves them as worked out from the page's quotes and status.
 pub trait Update {
     /// Brings the entries up to what a message replaced.
     fn update<const M: u8>(page: &mut Page, touched: Touched);
@@ -71,6 +73,7 @@ impl Update for FollowLeader {
                 Touched::Levels(letter) => follow_levels::<M>(page_side, letter),
                 Touched::Maker(cell, name) => follow_maker::<M>(page_side, cell, name),
                 Touched::Makers => rank_side::<M>(page_side),
+                Touched::Status => {}
             }
             page.publish::<M>(side);
         }

@@ -6,7 +6,7 @@ use crate::terms::{BLOCK_MAX, MESSAGE_MIN};
 
 /// First and last byte of each field that all messages have.
 const HEADER: [(usize, usize); 6] = [(0, 0), (1, 1), (2, 2), (3, 3), (4, 11), (12, 19)];
-/// The symbol of Q K, Q M, Q T and Q U.
+/// The symbol of Q K, Q M, Q T, Q U and T S.
 const SYMBOL: (usize, usize) = (20, 30);
 /// Condition, prices and sizes of Q K and Q U.
 const ROUND: [(usize, usize); 5] = [(31, 31), (32, 39), (40, 43), (44, 51), (52, 55)];
@@ -15,6 +15,8 @@ const ROUND_LOT: [(usize, usize); 4] = [(56, 56), (57, 57), (58, 58), (59, 59)];
 /// Clear, counts and zeros of Q M and Q T.
 const ODD_LOT: [(usize, usize); 5] = [(31, 31), (32, 32), (33, 33), (34, 34), (35, 35)];
 const MAKER: (usize, usize) = (56, 59);
+/// The status of T S.
+const STATUS: (usize, usize) = (31, 31);
 
 /// Every field of a message, by its type.
 fn fields(message: &[u8]) -> Vec<(usize, usize)> {
@@ -38,6 +40,7 @@ fn fields(message: &[u8]) -> Vec<(usize, usize)> {
             fields.extend(ROUND);
             fields.push(MAKER);
         }
+        b"TS" => fields.extend([SYMBOL, STATUS]),
         _ => {}
     }
     for item in (items..message.len()).step_by(12) {
@@ -48,7 +51,7 @@ fn fields(message: &[u8]) -> Vec<(usize, usize)> {
 }
 
 /// Bytes at the borders of the checks.
-const BYTES: &[u8] = b"\x00\x01\x04\x05\x1f !ABCDKLMNRSTUXZ[a~\x7f\x80\xff";
+const BYTES: &[u8] = b"\x00\x01\x04\x05\x1f !ABCDHKLMNRSTUXZ[a~\x7f\x80\xff";
 
 /// Damages one field of a message, or its length. The message keeps its 20 bytes.
 pub fn damage_message(random: &mut Random, message: &mut Vec<u8>) {

@@ -4,13 +4,16 @@ use super::pools::{Symbol, Theme};
 use super::random::Random;
 use super::{Generator, Source};
 use crate::build::{
-    finra_odd_lot, header, maker_quote, odd_lot, round_lot, test, Odd, Round, Shown,
+    finra_odd_lot, header, maker_quote, odd_lot, round_lot, test, trading_status, Odd, Round, Shown,
 };
 use crate::terms::FINRA;
 
 impl Generator {
     /// A quote that belongs on a line of this letter, seldom one that does not.
     pub(super) fn quote_message(&mut self, letter: u8) -> Vec<u8> {
+        if self.random.percent(self.theme.statuses()) {
+            return self.status_message(letter);
+        }
         let misplaced = self.random.percent(3);
         let of_finra = (letter == FINRA) != misplaced;
         let (symbol, round_lot_shares) = self.draw_symbol();
@@ -32,6 +35,25 @@ impl Generator {
             return round_lot(&round, &odd);
         }
         round_lot(&round, &Odd::IDLE)
+    }
+
+    /// A status, mostly of a symbol whose primary letter this is. Halts are short: trading comes
+    /// more often.
+    fn status_message(&mut self, letter: u8) -> Vec<u8> {
+        let of_letter = |listed: &&(Symbol, u32, u8)| listed.2 == letter;
+        let own: Vec<Symbol> = self
+            .listed
+            .iter()
+            .filter(of_letter)
+            .map(|own| own.0)
+            .collect();
+        let symbol = if own.is_empty() || self.random.percent(15) {
+            self.draw_symbol().0
+        } else {
+            self.random.pick(&own)
+        };
+        let status = self.random.usually(92, b"HHTTT", b"htDRS \x00\xff");
+        trading_status(letter, self.draw_time(), symbol, status)
     }
 
     fn maker_message(&mut self, letter: u8, symbol: Symbol) -> Vec<u8> {
@@ -62,7 +84,8 @@ impl Generator {
         if self.listed.is_empty() || self.random.percent(3) {
             return (self.random.pick(&self.pools.symbols), 100);
         }
-        self.random.pick(&self.listed)
+        let (symbol, round_lot, _) = self.random.pick(&self.listed);
+        (symbol, round_lot)
     }
 
     fn draw_time(&mut self) -> u64 {

@@ -72,7 +72,8 @@ struct Generator {
     setup: VecDeque<Call>,
     book: Engine,
     lines: Vec<OpenLine>,
-    listed: Vec<(Symbol, u32)>,
+    /// The listed symbols with their round lots and primary letters.
+    listed: Vec<(Symbol, u32, u8)>,
     day_open: bool,
     /// The last sides drawn for a letter or a maker, and a symbol.
     quoted: BTreeMap<(Source, Symbol), [Shown; 2]>,
@@ -119,6 +120,7 @@ impl Generator {
             self.setup.push_back(Call::AddSymbol {
                 symbol: self.pools.symbols[at].to_vec(),
                 round_lot: self.random.pick(&[1, 10, 25, 50, 100, 100]),
+                primary: self.random.pick(&self.pools.letters),
             });
         }
         for letter in self.pools.letters.clone() {
@@ -179,6 +181,7 @@ impl Generator {
         Call::AddSymbol {
             symbol: self.draw_symbol_argument(),
             round_lot: self.random.usually(75, &ROUND_LOTS, &wrong),
+            primary: self.random.usually(75, b"ADNPZ", b"S@[anz \x00\xff"),
         }
     }
 
@@ -228,10 +231,14 @@ impl Generator {
                     self.set_up();
                 }
             }
-            Call::AddSymbol { symbol, round_lot } => {
-                let number = self.book.add_symbol(symbol, *round_lot);
+            Call::AddSymbol {
+                symbol,
+                round_lot,
+                primary,
+            } => {
+                let number = self.book.add_symbol(symbol, *round_lot, *primary);
                 if let (number::DONE, Ok(symbol)) = (number, symbol[..].try_into()) {
-                    self.listed.push((symbol, *round_lot));
+                    self.listed.push((symbol, *round_lot, *primary));
                 }
             }
             Call::OpenLine { line, letter } => {

@@ -79,6 +79,14 @@ impl Theme {
         }
     }
 
+    /// Statuses in a hundred of all messages but control messages.
+    pub fn statuses(self) -> usize {
+        match self {
+            Theme::Makers | Theme::Levels => 3,
+            _ => 5,
+        }
+    }
+
     /// Q M in a hundred of Q K and Q M, and Q T in a hundred of Q U and Q T.
     pub fn odd_lots(self) -> usize {
         match self {

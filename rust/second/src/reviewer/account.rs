@@ -1,6 +1,6 @@
 //! What the history gives for one symbol: quotes, makers and levels, each worked out anew.
 
-use super::fields::{maker_of, symbol_of, time_of, Kind, OddPart, Quote, Side};
+use super::fields::{maker_of, status_of, symbol_of, time_of, Kind, OddPart, Quote, Side};
 
 /// The messages of the history that bear on one symbol, in their order: those that name it, and
 /// every FINRA Close and Open.
@@ -60,6 +60,14 @@ impl<'a> Account<'a> {
         Account {
             messages: history.iter().map(Vec::as_slice).filter(bears).collect(),
         }
+    }
+
+    /// "Recomputing from history takes the last accepted status into account." Without one the symbol
+    /// trades.
+    pub fn is_halted(&self) -> bool {
+        let is_status = |message: &&&[u8]| Kind::of(message) == Some(Kind::Status);
+        let last = self.messages.iter().rev().find(is_status);
+        last.is_some_and(|message| status_of(message) == b'H')
     }
 
     /// "A letter's quote is its last round part naming the symbol."

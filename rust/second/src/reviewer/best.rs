@@ -101,8 +101,11 @@ fn national_candidate(account: &Account, side: Side, letter: u8) -> Option<Candi
 
 /// "Does any national candidate stand with a bid at or above a given price (or an offer at or
 /// below)? Letters are looked at from A, and the search stops at the first that answers yes." Yes
-/// or no, and the letters looked at.
+/// or no, and the letters looked at. Of a halted symbol "T-06 says no with 26".
 pub fn protection(account: &Account, side: Side, price: u64) -> (bool, u8) {
+    if account.is_halted() {
+        return (false, 26);
+    }
     let mut looked = 0;
     for letter in b'A'..=b'Z' {
         looked += 1;
@@ -158,16 +161,25 @@ fn odd_best(account: &Account, side: Side) -> Option<Candidate> {
     best(side, candidates)
 }
 
-/// The 96 bytes: national bid, offer, FINRA bid, offer, odd bid, offer.
+/// The 96 bytes: national bid, offer, FINRA bid, offer, odd bid, offer. "While a symbol is halted all
+/// six entries are worked out as none."
 pub fn publication(account: &Account) -> [u8; PUBLICATION_LEN] {
-    let entries = [
-        national_best(account, Side::Bid),
-        national_best(account, Side::Offer),
-        finra_best(account, Side::Bid).map(|(best, _)| best),
-        finra_best(account, Side::Offer).map(|(best, _)| best),
-        odd_best(account, Side::Bid),
-        odd_best(account, Side::Offer),
-    ];
+    let worked_out = || {
+        [
+            national_best(account, Side::Bid),
+            national_best(account, Side::Offer),
+            finra_best(account, Side::Bid).map(|(best, _)| best),
+            finra_best(account, Side::Offer).map(|(best, _)| best),
+            odd_best(account, Side::Bid),
+            odd_best(account, Side::Offer),
+        ]
+    };
+    let halted = account.is_halted();
+    let entries = if halted {
+        Default::default()
+    } else {
+        worked_out()
+    };
     let mut bytes = Vec::new();
     for entry in entries {
         match entry {

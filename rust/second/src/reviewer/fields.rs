@@ -2,7 +2,7 @@
 
 use crate::terms::SYMBOL_LEN;
 
-/// The nine types of messages.
+/// The ten types of messages.
 #[derive(Clone, Copy, PartialEq, Eq, Debug)]
 pub enum Kind {
     Inquiry,
@@ -14,6 +14,7 @@ pub enum Kind {
     OddLot,
     FinraOddLot,
     Maker,
+    Status,
 }
 
 impl Kind {
@@ -29,6 +30,7 @@ impl Kind {
             b"QM" => Some(Kind::OddLot),
             b"QT" => Some(Kind::FinraOddLot),
             b"QU" => Some(Kind::Maker),
+            b"TS" => Some(Kind::Status),
             _ => None,
         }
     }
@@ -49,7 +51,9 @@ pub fn time_of(message: &[u8]) -> u64 {
 /// The symbol that a message names, if its type has one and it is long enough.
 pub fn symbol_of(message: &[u8]) -> Option<&[u8]> {
     match Kind::of(message)? {
-        Kind::RoundLot | Kind::OddLot | Kind::FinraOddLot | Kind::Maker => message.get(20..31),
+        Kind::RoundLot | Kind::OddLot | Kind::FinraOddLot | Kind::Maker | Kind::Status => {
+            message.get(20..31)
+        }
         _ => None,
     }
 }
@@ -120,6 +124,11 @@ impl Quote {
         let shown = self.side(side);
         shown.price > 0 && shown.size > 0 && self.admits(side)
     }
+}
+
+/// The status of a T S: H for halted, T for trading.
+pub fn status_of(message: &[u8]) -> u8 {
+    message[31]
 }
 
 /// The four bytes of the maker in a Q U.

@@ -1,7 +1,9 @@
-//! The participant checks 40 to 64, as the reviewer makes them.
+//! The participant checks, as the reviewer makes them.
 
 use super::account::{Account, Level};
-use super::fields::{is_maker, is_symbol, maker_of, symbol_of, Kind, OddPart, Quote, Side};
+use super::fields::{
+    is_maker, is_symbol, maker_of, status_of, symbol_of, Kind, OddPart, Quote, Side,
+};
 use super::Listed;
 use crate::terms::{code, FINRA, LEVELS_MAX, MAKERS_MAX};
 
@@ -27,7 +29,7 @@ pub fn code(letter: u8, message: &[u8], symbols: &[Listed], history: &[Vec<u8>])
     let belongs = match kind {
         Kind::FinraClose | Kind::FinraOpen | Kind::Maker | Kind::FinraOddLot => letter == FINRA,
         Kind::RoundLot | Kind::OddLot => letter != FINRA,
-        Kind::Inquiry | Kind::Integrity | Kind::Test => true,
+        Kind::Inquiry | Kind::Integrity | Kind::Test | Kind::Status => true,
     };
     if !belongs {
         return code::WRONG_LINE;
@@ -51,6 +53,7 @@ pub fn code(letter: u8, message: &[u8], symbols: &[Listed], history: &[Vec<u8>])
             Some(fault) => fault,
             None => maker_code(message, &account),
         },
+        Kind::Status => status_code(message, letter, listed.primary),
         _ => odd_part_code(message, letter, listed.round_lot, &account),
     }
 }
@@ -67,6 +70,7 @@ fn has_its_length(kind: Kind, message: &[u8]) -> bool {
         Kind::RoundLot => 60 + 12 * items(57),
         Kind::OddLot | Kind::FinraOddLot => 36 + 12 * items(32),
         Kind::Maker => 60,
+        Kind::Status => 32,
     };
     message.len() == length
 }
@@ -103,6 +107,17 @@ fn maker_code(message: &[u8], account: &Account) -> u8 {
     let is_new = account.maker(maker).is_none();
     if !Quote::of(message).is_empty() && is_new && account.makers().len() >= MAKERS_MAX {
         return code::MAKERS_FULL;
+    }
+    code::ACCEPTED
+}
+
+/// "76 line's letter not the primary, then 77 status."
+fn status_code(message: &[u8], letter: u8, primary: u8) -> u8 {
+    if letter != primary {
+        return code::NOT_PRIMARY;
+    }
+    if !b"HT".contains(&status_of(message)) {
+        return code::STATUS;
     }
     code::ACCEPTED
 }

@@ -1,7 +1,7 @@
 //! The reviewer of document 01 ("The reviewer's history").
 //!
-//! It holds n, the symbols with their round lots, the lines, the day and a history: the bytes of
-//! each accepted message, and of a partly accepted Q K its round part. It keeps no quotes, makers,
+//! It holds n, the symbols with their round lots and primary letters, the lines, the day and a
+//! history: the bytes of each accepted message, and of a partly accepted Q K its round part. It keeps no quotes, makers,
 //! levels or entries. Whatever it answers is worked out anew from the history, by the plainest way.
 
 mod account;
@@ -30,6 +30,7 @@ pub struct Reviewer {
 struct Listed {
     symbol: Vec<u8>,
     round_lot: u32,
+    primary: u8,
 }
 
 /// A line's record; a line without a letter is not open.
@@ -116,6 +117,11 @@ fn changes(before: &[[u8; PUBLICATION_LEN]], after: &[[u8; PUBLICATION_LEN]]) ->
     flags
 }
 
+/// "Letters are A to Z without S."
+fn is_letter(byte: u8) -> bool {
+    byte.is_ascii_uppercase() && byte != b'S'
+}
+
 impl QuoteBook for Reviewer {
     fn make(&mut self, n: u32) -> u8 {
         if !(1..=64).contains(&n) {
@@ -132,12 +138,15 @@ impl QuoteBook for Reviewer {
         number::DONE
     }
 
-    fn add_symbol(&mut self, symbol: &[u8], round_lot: u32) -> u8 {
+    fn add_symbol(&mut self, symbol: &[u8], round_lot: u32, primary: u8) -> u8 {
         if !is_symbol(symbol) {
             return number::SYMBOL_MALFORMED;
         }
         if !ROUND_LOTS.contains(&round_lot) {
             return number::ROUND_LOT;
+        }
+        if !is_letter(primary) {
+            return number::PRIMARY;
         }
         if self.listed(symbol).is_some() {
             return number::SYMBOL_LISTED;
@@ -148,12 +157,13 @@ impl QuoteBook for Reviewer {
         self.symbols.push(Listed {
             symbol: symbol.to_vec(),
             round_lot,
+            primary,
         });
         number::DONE
     }
 
     fn open_line(&mut self, line: u32, letter: u8) -> u8 {
-        if line > 63 || !letter.is_ascii_uppercase() || letter == b'S' {
+        if line > 63 || !is_letter(letter) {
             return number::LINE_OR_LETTER;
         }
         let record = &mut self.lines[line as usize];

@@ -29,8 +29,8 @@ pub fn none() -> Entry {
     entry("", 0, 0)
 }
 
-/// A book of four symbols with ZT (round lot 100) and YY (round lot 10), lines for A, N, P and D,
-/// and an open day.
+/// A book of four symbols with ZT (round lot 100, primary letter N) and YY (round lot 10, primary
+/// letter P), lines for A, N, P and D, and an open day.
 pub struct Desk {
     pub book: Box<dyn QuoteBook>,
 }
@@ -40,8 +40,8 @@ pub fn each_desk(case: impl Fn(&mut Desk)) {
     for (name, fresh) in BOOKS {
         println!("{name}");
         let mut book = fresh(4);
-        assert_eq!(book.add_symbol(&build::symbol("ZT"), 100), 0);
-        assert_eq!(book.add_symbol(&build::symbol("YY"), 10), 0);
+        assert_eq!(book.add_symbol(&build::symbol("ZT"), 100, b'N'), 0);
+        assert_eq!(book.add_symbol(&build::symbol("YY"), 10, b'P'), 0);
         for (line, letter) in [(A, b'A'), (N, b'N'), (P, b'P'), (D, b'D')] {
             assert_eq!(book.open_line(line, letter), 0);
         }
@@ -183,6 +183,11 @@ pub fn odd_lot(line: u32, odd: &Odd) -> Vec<u8> {
 /// Q T for ZT at time 7.
 pub fn finra_odd_lot(line: u32, odd: &Odd) -> Vec<u8> {
     build::finra_odd_lot(letter(line), 7, build::symbol("ZT"), odd)
+}
+
+/// T S of a symbol at time 7.
+pub fn status(line: u32, symbol: &str, status: u8) -> Vec<u8> {
+    build::trading_status(letter(line), 7, build::symbol(symbol), status)
 }
 
 /// A message with some bytes replaced.

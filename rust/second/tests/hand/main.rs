@@ -11,6 +11,7 @@ mod cases;
 mod closed;
 mod entries;
 mod finra_odd_lots;
+mod halts;
 mod leading;
 mod line;
 mod messages;

@@ -43,7 +43,7 @@ fn faults_of_a_round_lot_in_their_order() {
 fn types_are_bytes() {
     each_desk(|desk| {
         for pair in [
-            b"Qt", b"qk", b"Qk", b"KQ", b"C?", b"c5", b"C\x05", b"TS", b"\0\0",
+            b"Qt", b"qk", b"Qk", b"KQ", b"C?", b"c5", b"C\x05", b"TT", b"\0\0",
         ] {
             assert_eq!(desk.code(N, with(two_sided(), 0, pair)), 40);
         }
@@ -228,7 +228,7 @@ fn round_lot_of_one_takes_removals_only() {
     for (name, fresh) in BOOKS {
         println!("{name}");
         let mut book = fresh(1);
-        assert_eq!(book.add_symbol(&build::symbol("ZT"), 1), 0);
+        assert_eq!(book.add_symbol(&build::symbol("ZT"), 1, b'N'), 0);
         assert_eq!((book.open_line(N, b'N'), book.start_day()), (0, 0));
         let mut code = |sequence, shares| {
             let message = odd_lot(N, &odd(b' ', &[(TEN, shares)], &[]));

@@ -47,13 +47,13 @@ fn a_later_make_needs_the_same_n() {
 fn add_checks_3_then_6_then_4_then_5() {
     each_fresh(1, |book| {
         let zt = build::symbol("ZT");
-        assert_eq!(book.add_symbol(b"zt         ", 7), 3);
-        assert_eq!(book.add_symbol(&zt, 7), 6);
-        assert_eq!(book.add_symbol(&zt, 100), 0);
-        assert_eq!(book.add_symbol(&zt, 7), 6);
-        assert_eq!(book.add_symbol(&zt, 10), 4);
-        assert_eq!(book.add_symbol(&build::symbol("YY"), 7), 6);
-        assert_eq!(book.add_symbol(&build::symbol("YY"), 10), 5);
+        assert_eq!(book.add_symbol(b"zt         ", 7, b'N'), 3);
+        assert_eq!(book.add_symbol(&zt, 7, b'N'), 6);
+        assert_eq!(book.add_symbol(&zt, 100, b'N'), 0);
+        assert_eq!(book.add_symbol(&zt, 7, b'N'), 6);
+        assert_eq!(book.add_symbol(&zt, 10, b'N'), 4);
+        assert_eq!(book.add_symbol(&build::symbol("YY"), 7, b'N'), 6);
+        assert_eq!(book.add_symbol(&build::symbol("YY"), 10, b'N'), 5);
     });
 }
 
@@ -64,10 +64,10 @@ fn round_lots() {
             .into_iter()
             .zip([1, 10, 25, 50, 100])
         {
-            assert_eq!(book.add_symbol(&build::symbol(letter), lot), 0);
+            assert_eq!(book.add_symbol(&build::symbol(letter), lot, b'N'), 0);
         }
         for lot in [0, 2, 24, 99, 101, 256 + 100, u32::MAX] {
-            assert_eq!(book.add_symbol(&build::symbol("F"), lot), 6);
+            assert_eq!(book.add_symbol(&build::symbol("F"), lot, b'N'), 6);
         }
     });
 }
@@ -97,11 +97,11 @@ fn symbols() {
         let mut publication = [0; 96];
         for symbol in right {
             assert_eq!(book.read(symbol, &mut publication), 10);
-            assert_eq!(book.add_symbol(symbol, 100), 0);
+            assert_eq!(book.add_symbol(symbol, 100, b'N'), 0);
             assert_eq!(book.read(symbol, &mut publication), 0);
         }
         for symbol in wrong {
-            assert_eq!(book.add_symbol(symbol, 100), 3);
+            assert_eq!(book.add_symbol(symbol, 100, b'N'), 3);
             assert_eq!(book.read(symbol, &mut publication), 10);
         }
     });
@@ -110,17 +110,17 @@ fn symbols() {
 #[test]
 fn sixty_four_symbols_keep_apart() {
     each_desk(|desk| {
-        assert_eq!(desk.book.add_symbol(&build::symbol("A"), 100), 0);
-        assert_eq!(desk.book.add_symbol(&build::symbol("AA"), 100), 0);
-        assert_eq!(desk.book.add_symbol(&build::symbol("B"), 100), 5);
+        assert_eq!(desk.book.add_symbol(&build::symbol("A"), 100, b'N'), 0);
+        assert_eq!(desk.book.add_symbol(&build::symbol("AA"), 100, b'N'), 0);
+        assert_eq!(desk.book.add_symbol(&build::symbol("B"), 100, b'N'), 5);
     });
     each_fresh(64, |book| {
         let symbols: Vec<_> = (0..64).map(|i| build::symbol(&format!("A{i}"))).collect();
         assert!(symbols
             .iter()
-            .all(|symbol| book.add_symbol(symbol, 100) == 0));
-        assert_eq!(book.add_symbol(&build::symbol("A64"), 100), 5);
-        assert_eq!(book.add_symbol(&symbols[63], 100), 4);
+            .all(|symbol| book.add_symbol(symbol, 100, b'N') == 0));
+        assert_eq!(book.add_symbol(&build::symbol("A64"), 100, b'N'), 5);
+        assert_eq!(book.add_symbol(&symbols[63], 100, b'N'), 4);
         assert_eq!((book.open_line(0, b'N'), book.start_day()), (0, 0));
         for (i, &symbol) in symbols.iter().enumerate() {
             let mut round = round(N, (TEN + i as u64, 1), NOTHING);

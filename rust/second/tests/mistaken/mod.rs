@@ -34,6 +34,9 @@ const BOOKS: &[(u8, Fresh)] = mistaken! {
     incremental: 88;
     engine: 89 90 91 92 93 94 95 96;
     incremental: 97 98;
+    engine:
+        99 100 101 102 103 104 105 106 107 108 109 110 111 112 113 114 115 116 117 118
+        119 120;
 };
 
 const LISTS: u64 = 400;

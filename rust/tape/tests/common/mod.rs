@@ -86,10 +86,11 @@ pub const N: u8 = 5;
 pub const P: u8 = 6;
 pub const D: u8 = 7;
 
-/// A tape of ZT (round lot 100) and YY (round lot 10) with lines for N, P and D.
+/// A tape of ZT (round lot 100, primary letter N) and YY (round lot 10, primary letter P) with lines
+/// for N, P and D.
 pub fn desk() -> Tape {
     Tape::new(
-        &[("ZT", 100), ("YY", 10)],
+        &[("ZT", 100, b'N'), ("YY", 10, b'P')],
         &[(N, b'N'), (P, b'P'), (D, b'D')],
     )
 }
@@ -129,4 +130,9 @@ pub fn odd_lot(letter: u8, odd: &Odd) -> Vec<u8> {
 /// Q T for ZT at time 7.
 pub fn finra_odd_lot(letter: u8, odd: &Odd) -> Vec<u8> {
     build::finra_odd_lot(letter, 7, build::symbol("ZT"), odd)
+}
+
+/// T S for ZT at time 7.
+pub fn status(letter: u8, status: u8) -> Vec<u8> {
+    build::trading_status(letter, 7, build::symbol("ZT"), status)
 }
