@@ -16,13 +16,13 @@ fn numbers_and_codes_are_those_of_the_documents() {
         .filter(|&byte| Number::try_from(byte).is_ok())
         .collect();
     let mut expected: Vec<u8> = (0..=12).collect();
-    expected.extend([20, 21, 30, 31, 32, 33, 34, 35, 70, 71, 72, 73, 74]);
+    expected.extend([20, 21, 30, 31, 32, 33, 34, 35, 70, 71, 72, 73, 74, 75]);
     assert_eq!(numbers, expected);
     let codes: Vec<u8> = (0..=255)
         .filter(|&byte| Code::try_from(byte).is_ok())
         .collect();
     let mut expected = vec![0];
-    expected.extend((40..=49).chain(60..=64));
+    expected.extend((40..=49).chain(60..=64).chain(76..=77));
     assert_eq!(codes, expected);
     assert_eq!(Number::try_from(13), Err(13));
     for (byte, case) in numbers.iter().zip(Number::ALL) {
