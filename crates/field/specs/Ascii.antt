@@ -5,6 +5,9 @@ use Prim.Native.Nat.{ℕ}
 abbrev pub space : ℕ
 space = 32
 
+abbrev pub four : ℕ
+four = 52
+
 abbrev pub five : ℕ
 five = 53
 

@@ -454,7 +454,8 @@ fn is_side_bad(l: Level) -> bool
     false
 }
 
-fn is_round_condition(condition: u8) -> bool
+/// Whether a Q K takes the condition.
+pub fn is_round_condition(condition: u8) -> bool
     ensures { λ r. ⌜ r ≡ member roundConditions condition ⌝ }
 {
     match condition {

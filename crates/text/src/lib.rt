@@ -73,8 +73,8 @@ pub fn is_upper(x: u8) -> bool
     x <= b'Z'
 }
 
-// Bytes from low to high, then spaces to the end.
-fn is_padded(s: &[u8], low: u8, high: u8) -> bool
+/// Bytes from low to high, then spaces to the end.
+pub fn is_padded(s: &[u8], low: u8, high: u8) -> bool
     ensures { λ r. ⌜ r ≡ padded low high (now (s .entry)) ⌝ }
 {
     for i in 0..s.len() {

@@ -1,0 +1,3 @@
+pub mod WalkLaws
+pub mod BlockLaws
+pub mod VenueCases
