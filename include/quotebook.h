@@ -5,7 +5,7 @@
  *
  * Duties of the caller, which no call can check:
  *   - every pointer is valid for the length passed with it, also for length 0: never a null pointer;
- *   - the buffers of one call do not overlap: book, symbol, messages, lengths, block, answer, report and publication lie apart;
+ *   - the buffers of one call do not overlap: book, symbol, messages, lengths, block, answer, report, publication and output lie apart;
  *   - nobody else reads or writes the book during a call that changes it. Several readers at once are fine.
  * Everything else is checked: any bytes of any length may be lent as book, symbol, block or messages, and any numbers as lengths. A
  * refused call changes no byte of the book and fills no buffer, but for the report, which says why.
@@ -28,6 +28,7 @@ enum {
     QB_PAGE_LEN = 6056,
     QB_SYMBOL_LEN = 11,
     QB_BLOCK_MAX = 1000,     /* no block is longer */
+    QB_RUN_MAX = 3600,       /* no run of blocks that a venue's block is converted to is longer */
     QB_ANSWER_LEN = 180,     /* at least: 4 bytes for each of up to 45 messages */
     QB_PUBLICATION_LEN = 96, /* at least: six entries */
     QB_ENTRY_LEN = 16
@@ -61,7 +62,10 @@ enum {
     QB_WRITE_CONTROL = 72,      /* write: a control message among others */
     QB_WRITE_SHORT = 73,        /* write: the output is shorter than the block */
     QB_SIDE = 74,               /* is protected: the side mark is not B or S */
-    QB_PRIMARY = 75             /* add: the primary letter is not A to Z without S */
+    QB_PRIMARY = 75,            /* add: the primary letter is not A to Z without S */
+    QB_VENUE_BLOCK = 78,        /* convert: the block breaks a rule of the venues' form */
+    QB_VENUE_UNPLACED = 79,     /* convert: a type, letter or condition without a place here, or a message too long for one block */
+    QB_CONVERT_SHORT = 80       /* convert: the output is shorter than the run */
 };
 
 /* Codes of messages, in the answer buffer. A Q K with 60 to 64 is partly accepted: its quote is in force, its odd lots did nothing. */
@@ -157,6 +161,18 @@ uint8_t qb_read(const uint8_t *book, size_t len, const uint8_t *symbol, size_t s
  * The book isn't changed; no day need be open. */
 uint8_t qb_is_protected(const uint8_t *book, size_t len, const uint8_t *symbol, size_t symbol_len,
                         uint8_t side, uint64_t price, uint64_t report[3]);
+
+/* Tells how many bytes qb_convert writes for a venue's own block: source document 000, 4.3 to 4.7, without the block separator.
+ * Answers 0, 1, 78, 79. report: number, bytes needed (0 after a refusal), QB_RUN_MAX at most; always filled. */
+uint8_t qb_convert_len(const uint8_t *book, size_t len, const uint8_t *block, size_t block_len, uint64_t report[2]);
+
+/* Writes a venue's own block as a run of blocks for qb_take_block, end to end, each with its length in its bytes 2-3. Round-lot sizes in
+ * shares become round lots of the symbols that the book lists, the rest dropped; a symbol that is not listed goes through undivided.
+ * The first block has the venue block's number, each next one the number that follows. Answers 0, 1, 78, 79, 80. The book isn't changed.
+ * output: the first report[1] bytes are filled; the bytes behind stay.
+ * report: number, bytes written (0 after a refusal); always filled. */
+uint8_t qb_convert(const uint8_t *book, size_t len, const uint8_t *block, size_t block_len,
+                   uint8_t *output, size_t output_len, uint64_t report[2]);
 
 /* Writes the block that carries count messages, laid end to end, under a sequence number. No book is needed. Answers 0, 71, 72, 73.
  * lengths: one for each message, messages_len in all.

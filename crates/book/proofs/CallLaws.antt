@@ -25,7 +25,7 @@ use Rattle.opening.specs.declared.LineState.{LineState}
 use Rattle.opening.specs.declared.LineState.the-variants.{Open, Closed}
 use Rattle.opening.specs.Opening.{symbolsOf, countOf, sound, lineBytes, linesIn, restIn, pagesIn, pagePlace, eachPage, freshBytes, restartLines, opened}
 use Rattle.line.specs.Line.{done}
-use Rattle.calls.specs.Call.{Call, make, add, openLine, startDay, endDay, read, protected, lots, numberOf, bare, answerOf, afterCall, makeGood, numberOn, answerOn, call}
+use Rattle.calls.specs.Call.{Call, make, add, openLine, startDay, endDay, read, protected, convertLen, convert, lots, numberOf, bare, answerOf, afterCall, makeGood, numberOn, answerOn, call}
 use Rattle.work.specs.Work.{isListed, listedOf}
 use Rattle.calls.specs.Call as calls
 use Rattle.book.specs.code.Day.{dayNumber}
@@ -47,6 +47,8 @@ bareCall endDay = true
 bareCall (calls.take i k room) = false
 bareCall (read s room) = false
 bareCall (protected s m x) = false
+bareCall (convertLen v) = false
+bareCall (convert v room) = false
 
 either : (t : Bool) (x : ℕ) → cond t (bare (cond t x 1)) (bare 1) ≡ bare (cond t x 1)
 either true x = refl
@@ -71,6 +73,8 @@ module _ (b : List ℕ) where
   bare-answer (calls.take i k room) p = clash (sym p)
   bare-answer (read s room) p = clash (sym p)
   bare-answer (protected s m x) p = clash (sym p)
+  bare-answer (convertLen v) p = clash (sym p)
+  bare-answer (convert v room) p = clash (sym p)
 
   module _ (c : Call) (plain : bareCall c ≡ true) where
     -- a refused call changes no byte

@@ -1,3 +1,4 @@
+pub mod ConvertLaws
 pub mod NumberLaws
 pub mod ProtectedLaws
 pub mod SoundLaws

@@ -20,7 +20,7 @@ use Rattle.update.proofs.TableLaws.{length-range}
 use Rattle.update.proofs.CellLaws.{member-below}
 use Rattle.opening.specs.Opening.{symbolsOf, countOf, sound, Rest, restIn, pageAt, pagesIn}
 use Rattle.line.specs.Line.{done}
-use Rattle.calls.specs.Call.{Call, make, add, openLine, startDay, endDay, take, read, protected, lots, sideMarks, numberOf, makeGood, isMake, numberOn}
+use Rattle.calls.specs.Call.{Call, make, add, openLine, startDay, endDay, take, read, protected, convertLen, convert, lots, sideMarks, numberOf, makeGood, isMake, numberOn}
 use Rattle.block.specs.Block.{answerLength}
 use Rattle.work.specs.Work.{Listed, isListed, listing, listedOf}
 use Rattle.opening.proofs.OpeningLaws.{Sound, sound-is}
@@ -71,6 +71,8 @@ module _ (n : ℕ) (b : List ℕ) (sd : Sound n b) where
   number-same (take i x k) = rw (sound-is n b sd)
   number-same (read x k) = rw (sound-is n b sd)
   number-same (protected x m v) = rw (sound-is n b sd)
+  number-same (convertLen x) = rw (sound-is n b sd)
+  number-same (convert x k) = rw (sound-is n b sd)
 
   rest-n : restIn b .n ≡ n
   unfolding restIn

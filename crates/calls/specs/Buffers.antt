@@ -1,11 +1,11 @@
--- What the two calls with buffers leave: the book's bytes or the report, and the buffer.
+-- What the calls with buffers leave: the book's bytes or the report, and the buffer.
 -- Assumes nothing.
 use Prim.Native.Nat.{ℕ}
 use mathlib.Core.List.{List}
 use lib.ListN.{length}
 use Rattle.field.specs.Field.{splice}
 use Rattle.calls.specs.declared.Report.{Report}
-use Rattle.calls.specs.Call.{Answer, call, take, read}
+use Rattle.calls.specs.Call.{Answer, call, take, read, convert}
 
 abbrev pub reportOf : Answer → Report
 reportOf a =
@@ -43,4 +43,18 @@ readOut b s publication =
     record {
       number = call b (read s (length publication)) .answer .number;
       publication = splice publication 0 (call b (read s (length publication)) .answer .publication);
+    }
+
+pub record RunOut : Type 0 where
+  pub number : ℕ
+  pub length : ℕ
+  pub output : List ℕ
+
+-- T-11: the number, the bytes written and the output after a conversion
+unfoldable pub runOut : List ℕ → List ℕ → List ℕ → RunOut
+runOut b v output =
+    record {
+      number = call b (convert v (length output)) .answer .number;
+      length = call b (convert v (length output)) .answer .amount;
+      output = splice output 0 (call b (convert v (length output)) .answer .output);
     }

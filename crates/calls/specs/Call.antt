@@ -19,11 +19,14 @@ use Rattle.entries.specs.Entries.{candidates, tradingCandidates}
 use Rattle.page.specs.Page.{occupied}
 use Rattle.protection.specs.Protection.{protection}
 use Rattle.protection.specs.declared.Protection.{Protection}
+use Rattle.block.specs.Written.{joined}
+use Rattle.venue.specs.Venue.{venueNumber}
+use Rattle.venuerun.specs.Run.{neededOf, convertNumber, venueRun}
 use Rattle.update.specs.Parts.{Reading, blankPage, emptied}
 use Rattle.opening.specs.declared.Line.{Line}
 use Rattle.opening.specs.Opening.{Rest, symbolsOf, countOf, sound, lineBytes, linesIn, restIn, pagesIn, setPage, eachPage, freshBytes, restartLines}
 use Rattle.told.specs.Told.{isAccepted, isPartly, isRejected, quads, tally}
-use Rattle.work.specs.Work.{Listed, findReading, isListed, listedOf, messagesOn, toldOn}
+use Rattle.work.specs.Work.{Listed, findReading, isListed, lotOf, listedOf, messagesOn, toldOn}
 use Rattle.told.specs.declared.Told.{Told}
 use Rattle.entries.specs.Publication.{publicationLength}
 use Rattle.opening.specs.Layout.{bookLength, lineAt, countAt, dayAt, lineCount, symbolsMost}
@@ -44,6 +47,9 @@ pub data Call : Type 0 where
   read : List ℕ → ℕ → Call
   -- T-06: the symbol's bytes, the side mark, the price
   protected : List ℕ → ℕ → ℕ → Call
+  -- T-11: a venue's block; and with it the output's length
+  convertLen : List ℕ → Call
+  convert : List ℕ → ℕ → Call
 
 -- ---- the number of a call, in checking order, from n, lines, day and the listed symbols
 
@@ -74,10 +80,12 @@ numberOf r ls endDay = cond (r .day) 0 12
 numberOf r ls (take i b room) = cond (ltb room answerLength) 9 (onLine (r .day) b (r .lines i))
 numberOf r ls (read s room) = cond (ltb room publicationLength) 9 (cond (isKnown ls s) 0 10)
 numberOf r ls (protected s m x) = cond (isKnown ls s) (cond (member sideMarks m) 0 74) 10
+numberOf r ls (convertLen v) = venueNumber v
+numberOf r ls (convert v room) = convertNumber v room
 
 -- ---- answers
 
--- the report of a block; the bytes that are filled: the answer buffer's and the publication's; the two numbers of a query's report
+-- the report of a block; the bytes that are filled: the answer buffer's, the publication's and the output's; the two numbers of a query's report
 pub record Answer : Type 0 where
   pub number : ℕ
   pub gap : ℕ
@@ -88,13 +96,15 @@ pub record Answer : Type 0 where
   pub rejected : ℕ
   pub answers : List ℕ
   pub publication : List ℕ
-  -- T-06: 1 for yes or 0 for no, and how many letters were looked at
+  -- T-06: 1 for yes or 0 for no, and how many letters were looked at; T-11: how many bytes the run has
   pub found : ℕ
   pub amount : ℕ
+  -- T-11: the run
+  pub output : List ℕ
 
 -- "carries its number, and no or 0 for all else"
 abbrev pub bare : ℕ → Answer
-bare k = record { number = k; gap = 0; expected = 0; count = 0; accepted = 0; partly = 0; rejected = 0; answers = []; publication = []; found = 0; amount = 0 }
+bare k = record { number = k; gap = 0; expected = 0; count = 0; accepted = 0; partly = 0; rejected = 0; answers = []; publication = []; found = 0; amount = 0; output = [] }
 
 abbrev pub report : ℕ → ℕ → Line → List Told → Answer
 report k gap r ts =
@@ -110,6 +120,7 @@ report k gap r ts =
       publication = [];
       found = 0;
       amount = 0;
+      output = [];
     }
 
 -- ---- a block's answer
@@ -122,13 +133,13 @@ lineAnswer k b ts (some r) = cond (done k) (report k (gapTold r b) (advanced r b
 
 abbrev pub published : ℕ → List ℕ → Answer
 published k p =
-    record { number = k; gap = 0; expected = 0; count = 0; accepted = 0; partly = 0; rejected = 0; answers = []; publication = cond (done k) p []; found = 0; amount = 0 }
+    record { number = k; gap = 0; expected = 0; count = 0; accepted = 0; partly = 0; rejected = 0; answers = []; publication = cond (done k) p []; found = 0; amount = 0; output = [] }
 
 -- ---- a query's answer
 
 abbrev pub queried : ℕ → ℕ → ℕ → Answer
 queried k found amount =
-    record { number = k; gap = 0; expected = 0; count = 0; accepted = 0; partly = 0; rejected = 0; answers = []; publication = []; found = found; amount = amount }
+    record { number = k; gap = 0; expected = 0; count = 0; accepted = 0; partly = 0; rejected = 0; answers = []; publication = []; found = found; amount = amount; output = [] }
 
 -- B asks of the bids, S of the offers
 abbrev pub askedSide : ℕ → Side
@@ -137,21 +148,32 @@ askedSide m = cond (eqb m B) Bid Offer
 abbrev pub protectionTold : ℕ → Protection → Answer
 protectionTold k t = queried k (cond (t .yes) 1 0) (t .looked)
 
+-- T-11: a run and its length
+abbrev pub runTold : ℕ → ℕ → List ℕ → Answer
+runTold k n run =
+    record { number = k; gap = 0; expected = 0; count = 0; accepted = 0; partly = 0; rejected = 0; answers = []; publication = []; found = 0; amount = n; output = run }
+
+-- "a symbol not listed goes through with its size undivided": its lot is 0
+abbrev pub listedLot : List Listed → ℕ → ℕ
+listedLot ls s = lotOf s ls
+
 abbrev pub letterOf : Option Line → ℕ
 letterOf none = 0
 letterOf (some x) = x .letter
 
--- ts: what is told of a block's messages, from the line's letter; p: the entries of a symbol; cs: its national candidates of a side, by letter.
+-- ls: the listed symbols; ts: what is told of a block's messages, from the line's letter; p: the entries of a symbol; cs: its national candidates of a side, by letter.
 -- Book and reviewer both answer through this
-unfoldable pub answerOf : Rest → (ℕ → List (List ℕ) → List Told) → (ℕ → List ℕ) → (ℕ → Side → ℕ → Option Candidate) → ℕ → Call → Answer
-answerOf r ts p cs k (make n) = bare k
-answerOf r ts p cs k (add s n l) = bare k
-answerOf r ts p cs k (openLine i l) = bare k
-answerOf r ts p cs k startDay = bare k
-answerOf r ts p cs k endDay = bare k
-answerOf r ts p cs k (take i b room) = cond (eqb k 9) (bare k) (lineAnswer k b (ts (letterOf (r .lines i)) (messagesOf b)) (r .lines i))
-answerOf r ts p cs k (read s room) = published k (p (be s))
-answerOf r ts p cs k (protected s m x) = cond (done k) (protectionTold k (protection (askedSide m) x (cs (be s) (askedSide m)))) (bare k)
+unfoldable pub answerOf : Rest → List Listed → (ℕ → List (List ℕ) → List Told) → (ℕ → List ℕ) → (ℕ → Side → ℕ → Option Candidate) → ℕ → Call → Answer
+answerOf r ls ts p cs k (make n) = bare k
+answerOf r ls ts p cs k (add s n l) = bare k
+answerOf r ls ts p cs k (openLine i l) = bare k
+answerOf r ls ts p cs k startDay = bare k
+answerOf r ls ts p cs k endDay = bare k
+answerOf r ls ts p cs k (take i b room) = cond (eqb k 9) (bare k) (lineAnswer k b (ts (letterOf (r .lines i)) (messagesOf b)) (r .lines i))
+answerOf r ls ts p cs k (read s room) = published k (p (be s))
+answerOf r ls ts p cs k (protected s m x) = cond (done k) (protectionTold k (protection (askedSide m) x (cs (be s) (askedSide m)))) (bare k)
+answerOf r ls ts p cs k (convertLen v) = cond (done k) (runTold k (neededOf v) []) (bare k)
+answerOf r ls ts p cs k (convert v room) = cond (done k) (runTold k (neededOf v) (joined (venueRun (listedLot ls) v))) (bare k)
 
 -- ---- the book's bytes
 
@@ -185,6 +207,8 @@ afterCall b endDay = splice b dayAt (0 ∷ [])
 afterCall b (take i k room) = advanceOn i k (linesIn b i) (messagesOn (letterOf (linesIn b i)) (messagesOf k) b)
 afterCall b (read s room) = b
 afterCall b (protected s m x) = b
+afterCall b (convertLen v) = b
+afterCall b (convert v room) = b
 
 -- 2: "n not 1 to 64 or wrong length"
 unfoldable pub makeGood : List ℕ → ℕ → Bool
@@ -200,6 +224,8 @@ isMake endDay = false
 isMake (take i k room) = false
 isMake (read s room) = false
 isMake (protected s m x) = false
+isMake (convertLen v) = false
+isMake (convert v room) = false
 
 abbrev pub madeNumber : List ℕ → Call → ℕ
 madeNumber b (make n) = cond (makeGood b n) 0 2
@@ -210,12 +236,14 @@ madeNumber b endDay = 0
 madeNumber b (take i k room) = 0
 madeNumber b (read s room) = 0
 madeNumber b (protected s m x) = 0
+madeNumber b (convertLen v) = 0
+madeNumber b (convert v room) = 0
 
 unfoldable pub numberOn : List ℕ → Call → ℕ
 numberOn b c = cond (isMake c) (madeNumber b c) (cond (sound b) (numberOf (restIn b) (listedOf (pagesIn b)) c) 1)
 
 abbrev pub answerOn : List ℕ → Call → Answer
-answerOn b c = cond (isMake c) (bare (numberOn b c)) (cond (sound b) (answerOf (restIn b) (toldOn b) (publishedOn b) (candidatesOn b) (numberOn b c) c) (bare 1))
+answerOn b c = cond (isMake c) (bare (numberOn b c)) (cond (sound b) (answerOf (restIn b) (listedOf (pagesIn b)) (toldOn b) (publishedOn b) (candidatesOn b) (numberOn b c) c) (bare 1))
 
 pub record Outcome : Type 0 where
   pub bytes : List ℕ

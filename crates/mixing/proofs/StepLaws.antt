@@ -94,6 +94,7 @@ report-quiet k gap r ts =
       publication = [];
       found = 0;
       amount = 0;
+      output = [];
     }
 
 line-quiet : (k : ℕ) (b : List ℕ) (ts : List Told) (o : Option Line) → withoutFlags (lineAnswer k b ts o) ≡ lineAnswer k b (map quiet ts) o

@@ -60,6 +60,7 @@ withoutFlags a =
       publication = a .publication;
       found = a .found;
       amount = a .amount;
+      output = a .output;
     }
 
 -- what line i is told, block by block, of the answers to a list of blocks: number, gap, next expected, count, counts and codes

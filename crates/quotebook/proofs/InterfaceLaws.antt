@@ -6,9 +6,9 @@ use mathlib.Core.Bool.{Bool, cond}
 use mathlib.Core.List.{List, [], _∷_}
 use borrow.Author.Tests.{le-leb, lt-leb}
 use Rattle.block.specs.Written.{Out, writtenOut}
-use Rattle.calls.specs.Buffers.{TakenBlock, taken}
-use Rattle.calls.specs.Call.{Outcome, queried, call, protected}
-use Rattle.quotebook.specs.Interface.{bookLen, numbered, takenNumbers, queryNumbers, protectedNumbers, outNumbers, writtenNumbers}
+use Rattle.calls.specs.Buffers.{TakenBlock, taken, RunOut, runOut}
+use Rattle.calls.specs.Call.{Outcome, queried, runTold, call, protected, convertLen}
+use Rattle.quotebook.specs.Interface.{bookLen, numbered, takenNumbers, queryNumbers, protectedNumbers, amountNumbers, lengthNumbers, runNumbers, convertedNumbers, outNumbers, writtenNumbers}
 use Rattle.opening.specs.Layout.{bookLength, symbolsMost}
 
 module _ (n : ℕ) where
@@ -36,3 +36,11 @@ pub query-told : (b s : List ℕ) (m x n y l : ℕ) (t : Bool) → y ≡ cond t 
     → record { number = n; report = n ∷ y ∷ l ∷ [] } ≡ protectedNumbers b s m x
 unfolding protectedNumbers
 query-told b s m x n y l t e h = rw e (ap (λ (o : Outcome). queryNumbers (o .answer)) h)
+
+pub length-numbered : (b v : List ℕ) (n l : ℕ) → record { bytes = b; answer = runTold n l [] } ≡ call b (convertLen v) → record { number = n; report = n ∷ l ∷ [] } ≡ lengthNumbers b v
+unfolding lengthNumbers
+length-numbered b v n l h = ap (λ (o : Outcome). amountNumbers (o .answer)) h
+
+pub run-numbered : (b v out : List ℕ) (o : RunOut) → o ≡ runOut b v out → runNumbers o ≡ convertedNumbers b v out
+unfolding convertedNumbers
+run-numbered b v out o h = ap runNumbers h

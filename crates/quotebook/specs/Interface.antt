@@ -6,8 +6,8 @@ use mathlib.Core.List.{List, [], _∷_}
 use lib.Dec.{leb}
 use Rattle.block.specs.Written.{Out, writtenOut}
 use Rattle.calls.specs.declared.Report.{Report}
-use Rattle.calls.specs.Buffers.{TakenBlock, taken}
-use Rattle.calls.specs.Call.{Answer, call, protected}
+use Rattle.calls.specs.Buffers.{TakenBlock, taken, RunOut, runOut}
+use Rattle.calls.specs.Call.{Answer, call, protected, convertLen}
 use Rattle.opening.specs.Layout.{bookLength, symbolsMost}
 
 -- 0 where n is not 1 to 64
@@ -54,3 +54,22 @@ queryNumbers a = record { number = a .number; report = a .number ∷ a .found �
 -- T-06
 unfoldable pub protectedNumbers : List ℕ → List ℕ → ℕ → ℕ → QueryNumbers
 protectedNumbers b s m x = queryNumbers (call b (protected s m x) .answer)
+
+-- T-11, the needed length: number, bytes
+abbrev pub amountNumbers : Answer → QueryNumbers
+amountNumbers a = record { number = a .number; report = a .number ∷ a .amount ∷ [] }
+
+unfoldable pub lengthNumbers : List ℕ → List ℕ → QueryNumbers
+lengthNumbers b v = amountNumbers (call b (convertLen v) .answer)
+
+pub record RunNumbers : Type 0 where
+  pub number : ℕ
+  pub report : List ℕ
+  pub output : List ℕ
+
+abbrev pub runNumbers : RunOut → RunNumbers
+runNumbers o = record { number = o .number; report = o .number ∷ o .length ∷ []; output = o .output }
+
+-- T-11, the run: number, bytes written
+unfoldable pub convertedNumbers : List ℕ → List ℕ → List ℕ → RunNumbers
+convertedNumbers b v output = runNumbers (runOut b v output)

@@ -3,7 +3,7 @@ ghost use mathlib.Core.Path.{_≡_};
 ghost use mathlib.Core.Bool.{cond};
 ghost use Rattle.calls.specs.Call.{bare, call, make, add, openLine, startDay, endDay};
 ghost use Rattle.calls.specs.Buffers.{readOut};
-ghost use Rattle.quotebook.specs.Interface.{bookLen, takenNumbers, protectedNumbers, writtenNumbers};
+ghost use Rattle.quotebook.specs.Interface.{bookLen, takenNumbers, protectedNumbers, writtenNumbers, lengthNumbers, convertedNumbers};
 use opening::Book;
 
 const OPENING: u64 = Book::OPENING_LEN as u64;
@@ -128,5 +128,30 @@ pub extern "C" fn qb_is_protected(
 {
     let told = query::is_protected(book, symbol, side, price);
     *report = [told.number as u64, one_for(told.yes), told.looked as u64];
+    told.number
+}
+
+/// The report's two numbers: number, bytes that `qb_convert` writes. The result is the number too.
+#[no_mangle]
+pub extern "C" fn qb_convert_len(book: &[u8], block: &[u8], report: &mut [u64; 2]) -> u8
+    ensures { λ r. ⌜ record { number = r; report = now (report .exit) } ≡ lengthNumbers (now (book .entry)) (now (block .entry)) ⌝ }
+{
+    let told = convert::convert_len(book, block);
+    *report = [told.number as u64, told.len as u64];
+    told.number
+}
+
+/// The report's two numbers: number, bytes written. The result is the number too.
+#[no_mangle]
+pub extern "C" fn qb_convert(
+    book: &[u8],
+    block: &[u8],
+    output: &mut [u8],
+    report: &mut [u64; 2],
+) -> u8
+    ensures { λ r. ⌜ record { number = r; report = now (report .exit); output = now (output .exit) } ≡ convertedNumbers (now (book .entry)) (now (block .entry)) (now (output .entry)) ⌝ }
+{
+    let told = convert::convert(book, block, output);
+    *report = [told.number as u64, told.len as u64];
     told.number
 }

@@ -16,7 +16,7 @@ use Rattle.update.proofs.EntryLaws.{bytes-every}
 use Rattle.opening.specs.declared.Line.{Line}
 use Rattle.opening.specs.Opening.{linesIn, restIn, pagesIn}
 use Rattle.line.specs.Line.{done}
-use Rattle.calls.specs.Call.{Call, make, add, openLine, startDay, endDay, take, read, protected, numberOf, Answer, bare, lineAnswer, published, askedSide, protectionTold, letterOf, answerOf, entriesIn, publishedOn, candidatesIn, candidatesOn, numberOn, answerOn, call}
+use Rattle.calls.specs.Call.{Call, make, add, openLine, startDay, endDay, take, read, protected, convertLen, convert, numberOf, Answer, bare, lineAnswer, published, askedSide, protectionTold, letterOf, answerOf, entriesIn, publishedOn, candidatesIn, candidatesOn, numberOn, answerOn, call}
 use Rattle.work.specs.Work.{Listed, isListed, findReading, listedOf, toldOn}
 use Rattle.opening.proofs.OpeningLaws.{Sound, sound-is}
 use Rattle.opening.proofs.LineLaws.{line-upper, line-open}
@@ -54,8 +54,8 @@ module _ (n : ℕ) (b : List ℕ) (h : List (List ℕ)) (sd : Sound n b) (y : By
       ∙ told-same (r .letter) ls (messagesOf x) h (pagesIn b) refl c
 
   answer-same : (k : Call) → blockIsBytes k ≡ true
-      → answerOf (restIn b) (toldOn b) (publishedOn b) (candidatesOn b) (numberOf (restIn b) ls k) k
-      ≡ answerOf (restIn b) (toldR ls h) (reviewed h) (candidatesR h) (numberOf (restIn b) ls k) k
+      → answerOf (restIn b) ls (toldOn b) (publishedOn b) (candidatesOn b) (numberOf (restIn b) ls k) k
+      ≡ answerOf (restIn b) ls (toldR ls h) (reviewed h) (candidatesR h) (numberOf (restIn b) ls k) k
   unfolding answerOf restIn
   answer-same (make k) z = refl
   answer-same (add x l m) z = refl
@@ -85,8 +85,10 @@ module _ (n : ℕ) (b : List ℕ) (h : List (List ℕ)) (sd : Sound n b) (y : By
           ≡ cond t (told (candidatesR h (be x))) (bare (numberOf (restIn b) ls (protected x m v)))
       go true e = ap told (candidates-same (be x) (protected-done (restIn b) ls x m v e .1))
       go false e = refl
+  answer-same (convertLen x) z = refl
+  answer-same (convert x k) z = refl
 
-  answer-sound : (k : Call) → answerOn b k ≡ answerOf (restIn b) (toldOn b) (publishedOn b) (candidatesOn b) (numberOn b k) k
+  answer-sound : (k : Call) → answerOn b k ≡ answerOf (restIn b) ls (toldOn b) (publishedOn b) (candidatesOn b) (numberOn b k) k
   unfolding answerOf
   answer-sound (make k) = refl
   answer-sound (add x l m) = rw (sound-is n b sd)
@@ -96,10 +98,12 @@ module _ (n : ℕ) (b : List ℕ) (h : List (List ℕ)) (sd : Sound n b) (y : By
   answer-sound (take i x k) = rw (sound-is n b sd)
   answer-sound (read x k) = rw (sound-is n b sd)
   answer-sound (protected x m v) = rw (sound-is n b sd)
+  answer-sound (convertLen x) = rw (sound-is n b sd)
+  answer-sound (convert x k) = rw (sound-is n b sd)
 
   answer-view : (k : Call) → blockIsBytes k ≡ true → answerOn b k ≡ reviewAnswer (viewOf b h) k
   unfolding reviewAnswer
-  answer-view k z = answer-sound k ∙ ap (λ (q : ℕ). answerOf (restIn b) (toldOn b) (publishedOn b) (candidatesOn b) q k) (number-same n b sd k) ∙ answer-same k z
+  answer-view k z = answer-sound k ∙ ap (λ (q : ℕ). answerOf (restIn b) ls (toldOn b) (publishedOn b) (candidatesOn b) q k) (number-same n b sd k) ∙ answer-same k z
 
 pub call-answer : (n : ℕ) (b : List ℕ) (v : Review) (k : Call) → blockIsBytes k ≡ true → Agrees n b v → call b k .answer ≡ reviewAnswer v k
 unfolding call

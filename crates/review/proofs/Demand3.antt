@@ -16,8 +16,9 @@ use Rattle.lists.proofs.Members.{In}
 use Rattle.entries.specs.Entries.{entriesOf, unlessHalted}
 use Rattle.entries.proofs.LengthLaws.{length-publication}
 use Rattle.line.specs.Line.{done}
-use Rattle.calls.specs.Call.{Call, make, read, protected, numberOf, call, answers, bytesAfter}
+use Rattle.calls.specs.Call.{Call, make, read, protected, convertLen, convert, numberOf, call, answers, bytesAfter}
 use Rattle.calls.proofs.ProtectedLaws.{protected-keeps}
+use Rattle.calls.proofs.ConvertLaws.{length-keeps, convert-keeps}
 use Rattle.work.specs.Work.{Listed}
 use Rattle.review.specs.Reviewer.{quoteOf, makersOf, levelsOf, haltedOf, parts, reviewedBy, reviewed, Review, freshReview, restAfter, symbolsAfter, historyAfter, reviewCall, reviewAnswers, reviewAfter}
 use Rattle.review.specs.Lists.{blocksAreBytes}
@@ -64,6 +65,17 @@ numbers-known b c = ap (member (numbersOf c)) (number-told b c) ∙ number-known
 pub query-alters-nothing : (b : List ℕ) (v : Review) (s : List ℕ) (m x : ℕ) → (call b (protected s m x) .bytes ≡ b) × (reviewCall v (protected s m x) ≡ v)
 unfolding reviewCall restAfter symbolsAfter historyAfter
 query-alters-nothing b v s m x = (protected-keeps b s m x, go (done (numberOf (v .rest) (v .symbols) (protected s m x))))
+  where
+    go : (t : Bool) → cond t v v ≡ v
+    go true = refl
+    go false = refl
+
+-- nor does a conversion, nor the question for its length
+pub conversion-alters-nothing : (b : List ℕ) (v : Review) (x : List ℕ) (room : ℕ)
+    → (call b (convertLen x) .bytes ≡ b) × (call b (convert x room) .bytes ≡ b) × (reviewCall v (convertLen x) ≡ v) × (reviewCall v (convert x room) ≡ v)
+unfolding reviewCall restAfter symbolsAfter historyAfter
+conversion-alters-nothing b v x room =
+    (length-keeps b x, convert-keeps b x room, go (done (numberOf (v .rest) (v .symbols) (convertLen x))), go (done (numberOf (v .rest) (v .symbols) (convert x room))))
   where
     go : (t : Bool) → cond t v v ≡ v
     go true = refl

@@ -33,6 +33,7 @@ pub mod Times
 pub mod FinraOddLots
 pub mod Closed
 pub mod Leading
+pub mod Conversions
 pub mod Openings
 pub mod Statements
 pub mod BookCases

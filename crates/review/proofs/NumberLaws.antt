@@ -27,10 +27,12 @@ use Rattle.block.specs.declared.Arrival.the-variants.{Taken, Duplicate}
 use Rattle.opening.specs.declared.Line.{Line}
 use Rattle.opening.specs.Opening.{sound, Rest, restIn, pagesIn}
 use Rattle.line.specs.Line.{arrivalNumberOf, lineNumber, checkedNumberOf, blockNumber, onLine}
-use Rattle.calls.specs.Call.{Call, make, add, openLine, startDay, endDay, take, read, protected, lots, sideMarks, numberOf, makeGood, isMake, numberOn}
+use Rattle.calls.specs.Call.{Call, make, add, openLine, startDay, endDay, take, read, protected, convertLen, convert, lots, sideMarks, numberOf, makeGood, isMake, numberOn}
 use Rattle.work.specs.Work.{Listed, isListed, listedOf}
 use Rattle.review.specs.Numbers.{numbersOf, codes}
 use Rattle.entries.specs.Publication.{publicationLength}
+use Rattle.venue.specs.Venue.{venueCount, venueSequence, blockGood, venueMessages, messagesGood, messagesPlaced, venueNumber}
+use Rattle.venuerun.specs.Run.{neededOf, convertNumber}
 use Rattle.opening.specs.Layout.{lineCount}
 use Rattle.page.specs.Layout.{makerCount}
 
@@ -140,6 +142,20 @@ module _ (i : ℕ) (b : List ℕ) (room : ℕ) where
   on-known day none = among refl
   on-known day (some r) = block-known r day
 
+-- a venue's block
+venue-among : (ns : List ℕ) (v : List ℕ) → Among ns 0 → Among ns 79 → Among ns 78 → Among ns (venueNumber v)
+unfolding venueNumber
+venue-among ns v x y z = either (blockGood v && messagesGood (venueCount v) (venueSequence v) 0 (venueMessages v)) (either (messagesPlaced (venueMessages v)) x y) z
+
+venue-known : (v : List ℕ) → Among (numbersOf (convertLen v)) (venueNumber v)
+unfolding member
+venue-known v = venue-among (numbersOf (convertLen v)) v (among refl) (among refl) (among refl)
+
+convert-known : (v : List ℕ) (room : ℕ) → Among (numbersOf (convert v room)) (convertNumber v room)
+unfolding member convertNumber
+convert-known v room =
+    either (eqb (venueNumber v) 0) (either (ltb room (neededOf v)) (among refl) (among refl)) (venue-among (numbersOf (convert v room)) v (among refl) (among refl) (among refl))
+
 number-of : (r : Rest) (ls : List Listed) (c : Call) → Among (numbersOf c) (numberOf r ls c)
 unfolding numberOf member
 number-of r ls (make n) = either (eqb n (r .n)) (among refl) (among refl)
@@ -155,6 +171,8 @@ number-of r ls endDay = either (r .day) (among refl) (among refl)
 number-of r ls (take i b room) = either (ltb room answerLength) (among refl) (on-known i b room (r .day) (r .lines i))
 number-of r ls (read s room) = either (ltb room publicationLength) (among refl) (either (symbolGood s && isListed (be s) ls) (among refl) (among refl))
 number-of r ls (protected s m x) = either (symbolGood s && isListed (be s) ls) (either (member sideMarks m) (among refl) (among refl)) (among refl)
+number-of r ls (convertLen v) = venue-known v
+number-of r ls (convert v room) = convert-known v room
 
 sounded : (b : List ℕ) (c : Call) → isMake c ≡ false → member (numbersOf c) 1 ≡ true → Among (numbersOf c) (numberOn b c)
 unfolding numberOn
@@ -170,6 +188,8 @@ known-of b endDay = sounded b endDay refl refl
 known-of b (take i x room) = sounded b (take i x room) refl refl
 known-of b (read s room) = sounded b (read s room) refl refl
 known-of b (protected s m x) = sounded b (protected s m x) refl refl
+known-of b (convertLen v) = sounded b (convertLen v) refl refl
+known-of b (convert v room) = sounded b (convert v room) refl refl
 
 -- the number of a call is one of document 01's, on any bytes
 pub number-known : (b : List ℕ) (c : Call) → member (numbersOf c) (numberOn b c) ≡ true

@@ -15,19 +15,21 @@ use Rattle.ranking.specs.declared.Candidate.{Candidate}
 use Rattle.levels.specs.Levels.{Standing, Odd, oddOn, fifth, oddCode}
 use Rattle.protection.specs.Protection.{protection}
 use Rattle.block.specs.Block.{messagesOf}
+use Rattle.block.specs.Written.{joined}
+use Rattle.venuerun.specs.Run.{neededOf, venueRun}
 use Rattle.opening.specs.declared.Line.{Line}
-use Rattle.opening.specs.Opening.{sound, Rest, restIn}
+use Rattle.opening.specs.Opening.{sound, Rest, restIn, pagesIn}
 use Rattle.line.specs.Line.{done, gapTold, advanced}
-use Rattle.calls.specs.Call.{Call, make, add, openLine, startDay, endDay, take, read, protected, Answer, bare, protectionTold, askedSide, report, lineAnswer, letterOf, answerOf, publishedOn, candidatesOn, makeGood, isMake, numberOn, call}
+use Rattle.calls.specs.Call.{Call, make, add, openLine, startDay, endDay, take, read, protected, convertLen, convert, Answer, bare, protectionTold, askedSide, report, lineAnswer, runTold, listedLot, letterOf, answerOf, publishedOn, candidatesOn, makeGood, isMake, numberOn, call}
 use Rattle.told.specs.Told.{quads}
-use Rattle.work.specs.Work.{toldOn}
+use Rattle.work.specs.Work.{Listed, listedOf, toldOn}
 use Rattle.told.specs.declared.Told.{Told}
 use Rattle.review.proofs.FitLaws.{odd-zero}
 use Rattle.opening.specs.Layout.{bookLength, symbolsMost}
 
 -- ---- the number
 
-module _ (r : Rest) (ts : ℕ → List (List ℕ) → List Told) (p : ℕ → List ℕ) (cs : ℕ → Side → ℕ → Option Candidate) (k : ℕ) where
+module _ (r : Rest) (ls : List Listed) (ts : ℕ → List (List ℕ) → List Told) (p : ℕ → List ℕ) (cs : ℕ → Side → ℕ → Option Candidate) (k : ℕ) where
   line-number : (b : List ℕ) (us : List Told) (o : Option Line) → lineAnswer k b us o .number ≡ k
   line-number b us none = refl
   line-number b us (some x) = go (done k)
@@ -36,7 +38,7 @@ module _ (r : Rest) (ts : ℕ → List (List ℕ) → List Told) (p : ℕ → Li
       go true = refl
       go false = refl
 
-  answer-number : (c : Call) → answerOf r ts p cs k c .number ≡ k
+  answer-number : (c : Call) → answerOf r ls ts p cs k c .number ≡ k
   unfolding answerOf
   answer-number (make n) = refl
   answer-number (add s n l) = refl
@@ -54,14 +56,24 @@ module _ (r : Rest) (ts : ℕ → List (List ℕ) → List Told) (p : ℕ → Li
       go : (t : Bool) → (cond {A = Answer} t (protectionTold k (protection (askedSide m) x (cs (be s) (askedSide m)))) (bare k)) .number ≡ k
       go true = refl
       go false = refl
+  answer-number (convertLen v) = go (done k)
+    where
+      go : (t : Bool) → (cond {A = Answer} t (runTold k (neededOf v) []) (bare k)) .number ≡ k
+      go true = refl
+      go false = refl
+  answer-number (convert v room) = go (done k)
+    where
+      go : (t : Bool) → (cond {A = Answer} t (runTold k (neededOf v) (joined (venueRun (listedLot ls) v))) (bare k)) .number ≡ k
+      go true = refl
+      go false = refl
 
 number-other : (b : List ℕ) (c : Call) → isMake c ≡ false
-    → (cond {A = Answer} (sound b) (answerOf (restIn b) (toldOn b) (publishedOn b) (candidatesOn b) (numberOn b c) c) (bare 1)) .number ≡ numberOn b c
+    → (cond {A = Answer} (sound b) (answerOf (restIn b) (listedOf (pagesIn b)) (toldOn b) (publishedOn b) (candidatesOn b) (numberOn b c) c) (bare 1)) .number ≡ numberOn b c
 unfolding numberOn
 number-other b c m = go (sound b) refl
   where
-    go : (t : Bool) → sound b ≡ t → (cond {A = Answer} t (answerOf (restIn b) (toldOn b) (publishedOn b) (candidatesOn b) (numberOn b c) c) (bare 1)) .number ≡ numberOn b c
-    go true e = answer-number (restIn b) (toldOn b) (publishedOn b) (candidatesOn b) (numberOn b c) c
+    go : (t : Bool) → sound b ≡ t → (cond {A = Answer} t (answerOf (restIn b) (listedOf (pagesIn b)) (toldOn b) (publishedOn b) (candidatesOn b) (numberOn b c) c) (bare 1)) .number ≡ numberOn b c
+    go true e = answer-number (restIn b) (listedOf (pagesIn b)) (toldOn b) (publishedOn b) (candidatesOn b) (numberOn b c) c
     go false e = rw (m, e)
 
 -- the number that a call answers
@@ -75,6 +87,8 @@ number-told b endDay = number-other b endDay refl
 number-told b (take i x room) = number-other b (take i x room) refl
 number-told b (read s room) = number-other b (read s room) refl
 number-told b (protected s m x) = number-other b (protected s m x) refl
+number-told b (convertLen v) = number-other b (convertLen v) refl
+number-told b (convert v room) = number-other b (convert v room) refl
 
 -- ---- refusals
 
@@ -84,41 +98,43 @@ unfolding call
 refused-same b c e = let d : done (numberOn b c) ≡ false = sym (ap done (number-told b c)) ∙ e in rw d
 
 abbrev Fills : Answer → Type 0
-Fills a = (a .answers ≡ []) × (a .publication ≡ []) × (a .found ≡ 0) × (a .amount ≡ 0)
+Fills a = (a .answers ≡ []) × (a .publication ≡ []) × (a .found ≡ 0) × (a .amount ≡ 0) × (a .output ≡ [])
 
 line-empty : (k : ℕ) (b : List ℕ) (ts : List Told) (o : Option Line) → done k ≡ false → Fills (lineAnswer k b ts o)
 unfolding quads
-line-empty k b ts none e = (refl, refl, refl, refl)
-line-empty k b ts (some r) e = rw e (refl, refl, refl, refl)
+line-empty k b ts none e = (refl, refl, refl, refl, refl)
+line-empty k b ts (some r) e = rw e (refl, refl, refl, refl, refl)
 
-answer-empty : (r : Rest) (ts : ℕ → List (List ℕ) → List Told) (p : ℕ → List ℕ) (cs : ℕ → Side → ℕ → Option Candidate) (k : ℕ) (c : Call) → done k ≡ false → Fills (answerOf r ts p cs k c)
+answer-empty : (r : Rest) (ls : List Listed) (ts : ℕ → List (List ℕ) → List Told) (p : ℕ → List ℕ) (cs : ℕ → Side → ℕ → Option Candidate) (k : ℕ) (c : Call) → done k ≡ false → Fills (answerOf r ls ts p cs k c)
 unfolding answerOf
-answer-empty r ts p cs k (make n) e = (refl, refl, refl, refl)
-answer-empty r ts p cs k (add s n l) e = (refl, refl, refl, refl)
-answer-empty r ts p cs k (openLine i l) e = (refl, refl, refl, refl)
-answer-empty r ts p cs k startDay e = (refl, refl, refl, refl)
-answer-empty r ts p cs k endDay e = (refl, refl, refl, refl)
-answer-empty r ts p cs k (take i b room) e = go (eqb k 9)
+answer-empty r ls ts p cs k (make n) e = (refl, refl, refl, refl, refl)
+answer-empty r ls ts p cs k (add s n l) e = (refl, refl, refl, refl, refl)
+answer-empty r ls ts p cs k (openLine i l) e = (refl, refl, refl, refl, refl)
+answer-empty r ls ts p cs k startDay e = (refl, refl, refl, refl, refl)
+answer-empty r ls ts p cs k endDay e = (refl, refl, refl, refl, refl)
+answer-empty r ls ts p cs k (take i b room) e = go (eqb k 9)
   where
     go : (t : Bool) → Fills (cond {A = Answer} t (bare k) (lineAnswer k b (ts (letterOf (r .lines i)) (messagesOf b)) (r .lines i)))
-    go true = (refl, refl, refl, refl)
+    go true = (refl, refl, refl, refl, refl)
     go false = line-empty k b (ts (letterOf (r .lines i)) (messagesOf b)) (r .lines i) e
-answer-empty r ts p cs k (read s room) e = (refl, rw e, refl, refl)
-answer-empty r ts p cs k (protected s m x) e = rw e (refl, refl, refl, refl)
+answer-empty r ls ts p cs k (read s room) e = (refl, rw e, refl, refl, refl)
+answer-empty r ls ts p cs k (protected s m x) e = rw e (refl, refl, refl, refl, refl)
+answer-empty r ls ts p cs k (convertLen v) e = rw e (refl, refl, refl, refl, refl)
+answer-empty r ls ts p cs k (convert v room) e = rw e (refl, refl, refl, refl, refl)
 
--- and fills nothing: neither the answer buffer nor the publication buffer; a query tells no and 0
+-- and fills nothing: neither the answer buffer, the publication buffer nor an output; a query tells no and 0
 pub refused-empty : (b : List ℕ) (c : Call) → done (call b c .answer .number) ≡ false
-    → (call b c .answer .answers ≡ []) × (call b c .answer .publication ≡ []) × (call b c .answer .found ≡ 0) × (call b c .answer .amount ≡ 0)
+    → (call b c .answer .answers ≡ []) × (call b c .answer .publication ≡ []) × (call b c .answer .found ≡ 0) × (call b c .answer .amount ≡ 0) × (call b c .answer .output ≡ [])
 unfolding call
 refused-empty b c e = go (isMake c) (sound b)
   where
     d : done (numberOn b c) ≡ false
     d = sym (ap done (number-told b c)) ∙ e
 
-    go : (m s : Bool) → Fills (cond {A = Answer} m (bare (numberOn b c)) (cond {A = Answer} s (answerOf (restIn b) (toldOn b) (publishedOn b) (candidatesOn b) (numberOn b c) c) (bare 1)))
-    go true s = (refl, refl, refl, refl)
-    go false true = answer-empty (restIn b) (toldOn b) (publishedOn b) (candidatesOn b) (numberOn b c) c d
-    go false false = (refl, refl, refl, refl)
+    go : (m s : Bool) → Fills (cond {A = Answer} m (bare (numberOn b c)) (cond {A = Answer} s (answerOf (restIn b) (listedOf (pagesIn b)) (toldOn b) (publishedOn b) (candidatesOn b) (numberOn b c) c) (bare 1)))
+    go true s = (refl, refl, refl, refl, refl)
+    go false true = answer-empty (restIn b) (listedOf (pagesIn b)) (toldOn b) (publishedOn b) (candidatesOn b) (numberOn b c) c d
+    go false false = (refl, refl, refl, refl, refl)
 
 -- ---- make
 

@@ -99,7 +99,7 @@ pair found amount = cond (eqb found 0 && eqb amount 0) [] (found ∷ amount ∷ 
 abbrev pub told : Answer → List ℕ
 told a =
     a .number ∷ a .gap ∷ a .expected ∷ a .count ∷ a .accepted ∷ a .partly ∷ a .rejected
-    ∷ (a .answers ++ (a .publication ++ pair (a .found) (a .amount)))
+    ∷ (a .answers ++ (a .publication ++ (pair (a .found) (a .amount) ++ a .output)))
 
 abbrev pub allTold : List Answer → List (List ℕ)
 allTold [] = []

@@ -191,7 +191,7 @@ done-nine q d = go (cut q 9)
     go (apart t e) = t
 
 take-told : (b : List ℕ) (r : Rest) (ls : List Listed) (i : ℕ) (k : List ℕ) (room : ℕ) → done (numberOf r ls (take i k room)) ≡ true
-    → BlockTold k (answerOf r (toldOn b) (publishedOn b) (candidatesOn b) (numberOf r ls (take i k room)) (take i k room))
+    → BlockTold k (answerOf r ls (toldOn b) (publishedOn b) (candidatesOn b) (numberOf r ls (take i k room)) (take i k room))
 unfolding answerOf numberOf done
 take-told b r ls i k room d = go (ltb room answerLength) (r .lines i) d
   where
@@ -210,6 +210,6 @@ block-told b i k room e = go (sound b) refl
     d = sym (ap done (number-told b (take i k room))) ∙ e
 
     go : (t : Bool) → sound b ≡ t
-        → BlockTold k (cond {A = Answer} (sound b) (answerOf (restIn b) (toldOn b) (publishedOn b) (candidatesOn b) (cond (sound b) (numberOf (restIn b) (listedOf (pagesIn b)) (take i k room)) 1) (take i k room)) (bare 1))
+        → BlockTold k (cond {A = Answer} (sound b) (answerOf (restIn b) (listedOf (pagesIn b)) (toldOn b) (publishedOn b) (candidatesOn b) (cond (sound b) (numberOf (restIn b) (listedOf (pagesIn b)) (take i k room)) 1) (take i k room)) (bare 1))
     go true s = let c : done (numberOf (restIn b) (listedOf (pagesIn b)) (take i k room)) ≡ true = rw s at d in rw s (take-told b (restIn b) (listedOf (pagesIn b)) i k room c)
     go false s = clash (sym d ∙ unsound b (take i k room) s refl)

@@ -5,7 +5,7 @@ use mathlib.Core.Bool.{Bool, true, _&&_}
 use mathlib.Core.List.{List, [], _∷_}
 use lib.Dec.{ltb}
 use Rattle.lists.specs.Lists.{every}
-use Rattle.calls.specs.Call.{Call, make, add, openLine, startDay, endDay, take, read, protected}
+use Rattle.calls.specs.Call.{Call, make, add, openLine, startDay, endDay, take, read, protected, convertLen, convert}
 
 -- each element is a byte
 abbrev pub areBytes : List ℕ → Bool
@@ -21,6 +21,8 @@ blockIsBytes endDay = true
 blockIsBytes (take i b room) = areBytes b
 blockIsBytes (read s room) = true
 blockIsBytes (protected s m x) = true
+blockIsBytes (convertLen v) = true
+blockIsBytes (convert v room) = true
 
 unfoldable pub blocksAreBytes : List Call → Bool
 blocksAreBytes [] = true

@@ -25,7 +25,7 @@ use Rattle.message.specs.Message.{roundLength, kindOf, symbolOf, roundLotOdd, o
 use Rattle.opening.specs.declared.Line.{Line}
 use Rattle.opening.specs.Opening.{Rest}
 use Rattle.line.specs.Line.{done, advanced}
-use Rattle.calls.specs.Call.{Call, make, add, openLine, startDay, endDay, take, read, protected, numberOf, letterOf, Answer, answerOf}
+use Rattle.calls.specs.Call.{Call, make, add, openLine, startDay, endDay, take, read, protected, convertLen, convert, numberOf, letterOf, Answer, answerOf}
 use Rattle.work.specs.Work.{Listed, isListed, lotOf, primaryOf, flagsOf}
 use Rattle.told.specs.declared.Told.{Told}
 use Rattle.review.specs.Runs.{latest}
@@ -195,6 +195,8 @@ restAfter r (take i b room) =
     record { n = r .n; lines = λ j. cond (eqb j i) (mapOption (λ x. advanced x b) (r .lines i)) (r .lines j); day = r .day }
 restAfter r (read s room) = r
 restAfter r (protected s m x) = r
+restAfter r (convertLen v) = r
+restAfter r (convert v room) = r
 
 unfoldable pub symbolsAfter : List Listed → Call → List Listed
 symbolsAfter ls (make n) = []
@@ -205,6 +207,8 @@ symbolsAfter ls endDay = ls
 symbolsAfter ls (take i b room) = ls
 symbolsAfter ls (read s room) = ls
 symbolsAfter ls (protected s m x) = ls
+symbolsAfter ls (convertLen v) = ls
+symbolsAfter ls (convert v room) = ls
 
 -- "make and Start of Day with 0 empty the history"; "Nothing else alters the history"
 unfoldable pub historyAfter : Rest → List Listed → List (List ℕ) → Call → List (List ℕ)
@@ -216,6 +220,8 @@ historyAfter r ls h endDay = h
 historyAfter r ls h (take i b room) = messagesR ls (letterOf (r .lines i)) (messagesOf b) h
 historyAfter r ls h (read s room) = h
 historyAfter r ls h (protected s m x) = h
+historyAfter r ls h (convertLen v) = h
+historyAfter r ls h (convert v room) = h
 
 -- "a refused call alters nothing"
 unfoldable pub reviewCall : Review → Call → Review
@@ -230,7 +236,7 @@ reviewCall v c =
 
 unfoldable pub reviewAnswer : Review → Call → Answer
 reviewAnswer v c =
-    answerOf (v .rest) (toldR (v .symbols) (v .history)) (reviewed (v .history)) (candidatesR (v .history)) (numberOf (v .rest) (v .symbols) c) c
+    answerOf (v .rest) (v .symbols) (toldR (v .symbols) (v .history)) (reviewed (v .history)) (candidatesR (v .history)) (numberOf (v .rest) (v .symbols) c) c
 
 -- "It starts with the make that gave the fresh book"
 abbrev pub freshReview : ℕ → Review

@@ -1,0 +1,2 @@
+pub mod LotLaws
+pub mod OutLaws
