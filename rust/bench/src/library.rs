@@ -1,7 +1,7 @@
 //! The proved library on lent memory, under the calls that all books here have.
 
 use quotebook::lent;
-use second::{Protected, QuoteBook, Report};
+use second::{Converted, Protected, QuoteBook, Report};
 
 /// A book of the library and the memory that is lent to its calls.
 pub struct Library {
@@ -71,6 +71,24 @@ impl QuoteBook for Library {
             number: told.number.into(),
             yes: told.yes,
             looked: told.looked,
+        }
+    }
+
+    #[inline]
+    fn convert_len(&self, block: &[u8]) -> Converted {
+        let told = lent::convert_len(&self.memory, block);
+        Converted {
+            number: told.number.into(),
+            len: told.len,
+        }
+    }
+
+    #[inline]
+    fn convert(&self, block: &[u8], output: &mut [u8]) -> Converted {
+        let told = lent::convert(&self.memory, block, output);
+        Converted {
+            number: told.number.into(),
+            len: told.len,
         }
     }
 }

@@ -1,12 +1,13 @@
 //! The benchmark: the proved library and the second implementation side by side, in one run.
 //!
 //! Without arguments it prints all tables. `--quick` measures the full blocks of 64 symbols only,
-//! `--queries` the queries.
+//! `--queries` the queries, `--conversions` the conversions of venues' blocks.
 //! `--library N`, `--engine N` and `--incremental N` replay these blocks N times on one book alone,
 //! for a profiler; `--single` before them takes single-message blocks.
 
 #![forbid(unsafe_code)]
 
+mod convert;
 mod library;
 mod market;
 mod measure;
@@ -34,9 +35,16 @@ fn main() -> ExitCode {
             query::print(10 * ROUNDS);
             Ok(())
         }
+        ["--conversions"] => {
+            convert::print(10 * ROUNDS);
+            Ok(())
+        }
         ["--single", book, times] => alone(Size::Fixed(1), book, times),
         [book, times] => alone(Size::Full, book, times),
-        _ => Err("arguments: none, --quick, --queries, or [--single] --library N".to_string()),
+        _ => Err(
+            "arguments: none, --quick, --queries, --conversions, or [--single] --library N"
+                .to_string(),
+        ),
     };
     match done {
         Ok(()) => ExitCode::SUCCESS,

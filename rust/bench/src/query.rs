@@ -22,7 +22,8 @@ const CALLS: usize = 2_000;
 const TEN: u64 = 10_000_000;
 const CENT: u64 = 10_000;
 
-fn symbol(at: usize) -> [u8; 11] {
+/// The symbol in this place.
+pub fn symbol(at: usize) -> [u8; 11] {
     build::symbol(&format!("A{at}"))
 }
 
@@ -65,7 +66,7 @@ fn set_up(book: &mut impl QuoteBook, n: usize) {
 }
 
 /// Nanoseconds a call in the fastest round.
-fn fastest(rounds: usize, mut call: impl FnMut(usize)) -> f64 {
+pub fn fastest(rounds: usize, mut call: impl FnMut(usize)) -> f64 {
     let round = |_| {
         let began = Instant::now();
         (0..CALLS).for_each(&mut call);

@@ -2,6 +2,7 @@
 
 use std::fs;
 
+use crate::convert;
 use crate::library::Library;
 use crate::measure::{self, Latency, Throughput, NAMES};
 use crate::query;
@@ -53,6 +54,8 @@ pub fn print_all(messages: usize, rounds: usize) -> Result<(), String> {
     print_kinds(messages, rounds);
     println!();
     query::print(10 * rounds);
+    println!();
+    convert::print(10 * rounds);
     println!();
     print_memory();
     Ok(())

@@ -2,13 +2,14 @@
 
 use std::fmt::{self, Debug, Formatter};
 
-use crate::lent::{self, ANSWER_LEN, PUBLICATION_LEN, SYMBOL_LEN};
+use crate::lent::{self, ANSWER_LEN, PUBLICATION_LEN, RUN_MAX, SYMBOL_LEN};
 use crate::message::filled_up;
 use crate::number::Refusal;
 use crate::price::Price;
 use crate::protection::{Protection, Side};
 use crate::publication::Publication;
 use crate::report::Taken;
+use crate::run::Run;
 
 /// A quote book for up to 64 symbols.
 ///
@@ -89,6 +90,24 @@ impl Book {
         let symbol = symbol_bytes(symbol);
         let told = lent::is_protected(&self.memory, &symbol, side.mark(), price.0);
         Protection::new(side, price, told)
+    }
+
+    /// A venue's own block (source document 000, without its separator) as a run of blocks for
+    /// [`take_block`](Book::take_block).
+    ///
+    /// Round sizes in shares become round lots of the symbols that are listed; the rest is dropped. The
+    /// book is read for that alone.
+    ///
+    /// The venue numbers its blocks, and a book the messages: behind a run of several messages the
+    /// venue's next block is a duplicate (docs/DECISIONS.md). `examples/venue_line.rs` shows a way
+    /// round it.
+    pub fn convert(&self, block: &[u8]) -> Result<Run, Refusal> {
+        let mut output = [0; RUN_MAX];
+        let converted = lent::convert(&self.memory, block, &mut output);
+        converted.number.result()?;
+        Ok(Run {
+            bytes: output[..converted.len].to_vec(),
+        })
     }
 
     /// The book's memory, to keep a copy that can be lent to the functions of [`lent`].

@@ -57,6 +57,22 @@ mod c {
             price: u64,
             report: *mut u64,
         ) -> u8;
+        pub fn qb_convert_len(
+            book: *const u8,
+            len: usize,
+            block: *const u8,
+            block_len: usize,
+            report: *mut u64,
+        ) -> u8;
+        pub fn qb_convert(
+            book: *const u8,
+            len: usize,
+            block: *const u8,
+            block_len: usize,
+            output: *mut u8,
+            output_len: usize,
+            report: *mut u64,
+        ) -> u8;
     }
 }
 
@@ -173,6 +189,38 @@ pub fn is_protected(book: &[u8], symbol: &[u8], side: u8, price: u64, report: &m
             symbol.len(),
             side,
             price,
+            report.as_mut_ptr(),
+        )
+    }
+}
+
+/// The result of the call is the report's number too.
+pub fn convert_len(book: &[u8], block: &[u8], report: &mut [u64; 2]) -> u8 {
+    // SAFETY: each pointer and its length are one slice's; the report has its two numbers; book and
+    // block are only read.
+    unsafe {
+        c::qb_convert_len(
+            book.as_ptr(),
+            book.len(),
+            block.as_ptr(),
+            block.len(),
+            report.as_mut_ptr(),
+        )
+    }
+}
+
+/// The result of the call is the report's number too.
+pub fn convert(book: &[u8], block: &[u8], output: &mut [u8], report: &mut [u64; 2]) -> u8 {
+    // SAFETY: each pointer and its length are one slice's; the report has its two numbers; book and
+    // block are only read.
+    unsafe {
+        c::qb_convert(
+            book.as_ptr(),
+            book.len(),
+            block.as_ptr(),
+            block.len(),
+            output.as_mut_ptr(),
+            output.len(),
             report.as_mut_ptr(),
         )
     }

@@ -8,6 +8,7 @@ use crate::ffi;
 use crate::number::Number;
 use crate::protection::Protected;
 use crate::report::Report;
+use crate::run::Converted;
 use crate::writer::Written;
 
 /// The length of the longest block.
@@ -18,6 +19,8 @@ pub const MESSAGES_MAX: usize = 45;
 pub const ANSWER_LEN: usize = 180;
 /// The length of a publication.
 pub const PUBLICATION_LEN: usize = 96;
+/// The length of the longest run of blocks that a venue's block is converted to.
+pub const RUN_MAX: usize = 3600;
 /// The length of a symbol.
 pub const SYMBOL_LEN: usize = 11;
 
@@ -76,6 +79,22 @@ pub fn is_protected(book: &[u8], symbol: &[u8], side: u8, price: u64) -> Protect
     let mut fields = [0; 3];
     let answered = ffi::is_protected(book, symbol, side, price, &mut fields);
     Protected::from_fields(number(answered), fields)
+}
+
+/// Tells how many bytes [`convert`] writes for a venue's own block (source document 000, without its
+/// separator).
+pub fn convert_len(book: &[u8], block: &[u8]) -> Converted {
+    let mut fields = [0; 2];
+    let answered = ffi::convert_len(book, block, &mut fields);
+    Converted::from_fields(number(answered), fields)
+}
+
+/// Writes a venue's own block as a run of blocks for [`take_block`], end to end, each with its length
+/// in its bytes 2-3. Round sizes become round lots of the symbols that are listed.
+pub fn convert(book: &[u8], block: &[u8], output: &mut [u8]) -> Converted {
+    let mut fields = [0; 2];
+    let answered = ffi::convert(book, block, output, &mut fields);
+    Converted::from_fields(number(answered), fields)
 }
 
 /// Writes the block that carries these messages, laid end to end with a length for each, under a
@@ -139,6 +158,39 @@ mod tests {
         assert_eq!(filled(&book, b"ZT", b'X'), [10, 0, 0]);
         assert_eq!(filled(&book[1..], zt, b'B'), [1, 0, 0]);
         assert_eq!(filled(&[], &[], 0), [1, 0, 0]);
+    }
+
+    /// A conversion writes both numbers of its report, whatever they were, and its result is the first.
+    #[test]
+    fn a_conversions_report_is_filled() {
+        let mut book = vec![0; book_len(1).expect("one symbol")];
+        assert_eq!(make(&mut book, 1), Number::Done);
+        // Q P by N: IBM, 10.00 for 300 shares and 10.02 for 200.
+        let block = [
+            &[0, 0, 52, 0, 0, 0, 1, 1, 9, 29, 0, 42, b'Q', b'P', b'N'][..],
+            &[
+                0x6a, 0x0b, 0x14, 0x58, 0x39, 0xf5, 0xae, 0x8b, 1, 32, 32, 32, 32,
+            ],
+            &[0; 8],
+            b"IBM  \x03\xe8\x01\x2c\x03\xea\x00\xc8 \0\0",
+        ]
+        .concat();
+        let filled = |book: &[u8], block: &[u8], room| {
+            let mut fields = [u64::MAX; 2];
+            let result = match room {
+                None => ffi::convert_len(book, block, &mut fields),
+                Some(room) => ffi::convert(book, block, &mut vec![0; room], &mut fields),
+            };
+            assert_eq!(u64::from(result), fields[0]);
+            fields
+        };
+        for room in [None, Some(72), Some(100)] {
+            assert_eq!(filled(&book, &block, room), [0, 72]);
+            assert_eq!(filled(&book, &block[1..], room), [78, 0]);
+            assert_eq!(filled(&book[1..], &block, room), [1, 0]);
+        }
+        assert_eq!(filled(&book, &block, Some(71)), [80, 0]);
+        assert_eq!(filled(&[], &[], Some(0)), [1, 0]);
     }
 
     /// The writer writes both numbers of its report, and its result is the first.

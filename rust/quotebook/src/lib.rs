@@ -28,7 +28,8 @@
 //! ```
 //!
 //! [`Book`] owns its memory. The module [`lent`] has the same calls on memory that is kept elsewhere.
-//! The module [`message`] builds messages, and [`write_block`] makes a block of them.
+//! The module [`message`] builds messages, and [`write_block`] makes a block of them. A venue's own
+//! block becomes a [`Run`] of such blocks by [`Book::convert`].
 //! A call answers a [`Number`], a message a [`Code`]; each is written as one plain sentence.
 
 #![deny(unsafe_code)]
@@ -46,6 +47,7 @@ mod price;
 mod protection;
 mod publication;
 mod report;
+mod run;
 mod table;
 mod writer;
 
@@ -57,4 +59,5 @@ pub use price::Price;
 pub use protection::{Protected, Protection, Side};
 pub use publication::{Entry, Name, Publication, Reason};
 pub use report::{Answer, Changes, Report, Taken};
+pub use run::{Blocks, Converted, Run};
 pub use writer::{write_block, Written};

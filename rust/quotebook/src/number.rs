@@ -35,6 +35,9 @@ table! {
     73 WriteShort "The output is shorter than the block to write.";
     74 Side "The side mark is not B (bids) or S (offers).";
     75 Primary "The primary letter is not A to Z, or it is S.";
+    78 VenueBlock "The venue's block breaks a rule of its form.";
+    79 VenueUnplaced "A message of the venue's block has no place here: its type, letter, condition or length.";
+    80 ConvertShort "The output is shorter than the run to write.";
 }
 
 impl Number {

@@ -74,6 +74,15 @@ fn a_byte_at_a_query() {
 }
 
 #[test]
+fn a_byte_at_a_conversion() {
+    let mut book = book();
+    assert_eq!(book.convert_len(&[]).number, 78);
+    book.plant(page(0).start + 12);
+    assert_eq!(book.convert_len(&[]).number, broken::BEYOND);
+    assert_eq!(book.convert(&[], &mut []).number, broken::BEYOND);
+}
+
+#[test]
 fn a_byte_at_a_read() {
     let mut book = book();
     book.plant(page(0).start + 12);

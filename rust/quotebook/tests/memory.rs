@@ -8,7 +8,7 @@ mod support;
 use std::collections::BTreeMap;
 
 use second::generate::{self, Random};
-use second::{build, Call, Protected, QuoteBook, Report};
+use second::{build, Call, Converted, Protected, QuoteBook, Report};
 use support::damage::{damage, overwrite, Wrong};
 use support::foretold::{self, ensure, Left, NUMBERS};
 use support::guarded::{Fenced, Guarded};
@@ -132,9 +132,17 @@ fn fit(random: &mut Random, call: &Call, memory: &[u8]) -> Call {
     call
 }
 
-/// Makes a call; but for a block, the report has its number alone. A query's answer stands beside it.
-fn make_call(book: &mut Guarded, call: &Call, buffer: &mut [u8]) -> (Report, Option<Protected>) {
-    let mut asked = None;
+/// What the calls that only read a book tell beside their numbers.
+#[derive(Clone, Copy, PartialEq, Debug, Default)]
+pub struct Told {
+    protected: Option<Protected>,
+    converted: Option<Converted>,
+}
+
+/// Makes a call; but for a block, the report has its number alone. What is told besides stands beside
+/// it.
+fn make_call(book: &mut Guarded, call: &Call, buffer: &mut [u8]) -> (Report, Told) {
+    let mut asked = Told::default();
     let number = match call {
         Call::Make { n } => book.make(*n),
         Call::AddSymbol {
@@ -146,7 +154,7 @@ fn make_call(book: &mut Guarded, call: &Call, buffer: &mut [u8]) -> (Report, Opt
         Call::StartDay => book.start_day(),
         Call::EndDay => book.end_day(),
         Call::TakeBlock { line, block, .. } => {
-            return (book.take_block(*line, block, buffer), None);
+            return (book.take_block(*line, block, buffer), asked);
         }
         Call::Read { symbol, .. } => book.read(symbol, buffer),
         Call::IsProtected {
@@ -155,7 +163,17 @@ fn make_call(book: &mut Guarded, call: &Call, buffer: &mut [u8]) -> (Report, Opt
             price,
         } => {
             let told = book.is_protected(symbol, *side, *price);
-            asked = Some(told);
+            asked.protected = Some(told);
+            told.number
+        }
+        Call::ConvertLen { block } => {
+            let told = book.convert_len(block);
+            asked.converted = Some(told);
+            told.number
+        }
+        Call::Convert { block, .. } => {
+            let told = book.convert(block, buffer);
+            asked.converted = Some(told);
             told.number
         }
     };
@@ -183,6 +201,7 @@ fn check_call(memory: &mut Vec<u8>, call: &Call) -> Result<Checked, String> {
         Call::Read {
             publication_len, ..
         } => *publication_len,
+        Call::Convert { output_len, .. } => *output_len,
         _ => 0,
     };
     let pattern: Vec<u8> = (0..room).map(|at| 0xA5 ^ at as u8).collect();
@@ -197,7 +216,10 @@ fn check_call(memory: &mut Vec<u8>, call: &Call) -> Result<Checked, String> {
         let right = number == foretold;
         ensure(right, format!("number {number}, not {foretold}"))?;
     }
-    let expected = foretold::protected(memory, call, number);
+    let expected = Told {
+        protected: foretold::protected(memory, call, number),
+        converted: foretold::converted(memory, call).map(|(told, _)| told),
+    };
     ensure(asked == expected, format!("{asked:?}, not {expected:?}"))?;
     ensure(buffer.stands(), "a byte around the buffer was written")?;
     let left = Left {
@@ -220,7 +242,8 @@ fn check_call(memory: &mut Vec<u8>, call: &Call) -> Result<Checked, String> {
             checked.resent = resent(memory, &messages[0], code);
         }
         (Call::IsProtected { .. }, 0) => {
-            checked.met = against_the_entry(memory, call, asked.is_some_and(|told| told.yes));
+            checked.met =
+                against_the_entry(memory, call, asked.protected.is_some_and(|told| told.yes));
         }
         _ => {}
     }

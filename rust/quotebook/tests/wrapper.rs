@@ -3,7 +3,7 @@
 
 use std::collections::HashSet;
 
-use quotebook::lent::{self, PUBLICATION_LEN};
+use quotebook::lent::{self, PUBLICATION_LEN, RUN_MAX};
 use quotebook::{
     Answer, Book, Code, Number, Price, Protection, Publication, Reason, Refusal, Side,
 };
@@ -16,7 +16,9 @@ fn numbers_and_codes_are_those_of_the_documents() {
         .filter(|&byte| Number::try_from(byte).is_ok())
         .collect();
     let mut expected: Vec<u8> = (0..=12).collect();
-    expected.extend([20, 21, 30, 31, 32, 33, 34, 35, 70, 71, 72, 73, 74, 75]);
+    expected.extend([
+        20, 21, 30, 31, 32, 33, 34, 35, 70, 71, 72, 73, 74, 75, 78, 79, 80,
+    ]);
     assert_eq!(numbers, expected);
     let codes: Vec<u8> = (0..=255)
         .filter(|&byte| Code::try_from(byte).is_ok())
@@ -360,6 +362,23 @@ fn a_book_and_lent_memory_agree() {
                         assert_eq!((asked.is_yes(), asked.looked()), (lent.yes, lent.looked));
                     }
                     (asked.map(|_| ()), lent.number)
+                }
+                Call::ConvertLen { block } => {
+                    let lent = lent::convert_len(&memory, block);
+                    let run = book.convert(block);
+                    let len = run.as_ref().map_or(0, |run| run.as_bytes().len());
+                    assert_eq!(len, lent.len);
+                    (run.map(|_| ()), lent.number)
+                }
+                Call::Convert { block, .. } => {
+                    let mut output = [0; RUN_MAX];
+                    let lent = lent::convert(&memory, block, &mut output);
+                    let run = book.convert(block);
+                    if let Ok(run) = &run {
+                        assert_eq!(run.as_bytes(), &output[..lent.len]);
+                        assert_eq!(run.blocks().collect::<Vec<_>>().concat(), run.as_bytes());
+                    }
+                    (run.map(|_| ()), lent.number)
                 }
             };
             match method {

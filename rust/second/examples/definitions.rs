@@ -53,12 +53,16 @@ fn reviewer(n: u32) -> Box<dyn QuoteBook> {
     Box::new(Reviewer::fresh(n).expect("n is 1 to 64"))
 }
 
-/// The list with reads of the symbols that it has added.
+/// The list with reads of the symbols that it has added. Conversions are left out: their blocks take the
+/// prover too many steps, and the rows of crate `venuerun` have them.
 fn with_reads(list: &List, each: bool) -> List {
     let answers = observe(reviewer, list);
     let mut calls = Vec::new();
     let mut reads = Vec::new();
     for (call, observed) in list.calls.iter().zip(answers) {
+        if matches!(call, Call::ConvertLen { .. } | Call::Convert { .. }) {
+            continue;
+        }
         calls.push(call.clone());
         match call {
             Call::AddSymbol { symbol, .. } => {
@@ -135,6 +139,7 @@ fn term(call: &Call) -> String {
             side,
             price,
         } => format!("protected {} {side} {price}", row(symbol)),
+        Call::ConvertLen { .. } | Call::Convert { .. } => unreachable!("conversions are left out"),
     }
 }
 

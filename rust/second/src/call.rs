@@ -56,6 +56,18 @@ pub enum Call {
         /// The price.
         price: u64,
     },
+    /// Ask how many bytes the conversion of a venue's block needs.
+    ConvertLen {
+        /// The venue's block, any bytes.
+        block: Vec<u8>,
+    },
+    /// Convert a venue's block.
+    Convert {
+        /// The venue's block, any bytes.
+        block: Vec<u8>,
+        /// The length of the output.
+        output_len: usize,
+    },
 }
 
 /// A list of calls on a fresh book of n symbols.
@@ -106,6 +118,10 @@ impl Display for Call {
                 side,
                 price,
             } => write!(f, "protected {} {side} {price}", Hex(symbol)),
+            Call::ConvertLen { block } => write!(f, "convert_len {}", Hex(block)),
+            Call::Convert { block, output_len } => {
+                write!(f, "convert {} {output_len}", Hex(block))
+            }
         }
     }
 }
@@ -168,6 +184,13 @@ fn parse_call(words: &[&str]) -> Option<Call> {
             symbol: bytes(symbol)?,
             side: side.parse().ok()?,
             price: price.parse().ok()?,
+        },
+        ["convert_len", block] => Call::ConvertLen {
+            block: bytes(block)?,
+        },
+        ["convert", block, output_len] => Call::Convert {
+            block: bytes(block)?,
+            output_len: output_len.parse().ok()?,
         },
         _ => return None,
     })

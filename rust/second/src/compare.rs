@@ -5,6 +5,7 @@ use std::fmt::{self, Display, Formatter};
 use crate::call::{Call, List};
 use crate::quote_book::{Protected, QuoteBook, Report};
 use crate::terms::{ANSWER_LEN, PUBLICATION_LEN};
+use crate::venue::Converted;
 
 /// Gives a fresh book of n symbols, n being 1 to 64.
 pub type Fresh = fn(u32) -> Box<dyn QuoteBook>;
@@ -18,6 +19,8 @@ pub struct Observed {
     pub report: Option<Report>,
     /// What the query of T-06 reports.
     pub protected: Option<Protected>,
+    /// What a conversion, or the question for its length, answers.
+    pub converted: Option<Converted>,
     /// Every byte of the buffer lent to the call, and of the guards around it.
     pub buffer: Vec<u8>,
     /// What a read afterwards gives for each symbol that the list adds: number and buffer.
@@ -76,6 +79,7 @@ impl<'a> Watched<'a> {
 fn observe_call(book: &mut dyn QuoteBook, call: &Call, watched: &Watched) -> Observed {
     let mut report = None;
     let mut protected = None;
+    let mut converted = None;
     let mut buffer = Vec::new();
     let number = match call {
         Call::Make { n } => book.make(*n),
@@ -113,6 +117,17 @@ fn observe_call(book: &mut dyn QuoteBook, call: &Call, watched: &Watched) -> Obs
             protected = Some(asked);
             asked.number
         }
+        Call::ConvertLen { block } => {
+            let told = book.convert_len(block);
+            converted = Some(told);
+            told.number
+        }
+        Call::Convert { block, output_len } => {
+            buffer = patterned(*output_len);
+            let told = book.convert(block, lent(&mut buffer));
+            converted = Some(told);
+            told.number
+        }
     };
     let publications = watched.symbols.iter().map(|symbol| {
         let mut publication = patterned(PUBLICATION_LEN);
@@ -128,6 +143,7 @@ fn observe_call(book: &mut dyn QuoteBook, call: &Call, watched: &Watched) -> Obs
         number,
         report,
         protected,
+        converted,
         buffer,
         publications,
         records: records.collect(),
@@ -193,6 +209,13 @@ impl Display for Difference {
         if observed.protected != expected.protected {
             let (answer, expected) = (observed.protected, expected.protected);
             writeln!(f, "the query tells {answer:?}, expected {expected:?}")?;
+        }
+        if observed.converted != expected.converted {
+            let (answer, expected) = (observed.converted, expected.converted);
+            writeln!(
+                f,
+                "the conversion answers {answer:?}, expected {expected:?}"
+            )?;
         }
         write_bytes(f, "the buffer", &observed.buffer, &expected.buffer)?;
         let pairs = observed.publications.iter().zip(&expected.publications);

@@ -15,6 +15,7 @@ use crate::build;
 use crate::call::{Call, List};
 use crate::compare::{lent_part, Observed};
 use crate::quote_book::Protected;
+use crate::venue::{self, Converted};
 use closed::Closed;
 use finra::Finra;
 use halts::Halts;
@@ -22,7 +23,7 @@ use leading::Leading;
 use resent::Resent;
 
 /// The numbers that each call can answer in a list.
-const NUMBERS: [(&str, &[u8]); 8] = [
+const NUMBERS: [(&str, &[u8]); 10] = [
     ("make", &[0, 2]),
     ("add", &[0, 3, 4, 5, 6, 75]),
     ("open", &[0, 7, 8]),
@@ -31,6 +32,8 @@ const NUMBERS: [(&str, &[u8]); 8] = [
     ("take", &[0, 9, 20, 21, 30, 31, 32, 33, 34, 35, 70]),
     ("read", &[0, 9, 10]),
     ("protected", &[0, 10, 74]),
+    ("convert_len", &[0, 78, 79]),
+    ("convert", &[0, 78, 79, 80]),
 ];
 
 /// How many letters a query can look at before it answers yes: the positions of the letters that
@@ -46,6 +49,9 @@ const ANSWERS: [(&str, &[u8]); 6] = [
     ("bids at 0", &[0, 1]),
     ("offers at 0", &[0]),
 ];
+
+/// How many blocks runs have in lists. Four are rare there; the worked cases have them.
+const RUNS: [(&str, &[u8]); 1] = [("convert", &[1, 2, 3])];
 
 /// The codes that each type of message can get.
 const CODES: [(&str, &[u8]); 11] = [
@@ -81,6 +87,7 @@ pub struct Coverage {
     codes: Counts,
     flags: Counts,
     answers: Counts,
+    runs: Counts,
     resent: Resent,
     closed: Closed,
     finra: Finra,
@@ -136,6 +143,13 @@ impl Coverage {
                     self.resent.note(message);
                 }
             }
+        }
+        if let (Call::Convert { .. }, Some(Converted { number: 0, len })) =
+            (call, observed.converted)
+        {
+            let run = &lent_part(&observed.buffer)[..len];
+            let blocks = venue::blocks(run).count() as u8;
+            *self.runs.entry((name, blocks)).or_default() += 1;
         }
         let asked = (call, observed.protected);
         if let (
@@ -198,6 +212,7 @@ impl Coverage {
         missing.extend(self.closed.missing());
         missing.extend(self.finra.missing());
         missing.extend(self.leading.missing());
+        missing.extend(missing_in("blocks in a run", &RUNS, &self.runs));
         missing
     }
 
@@ -246,6 +261,8 @@ fn call_name(call: &Call) -> &'static str {
         Call::TakeBlock { .. } => "take",
         Call::Read { .. } => "read",
         Call::IsProtected { .. } => "protected",
+        Call::ConvertLen { .. } => "convert_len",
+        Call::Convert { .. } => "convert",
     }
 }
 
@@ -274,6 +291,7 @@ impl Display for Coverage {
             ("codes", &self.codes),
             ("flags", &self.flags),
             ("answers", &self.answers),
+            ("blocks in a run", &self.runs),
         ];
         for (what, counts) in tables {
             let mut last = "";

@@ -5,6 +5,7 @@
 //!   leader worsens or leaves.
 //! - [`Reviewer`] holds a history of accepted messages and works out every answer anew from it.
 //! - [`writer`] makes a block of messages.
+//! - [`venue`] makes a run of blocks of a venue's own block (source document 000).
 //! - [`generate`] makes random lists of calls, [`compare`] runs a list on several books, [`shrink`]
 //!   makes a list short on which they differ, and [`coverage`] counts what the lists reach.
 //! - [`mixing`] gives the blocks of several lines to books in different orders (T-09).
@@ -26,9 +27,11 @@ pub mod quote_book;
 pub mod reviewer;
 pub mod shrink;
 pub mod terms;
+pub mod venue;
 pub mod writer;
 
 pub use call::{Call, List};
 pub use engine::{Engine, Incremental};
 pub use quote_book::{Protected, QuoteBook, Report};
 pub use reviewer::Reviewer;
+pub use venue::Converted;

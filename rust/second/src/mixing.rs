@@ -98,7 +98,10 @@ pub fn make_calls(book: &mut dyn QuoteBook, calls: &[Call]) {
                 block,
                 answer_len,
             } => drop(book.take_block(*line, block, &mut vec![0; *answer_len])),
-            Call::Read { .. } | Call::IsProtected { .. } => {}
+            Call::Read { .. }
+            | Call::IsProtected { .. }
+            | Call::ConvertLen { .. }
+            | Call::Convert { .. } => {}
         }
     }
 }

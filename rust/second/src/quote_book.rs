@@ -1,5 +1,7 @@
 //! The seven calls of document 01 ("The book and its calls") and those of document 02, with their answers.
 
+use crate::venue::Converted;
+
 /// What the block call reports. A refused block carries its number, no gap and no messages.
 #[derive(Clone, Copy, PartialEq, Eq, Debug, Default)]
 pub struct Report {
@@ -86,4 +88,10 @@ pub trait QuoteBook {
 
     /// Whether a national candidate bids a price or more (side mark B), or offers it or less (S).
     fn is_protected(&self, symbol: &[u8], side: u8, price: u64) -> Protected;
+
+    /// How many bytes [`convert`](QuoteBook::convert) writes for a venue's block.
+    fn convert_len(&self, block: &[u8]) -> Converted;
+
+    /// Writes a venue's block as a run of blocks, end to end.
+    fn convert(&self, block: &[u8], output: &mut [u8]) -> Converted;
 }

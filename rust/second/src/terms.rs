@@ -55,6 +55,13 @@ pub mod number {
     pub const SIDE: u8 = 74;
     /// The primary letter of the symbol to add is bad.
     pub const PRIMARY: u8 = 75;
+    /// To convert: the block breaks a rule of source document 000.
+    pub const VENUE_BLOCK: u8 = 78;
+    /// To convert: a type, a letter or a condition without a place in our form, or a message too long
+    /// for one block.
+    pub const VENUE_UNPLACED: u8 = 79;
+    /// The output is too short for the run.
+    pub const CONVERT_SHORT: u8 = 80;
 }
 
 /// Codes that a message gets.

@@ -9,7 +9,7 @@ use second::engine::{mistake, Book, FollowLeader, Recompute};
 use second::generate::{self, Random};
 use second::mixing::{compare, make_calls, one_line_each, run};
 use second::mixing::{Received, Shown, Streams, ToldByLine};
-use second::{Call, Engine, Protected, QuoteBook, Report};
+use second::{Call, Converted, Engine, Protected, QuoteBook, Report};
 
 const LISTS: u64 = 400;
 /// The calls that use a book before its blocks are mixed, and those that the blocks are taken from.
@@ -171,6 +171,14 @@ impl QuoteBook for Sharing {
 
     fn is_protected(&self, symbol: &[u8], side: u8, price: u64) -> Protected {
         self.engine.is_protected(symbol, side, price)
+    }
+
+    fn convert_len(&self, block: &[u8]) -> Converted {
+        self.engine.convert_len(block)
+    }
+
+    fn convert(&self, block: &[u8], output: &mut [u8]) -> Converted {
+        self.engine.convert(block, output)
     }
 }
 

@@ -1,7 +1,8 @@
 //! What document 01 and docs/LAYOUT.md say of a call on memory of any bytes.
 
 use quotebook::Code;
-use second::{build, Call, Protected, Report};
+use second::venue::{self, mistake};
+use second::{build, Call, Converted, Protected, Report};
 
 use super::guarded::Guarded;
 use super::layout::{
@@ -11,7 +12,7 @@ use super::layout::{
 use super::reading::Reading;
 
 /// The numbers that each call can answer.
-pub const NUMBERS: [(&str, &[u8]); 8] = [
+pub const NUMBERS: [(&str, &[u8]); 10] = [
     ("make", &[0, 2]),
     ("add", &[0, 1, 3, 4, 5, 6, 75]),
     ("open", &[0, 1, 7, 8]),
@@ -20,6 +21,8 @@ pub const NUMBERS: [(&str, &[u8]); 8] = [
     ("take", &[0, 1, 9, 20, 21, 30, 31, 32, 33, 34, 35, 70]),
     ("read", &[0, 1, 9, 10]),
     ("protected", &[0, 1, 10, 74]),
+    ("convert_len", &[0, 1, 78, 79]),
+    ("convert", &[0, 1, 78, 79, 80]),
 ];
 
 /// The row of a call in the table.
@@ -33,6 +36,8 @@ pub fn row(call: &Call) -> usize {
         Call::TakeBlock { .. } => 5,
         Call::Read { .. } => 6,
         Call::IsProtected { .. } => 7,
+        Call::ConvertLen { .. } => 8,
+        Call::Convert { .. } => 9,
     }
 }
 
@@ -52,7 +57,8 @@ fn is_symbol(symbol: &[u8]) -> bool {
 }
 
 /// The number that the bytes of the memory give. None for a block that passes checks 1, 9 and 21:
-/// the next checks read the block and its line alone, and the random lists compare them.
+/// the next checks read the block and its line alone, and the random lists compare them. None for a
+/// conversion on a book: [`converted`] has its number.
 pub fn number(memory: &[u8], call: &Call) -> Option<u8> {
     if let Call::Make { n } = call {
         let right = memory.len() == OPENING_LEN + PAGE_LEN * *n as usize;
@@ -95,6 +101,8 @@ pub fn number(memory: &[u8], call: &Call) -> Option<u8> {
             (!is_symbol(symbol) || !listed(symbol), 10),
             (!b"BS".contains(side), 74),
         ],
+        // 78 to 80 are the converter's: foretold beside its length.
+        Call::ConvertLen { .. } | Call::Convert { .. } => return None,
     };
     let fault = checks.iter().find(|check| check.0);
     match (fault, call) {
@@ -126,6 +134,31 @@ pub fn protected(memory: &[u8], call: &Call, number: u8) -> Option<Protected> {
     })
 }
 
+/// What a conversion on memory of any bytes answers, and the run: by the lots of the listed pages, of
+/// which 0 divides nothing.
+pub fn converted(memory: &[u8], call: &Call) -> Option<(Converted, Vec<u8>)> {
+    let (block, room) = match call {
+        Call::ConvertLen { block } => (block, None),
+        Call::Convert { block, output_len } => (block, Some(*output_len)),
+        _ => return None,
+    };
+    if !is_book(memory) {
+        return Some((Converted::refused(1), Vec::new()));
+    }
+    let Some(room) = room else {
+        let told = venue::convert_len::<{ mistake::NONE }>(block);
+        return Some((told, Vec::new()));
+    };
+    let lots = |symbol: &[u8; 11]| {
+        let lot = memory[page(listed_page(memory, symbol)?).start + LOT];
+        (lot > 0).then_some(u32::from(lot))
+    };
+    let mut run = vec![0; room];
+    let told = venue::convert::<{ mistake::NONE }>(block, &lots, &mut run);
+    run.truncate(told.len);
+    Some((told, run))
+}
+
 /// The memory before and after a call, and the buffer that was lent to it.
 pub struct Left<'a> {
     pub before: &'a [u8],
@@ -152,7 +185,10 @@ impl Left<'_> {
             Call::EndDay => ensure(self.after[DAY] == 0, "the day is open"),
             Call::TakeBlock { line, block, .. } => self.check_taken(*line as usize, block, report),
             Call::Read { symbol, .. } => self.check_read(symbol),
-            Call::IsProtected { .. } => ensure(self.before == self.after, "a query wrote"),
+            Call::IsProtected { .. } | Call::ConvertLen { .. } => {
+                ensure(self.before == self.after, "a query wrote")
+            }
+            Call::Convert { .. } => self.check_converted(call),
         }
     }
 
@@ -205,6 +241,16 @@ impl Left<'_> {
         ensure(publication == kept, "not the entries that the page keeps")?;
         let behind_kept = behind == &self.buffer_before[96..];
         ensure(behind_kept, "a byte behind the publication was written")
+    }
+
+    /// The run by the listed lots, and nothing behind it.
+    fn check_converted(&self, call: &Call) -> Result<(), String> {
+        ensure(self.before == self.after, "a conversion wrote the book")?;
+        let (_, run) = converted(self.before, call).ok_or("no conversion")?;
+        let (written, behind) = self.buffer.split_at(run.len());
+        ensure(written == run, "another run")?;
+        let behind_kept = behind == &self.buffer_before[run.len()..];
+        ensure(behind_kept, "a byte behind the run was written")
     }
 
     /// The report, the line's record, every answer, and each page as its reading follows the messages.

@@ -5,7 +5,7 @@
 use std::ops::{BitXorAssign, Range};
 
 use quotebook::{lent, Number};
-use second::{build, Protected, QuoteBook, Report};
+use second::{build, Converted, Protected, QuoteBook, Report};
 
 use super::layout::{self, byte, in_page, line, moved, page, CONTENTS, COUNT, DAY, LINES, N};
 
@@ -237,6 +237,24 @@ impl QuoteBook for Guarded {
             number: self.settle_read(told.number, argument.keeps(symbol)),
             yes: told.yes,
             looked: told.looked,
+        }
+    }
+
+    fn convert_len(&self, block: &[u8]) -> Converted {
+        let argument = Fenced::new(block);
+        let told = lent::convert_len(self.memory.bytes(), argument.bytes());
+        Converted {
+            number: self.settle_read(told.number, argument.keeps(block)),
+            len: told.len,
+        }
+    }
+
+    fn convert(&self, block: &[u8], output: &mut [u8]) -> Converted {
+        let argument = Fenced::new(block);
+        let told = lent::convert(self.memory.bytes(), argument.bytes(), output);
+        Converted {
+            number: self.settle_read(told.number, argument.keeps(block)),
+            len: told.len,
         }
     }
 }

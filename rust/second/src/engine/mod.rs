@@ -19,6 +19,7 @@ use std::marker::PhantomData;
 
 use crate::quote_book::{Protected, QuoteBook, Report};
 use crate::terms::{number, FINRA, LINES, PROCESSOR, PUBLICATION_LEN, ROUND_LOTS, SYMBOLS_MAX};
+use crate::venue::{self, Converted};
 use candidate::Side;
 use directory::{well_formed, Directory, Symbol};
 use page::Page;
@@ -231,6 +232,18 @@ impl<U: Update, const M: u8> QuoteBook for Book<U, M> {
             yes,
             looked,
         }
+    }
+
+    fn convert_len(&self, block: &[u8]) -> Converted {
+        venue::convert_len::<{ venue::mistake::NONE }>(block)
+    }
+
+    fn convert(&self, block: &[u8], output: &mut [u8]) -> Converted {
+        let lots = |symbol: &Symbol| {
+            let page = self.directory.find(symbol)?;
+            Some(self.pages[page].round_lot)
+        };
+        venue::convert::<{ venue::mistake::NONE }>(block, &lots, output)
     }
 }
 

@@ -1,4 +1,4 @@
-//! Deterministic random lists of calls, and calls of a writer.
+//! Deterministic random lists of calls, and calls of a writer and of a converter.
 //!
 //! A list is a function of its seed and length. While it is drawn its calls are also made on an
 //! engine, only to know which lines are open and which numbers they expect: most blocks are to be
@@ -9,6 +9,7 @@ mod damage;
 mod messages;
 mod pools;
 mod random;
+mod venue;
 mod writing;
 
 use std::collections::{BTreeMap, VecDeque};
@@ -18,8 +19,10 @@ use crate::call::{Call, List};
 use crate::engine::Engine;
 use crate::quote_book::QuoteBook;
 use crate::terms::{number, ANSWER_LEN, PUBLICATION_LEN, ROUND_LOTS};
+use crate::venue::Converting;
 use pools::{Pools, Symbol, Theme};
 pub use random::{from_environment, Random};
+pub use venue::{damaged_venue, venue, Foretold, LISTED};
 pub use writing::writing;
 
 /// The list of so many calls that a seed gives.
@@ -148,7 +151,8 @@ impl Generator {
             4 => Call::StartDay,
             5 => Call::EndDay,
             6 => self.make_call(),
-            _ => self.protected_call(),
+            7 => self.protected_call(),
+            _ => self.convert_call(),
         }
     }
 
@@ -173,6 +177,20 @@ impl Generator {
             symbol,
             side: self.random.usually(90, b"BS", b"bsAXZ \x00\xff"),
             price: self.random.usually(80, &near, &[0, 0, 1, u64::MAX]),
+        }
+    }
+
+    /// A venue's block, half of whose quotes name symbols of the list; its length is asked for, or it
+    /// is converted.
+    fn convert_call(&mut self) -> Call {
+        let listed: Vec<Symbol> = self.listed.iter().map(|&(symbol, ..)| symbol).collect();
+        let Converting { block, room } = venue::naming(&mut self.random, &listed);
+        if self.random.percent(30) {
+            return Call::ConvertLen { block };
+        }
+        Call::Convert {
+            block,
+            output_len: room,
         }
     }
 
@@ -273,7 +291,10 @@ impl Generator {
                     open.expected = report.expected;
                 }
             }
-            Call::Read { .. } | Call::IsProtected { .. } => {}
+            Call::Read { .. }
+            | Call::IsProtected { .. }
+            | Call::ConvertLen { .. }
+            | Call::Convert { .. } => {}
         }
     }
 }

@@ -11,7 +11,8 @@ mod fields;
 mod judge;
 
 use crate::quote_book::{Protected, QuoteBook, Report};
-use crate::terms::{number, ANSWER_LEN, ENTRY_LEN, LINES, PUBLICATION_LEN, ROUND_LOTS};
+use crate::terms::{number, ANSWER_LEN, ENTRY_LEN, LINES, PUBLICATION_LEN, ROUND_LOTS, SYMBOL_LEN};
+use crate::venue::{self, Converted};
 use account::Account;
 use best::{protection, publication};
 use fields::{is_symbol, symbol_of, Kind, Side};
@@ -266,5 +267,15 @@ impl QuoteBook for Reviewer {
             yes,
             looked,
         }
+    }
+
+    fn convert_len(&self, block: &[u8]) -> Converted {
+        venue::convert_len::<{ venue::mistake::NONE }>(block)
+    }
+
+    /// By the symbols that the reviewer holds.
+    fn convert(&self, block: &[u8], output: &mut [u8]) -> Converted {
+        let lots = |symbol: &[u8; SYMBOL_LEN]| self.listed(symbol).map(|listed| listed.round_lot);
+        venue::convert::<{ venue::mistake::NONE }>(block, &lots, output)
     }
 }

@@ -1,0 +1,83 @@
+//! Wrong rules that can be switched on in the converter, to show that the comparison finds them.
+
+use crate::engine::mistake::mistakes;
+
+/// No mistake.
+pub const NONE: u8 = 0;
+
+mistakes! {
+    1 ROUNDED_UP "Round sizes are rounded up.";
+    2 NOT_DIVIDED "Round sizes are not divided.";
+    3 DIVIDED_BY_100 "Round sizes are divided by 100, whatever the round lot.";
+    4 UNLISTED_NOTHING "The round sizes of a symbol that is not listed become 0.";
+    5 ODD_DIVIDED "Odd shares are divided too.";
+    6 SHORT_PRICE_BY_100 "A short price is scaled by 100.";
+    7 SHORT_PRICE_UNSCALED "A short price is not scaled.";
+    8 NANOS_DROPPED "The nanoseconds of the timestamp are dropped.";
+    9 TIME_COPIED "The eight bytes of the timestamp are copied.";
+    10 SYMBOL_FILLED_WITH_ZEROS "A short symbol is filled up with zeros.";
+    11 CONDITION_R "Every round quote gets condition R.";
+    12 COUNTS_EXCHANGED "The counts of odd bids and offers are exchanged.";
+    13 REFERENCE_DROPPED "The reference number is not copied.";
+    14 NUMBERED_BY_BLOCKS "Each next block is numbered one higher.";
+    15 ONE_NUMBER "Every block has the venue block's number.";
+    16 CLOSED_AT_999 "A block is closed before it has 1,000 bytes.";
+    17 OFFSET_NOT_COUNTED "A message joins a block if it fits without its offset.";
+    18 ONE_TO_A_BLOCK "Each message has a block of its own.";
+    19 PAD_UNREAD "The pad byte may be any byte.";
+    20 SIZE_WITHOUT_PAD "The size field leaves the pad byte out.";
+    21 ODD_LENGTH_TAKEN "A block without its pad byte is taken.";
+    22 CHECKSUM_UNREAD "The checksum is not checked.";
+    23 CHECKSUM_OF_ITSELF "The checksum counts its own bytes.";
+    24 VERSION_UNREAD "Any version is taken.";
+    25 LONGEST_1000 "A block of 1,000 bytes is taken.";
+    26 LONGEST_996 "A block of 998 bytes is refused.";
+    27 COUNT_UNREAD "Messages are read to the block's end, whatever their count.";
+    28 NO_MESSAGE_TAKEN "A block of no messages is taken.";
+    29 IDS_UNREAD "Message IDs are not checked.";
+    30 IDS_FROM_0 "Message IDs begin with 0.";
+    31 RESERVED_UNREAD "The reserved bytes are not checked.";
+    32 REFERENCE_UNREAD "Any reference number is taken.";
+    33 REFERENCE_POSITIVE "Any reference number that is not negative is taken.";
+    34 REFERENCE_SPACES "Spaces may stand in a reference number.";
+    35 ZERO_REFERENCE_REFUSED "A reference number of 0 is refused.";
+    36 NANOS_UNREAD "Nanoseconds of a second and more are taken.";
+    37 TIME_0_TAKEN "A timestamp of 0 is taken.";
+    38 HALF_TIME_REFUSED "A timestamp is refused if either of its two numbers is 0.";
+    39 ANY_LETTER "Participants E, O, Q and R are taken.";
+    40 PAIR_UNREAD "A pair outside the table of types is 79.";
+    41 CONTROL_AMONG_OTHERS "A control message among others is 79.";
+    42 INQUIRY_NUMBERED "An inquiry under any number is 79.";
+    43 FINRA_QUOTES "A short or odd-lot quote from FINRA is 79.";
+    44 SYMBOL_UNREAD "A symbol may have any bytes.";
+    45 SYMBOL_BEGINS_WITH_A_LETTER "A symbol that begins with a digit is 78.";
+    46 MARK_UNREAD "Any clear mark is taken.";
+    47 ITEM_PRICE_UNREAD "An odd price above the maximum is taken.";
+    48 IDLE_ODD_TAKEN "An odd-lot message that asks for nothing is taken.";
+    49 CONDITION_UNREAD "An unknown condition is 79.";
+    50 PRICE_UNREAD "A round price above the maximum is taken.";
+    51 OFFER_UNREAD "The offer's price is not checked.";
+    52 RETAIL_UNREAD "Any retail interest indicator is taken.";
+    53 SETTLEMENT_UNREAD "Any settlement condition is taken.";
+    54 MARKET_UNREAD "Any market condition is taken as a normal market.";
+    55 PRICES_UNCOMPARED "Bid and offer are not compared.";
+    56 ONE_SIDE_COMPARED "A side of price 0 is compared too.";
+    57 SHORT_UNCOMPARED "A short quote's bid and offer are not compared.";
+    58 MAKER_UNREAD "Any bytes are taken as maker ID.";
+    59 INDICATOR_UNREAD "Any FINRA BBO indicator is taken.";
+    60 SECOND_TIME_UNREAD "Any Timestamp 2 is taken.";
+    61 S_TAKEN "Participant S is taken.";
+    62 FINRA_TAKEN "FINRA's long quote is taken.";
+    63 CONDITION_4_TAKEN "Condition 4 is taken.";
+    64 CONDITION_L_TAKEN "Condition L is taken.";
+    65 LONGEST_MESSAGE_REFUSED "A message of 984 bytes in our form is 79.";
+    66 LONG_MESSAGE_TAKEN "A message of 996 bytes in our form is taken.";
+    67 FIVE_ITEMS "More than four items on a side are 79.";
+    68 UNPLACED_FIRST "79 of a message goes before 78 of a later one.";
+    69 UNREAD_PASSED_OVER "Messages of other types are left out.";
+    70 JUST_ENOUGH_REFUSED "80 is claimed for an output that the run fills.";
+    71 LENGTH_TOLD "The needed length is told after 80.";
+    72 SHORT_FILLED "After 80 the output is filled as far as it goes.";
+    73 BEHIND_CLEARED "The output is zeroed behind the run.";
+    74 SHORT_FIRST "80 is answered before 79.";
+}
