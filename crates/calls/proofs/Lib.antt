@@ -1,5 +1,6 @@
 pub mod ConvertLaws
 pub mod NumberLaws
 pub mod ProtectedLaws
+pub mod OrderLaws
 pub mod SoundLaws
 pub mod TakenLaws

@@ -20,11 +20,12 @@ use Rattle.update.proofs.TableLaws.{length-range}
 use Rattle.update.proofs.CellLaws.{member-below}
 use Rattle.opening.specs.Opening.{symbolsOf, countOf, sound, Rest, restIn, pageAt, pagesIn}
 use Rattle.line.specs.Line.{done}
-use Rattle.calls.specs.Call.{Call, make, add, openLine, startDay, endDay, take, read, protected, convertLen, convert, lots, sideMarks, numberOf, makeGood, isMake, numberOn}
+use Rattle.calls.specs.Call.{Call, make, add, openLine, startDay, endDay, take, read, protected, convertLen, convert, tryOrder, lots, sideMarks, lotsGood, numberOf, makeGood, isMake, numberOn}
 use Rattle.block.specs.Block.{answerLength}
 use Rattle.work.specs.Work.{Listed, isListed, listing, listedOf}
 use Rattle.opening.proofs.OpeningLaws.{Sound, sound-is}
 use Rattle.entries.specs.Publication.{publicationLength}
+use Rattle.sweep.specs.Sweep.{stepsLength}
 use Rattle.opening.specs.Layout.{lineCount, bookLength, symbolsMost}
 
 -- ---- 1: bytes that are no book
@@ -73,6 +74,7 @@ module _ (n : ℕ) (b : List ℕ) (sd : Sound n b) where
   number-same (protected x m v) = rw (sound-is n b sd)
   number-same (convertLen x) = rw (sound-is n b sd)
   number-same (convert x k) = rw (sound-is n b sd)
+  number-same (tryOrder x m w k) = rw (sound-is n b sd)
 
   rest-n : restIn b .n ≡ n
   unfolding restIn
@@ -159,6 +161,15 @@ module _ (r : Rest) (ls : List Listed) where
       go true true false e = clash (sym e)
       go true false c e = clash (sym e)
       go false b c e = clash (sym e)
+
+  pub order-done : (s : List ℕ) (m w k : ℕ) → done (numberOf r ls (tryOrder s m w k)) ≡ true → (symbolGood s ≡ true) × (isListed (be s) ls ≡ true)
+  unfolding done numberOf
+  order-done s m w k = go (symbolGood s) (isListed (be s) ls) (member sideMarks m) (lotsGood w) (ltb k stepsLength)
+    where
+      go : (a b c d f : Bool) → done (cond (a && b) (cond c (cond d (cond f 83 0) 82) 74) 10) ≡ true → (a ≡ true) × (b ≡ true)
+      go true true c d f e = (refl, refl)
+      go true false c d f e = clash (sym e)
+      go false b c d f e = clash (sym e)
 
 -- ---- what they say of the arguments' bytes
 

@@ -24,6 +24,11 @@ use Rattle.work.specs.Work.{listedOf}
 use Rattle.work.proofs.PlaceLaws.{listed-at, find-page}
 use Rattle.calls.specs.Call.{Call, protected, sideMarks, numberOf, Answer, bare, askedSide, protectionTold, answerOf, candidatesIn, candidatesOn, afterCall, numberOn, answerOn, Outcome, call}
 
+-- a listed symbol's candidates are its page's
+pub candidates-at : (b : List ℕ) (s k : ℕ) → pagePlace b s ≡ At k → candidatesOn b s ≡ pageTrading (pageAt b k)
+unfolding readingOf pageCandidates
+candidates-at b s k e = ap candidatesIn (find-page b s ∙ ap (foundBy (λ j. some (readingOf (pageAt b j))) none) e)
+
 module _ (b x : List ℕ) (m v : ℕ) where
   abbrev asked : Call
   asked = protected x m v
@@ -31,10 +36,6 @@ module _ (b x : List ℕ) (m v : ℕ) where
   -- what a symbol's page answers
   abbrev pub pageAnswer : ℕ → Protection
   pageAnswer k = protection (askedSide m) v (pageTrading (pageAt b k) (askedSide m))
-
-  candidates-at : (k : ℕ) → pagePlace b (be x) ≡ At k → candidatesOn b (be x) ≡ pageTrading (pageAt b k)
-  unfolding readingOf pageCandidates
-  candidates-at k e = ap candidatesIn (find-page b (be x) ∙ ap (foundBy (λ j. some (readingOf (pageAt b j))) none) e)
 
   -- 10, then 74
   pub protected-number : sound b ≡ true → numberOn b asked ≡ cond (symbolGood x && isAt (pagePlace b (be x))) (cond (member sideMarks m) 0 74) 10
@@ -72,7 +73,7 @@ module _ (b x : List ℕ) (m v : ℕ) where
   unfolding call afterCall done
   protected-told k s g e h =
       let n : numberOn b asked ≡ 0 = protected-number s ∙ rw (g, e, h) in
-      sym (rw (protected-answer, n, candidates-at k e))
+      sym (rw (protected-answer, n, candidates-at b (be x) k e))
 
   -- ---- the theorem: on memory of any bytes, of the page that is found
 

@@ -5,7 +5,7 @@ use mathlib.Core.List.{List}
 use lib.ListN.{length}
 use Rattle.field.specs.Field.{splice}
 use Rattle.calls.specs.declared.Report.{Report}
-use Rattle.calls.specs.Call.{Answer, call, take, read, convert}
+use Rattle.calls.specs.Call.{Answer, call, take, read, convert, tryOrder}
 
 abbrev pub reportOf : Answer → Report
 reportOf a =
@@ -57,4 +57,20 @@ runOut b v output =
       number = call b (convert v (length output)) .answer .number;
       length = call b (convert v (length output)) .answer .amount;
       output = splice output 0 (call b (convert v (length output)) .answer .output);
+    }
+
+pub record OrderOut : Type 0 where
+  pub number : ℕ
+  pub found : ℕ
+  pub amount : ℕ
+  pub steps : List ℕ
+
+-- T-13: the report and the output after trying an order
+unfoldable pub orderOut : List ℕ → List ℕ → ℕ → ℕ → List ℕ → OrderOut
+orderOut b s m w steps =
+    record {
+      number = call b (tryOrder s m w (length steps)) .answer .number;
+      found = call b (tryOrder s m w (length steps)) .answer .found;
+      amount = call b (tryOrder s m w (length steps)) .answer .amount;
+      steps = splice steps 0 (call b (tryOrder s m w (length steps)) .answer .output);
     }

@@ -1,6 +1,6 @@
 -- The calls: `call` gives the bytes after a call and its whole answer.
 -- Assumes nothing.
-use Prim.Native.Nat.{ℕ, _+_}
+use Prim.Native.Nat.{ℕ, _+_, _-_}
 use mathlib.Core.Bool.{Bool, true, false, _&&_, cond}
 use mathlib.Core.List.{List, [], _∷_, _++_}
 use mathlib.Core.Option.{Option, none, some}
@@ -22,6 +22,7 @@ use Rattle.protection.specs.declared.Protection.{Protection}
 use Rattle.block.specs.Written.{joined}
 use Rattle.venue.specs.Venue.{venueNumber}
 use Rattle.venuerun.specs.Run.{neededOf, convertNumber, venueRun}
+use Rattle.sweep.specs.Sweep.{Step, swept, filled, stepsBytes, stepsLength}
 use Rattle.update.specs.Parts.{Reading, blankPage, emptied}
 use Rattle.opening.specs.declared.Line.{Line}
 use Rattle.opening.specs.Opening.{Rest, symbolsOf, countOf, sound, lineBytes, linesIn, restIn, pagesIn, setPage, eachPage, freshBytes, restartLines}
@@ -50,6 +51,8 @@ pub data Call : Type 0 where
   -- T-11: a venue's block; and with it the output's length
   convertLen : List ℕ → Call
   convert : List ℕ → ℕ → Call
+  -- T-13: the symbol's bytes, the side mark, the lots, the output's length
+  tryOrder : List ℕ → ℕ → ℕ → ℕ → Call
 
 -- ---- the number of a call, in checking order, from n, lines, day and the listed symbols
 
@@ -63,6 +66,10 @@ isKnown ls s = symbolGood s && isListed (be s) ls
 -- 74: "side mark not B (bids) or S (offers)"
 abbrev pub sideMarks : List ℕ
 sideMarks = B ∷ S ∷ []
+
+-- 82: "a number of round lots from 1 to 1,000,000"
+abbrev pub lotsGood : ℕ → Bool
+lotsGood w = leb 1 w && leb w 1000000
 
 unfoldable pub numberOf : Rest → List Listed → Call → ℕ
 numberOf r ls (make n) = cond (eqb n (r .n)) 0 2
@@ -82,6 +89,7 @@ numberOf r ls (read s room) = cond (ltb room publicationLength) 9 (cond (isKnown
 numberOf r ls (protected s m x) = cond (isKnown ls s) (cond (member sideMarks m) 0 74) 10
 numberOf r ls (convertLen v) = venueNumber v
 numberOf r ls (convert v room) = convertNumber v room
+numberOf r ls (tryOrder s m w room) = cond (isKnown ls s) (cond (member sideMarks m) (cond (lotsGood w) (cond (ltb room stepsLength) 83 0) 82) 74) 10
 
 -- ---- answers
 
@@ -96,10 +104,10 @@ pub record Answer : Type 0 where
   pub rejected : ℕ
   pub answers : List ℕ
   pub publication : List ℕ
-  -- T-06: 1 for yes or 0 for no, and how many letters were looked at; T-11: how many bytes the run has
+  -- T-06: 1 for yes or 0 for no, and how many letters were looked at; T-11: how many bytes the run has; T-13: how many steps, and the lots not found
   pub found : ℕ
   pub amount : ℕ
-  -- T-11: the run
+  -- T-11: the run; T-13: the steps
   pub output : List ℕ
 
 -- "carries its number, and no or 0 for all else"
@@ -157,6 +165,28 @@ runTold k n run =
 abbrev pub listedLot : List Listed → ℕ → ℕ
 listedLot ls s = lotOf s ls
 
+-- T-13: "B buys at offers, S sells at bids"
+abbrev pub orderSide : ℕ → Side
+orderSide m = cond (eqb m B) Offer Bid
+
+-- "The result lists the steps .. with their number and the lots not found"; w: the lots wanted
+abbrev pub stepsTold : ℕ → ℕ → List Step → Answer
+stepsTold k w xs =
+    record {
+      number = k;
+      gap = 0;
+      expected = 0;
+      count = 0;
+      accepted = 0;
+      partly = 0;
+      rejected = 0;
+      answers = [];
+      publication = [];
+      found = length xs;
+      amount = w - filled xs;
+      output = stepsBytes xs;
+    }
+
 abbrev pub letterOf : Option Line → ℕ
 letterOf none = 0
 letterOf (some x) = x .letter
@@ -174,6 +204,7 @@ answerOf r ls ts p cs k (read s room) = published k (p (be s))
 answerOf r ls ts p cs k (protected s m x) = cond (done k) (protectionTold k (protection (askedSide m) x (cs (be s) (askedSide m)))) (bare k)
 answerOf r ls ts p cs k (convertLen v) = cond (done k) (runTold k (neededOf v) []) (bare k)
 answerOf r ls ts p cs k (convert v room) = cond (done k) (runTold k (neededOf v) (joined (venueRun (listedLot ls) v))) (bare k)
+answerOf r ls ts p cs k (tryOrder s m w room) = cond (done k) (stepsTold k w (swept (orderSide m) w (cs (be s) (orderSide m)))) (bare k)
 
 -- ---- the book's bytes
 
@@ -209,6 +240,7 @@ afterCall b (read s room) = b
 afterCall b (protected s m x) = b
 afterCall b (convertLen v) = b
 afterCall b (convert v room) = b
+afterCall b (tryOrder s m w room) = b
 
 -- 2: "n not 1 to 64 or wrong length"
 unfoldable pub makeGood : List ℕ → ℕ → Bool
@@ -226,6 +258,7 @@ isMake (read s room) = false
 isMake (protected s m x) = false
 isMake (convertLen v) = false
 isMake (convert v room) = false
+isMake (tryOrder s m w room) = false
 
 abbrev pub madeNumber : List ℕ → Call → ℕ
 madeNumber b (make n) = cond (makeGood b n) 0 2
@@ -238,6 +271,7 @@ madeNumber b (read s room) = 0
 madeNumber b (protected s m x) = 0
 madeNumber b (convertLen v) = 0
 madeNumber b (convert v room) = 0
+madeNumber b (tryOrder s m w room) = 0
 
 unfoldable pub numberOn : List ℕ → Call → ℕ
 numberOn b c = cond (isMake c) (madeNumber b c) (cond (sound b) (numberOf (restIn b) (listedOf (pagesIn b)) c) 1)

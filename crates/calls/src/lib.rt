@@ -1,4 +1,4 @@
-// The rules of every call stand in specs/Call.antt; here is what the block call and T-06's query report.
+// The rules of every call stand in specs/Call.antt; here is what the block call and the two queries report.
 
 /// What the block call reports. The number is 0 or 70 for a taken block, else the refusal.
 pub struct Report {
@@ -16,4 +16,11 @@ pub struct Protected {
     pub number: u8,
     pub yes: bool,
     pub looked: u8,
+}
+
+/// What `try_order` reports: with number 0 how many steps it has, and the lots not found; after a refusal 0 and 0.
+pub struct Tried {
+    pub number: u8,
+    pub steps: u8,
+    pub unfilled: u32,
 }

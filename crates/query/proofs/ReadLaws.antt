@@ -31,7 +31,7 @@ use Rattle.calls.specs.Call.{entriesIn}
 use Rattle.work.proofs.PlaceLaws.{find-page}
 use Rattle.page.specs.Layout.{keptEntries}
 
-splice-none : (p : List ℕ) → splice p 0 [] ≡ p
+pub splice-none : (p : List ℕ) → splice p 0 [] ≡ p
 unfolding splice
 splice-none p = refl
 

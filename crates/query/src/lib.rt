@@ -4,15 +4,17 @@ ghost use mathlib.Core.Bool.{cond};
 ghost use Prim.Native.Nat.{_+_, _≤_};
 ghost use lib.ListN.{length};
 ghost use Rattle.field.specs.Field.{part, splice};
-ghost use Rattle.calls.specs.Buffers.{readOut};
-ghost use Rattle.calls.specs.Call.{call, protected, queried, askedSide};
+ghost use Rattle.calls.specs.Buffers.{readOut, orderOut};
+ghost use Rattle.calls.specs.Call.{call, protected, queried, askedSide, orderSide};
 ghost use Rattle.entries.specs.Publication.{publicationLength};
-ghost use Rattle.query.specs.code.Asked.{markedOf, askedOf};
+ghost use Rattle.query.specs.code.Asked.{markedOf, askedOf, measuredOf, orderedOf};
 use calls::Protected;
+use calls::Tried;
 use lists::Found;
 use opening::Book;
 use page::Page;
 use ranking::Side;
+use sweep::Steps;
 
 /// Reads a symbol's publication into the first 96 bytes of the buffer.
 pub fn read(book: &[u8], symbol: &[u8], publication: &mut [u8]) -> u8
@@ -109,6 +111,68 @@ pub fn is_protected(book: &[u8], symbol: &[u8], mark: u8, price: u64) -> Protect
                 number: 0,
                 yes: found.yes,
                 looked: found.looked,
+            }
+        }
+    }
+}
+
+// Checks 82 and 83, for page k.
+fn measured(lots: u32, room: usize, k: usize) -> Asked
+    ensures { λ r. ⌜ r ≡ measuredOf lots room k ⌝ }
+{
+    if lots == 0 {
+        return Asked::Refused(82);
+    }
+    if 1_000_000 < lots {
+        return Asked::Refused(82);
+    }
+    if room < Steps::LEN {
+        return Asked::Refused(83);
+    }
+    Asked::Page(k)
+}
+
+// Checks 1, 10, 74, 82 and 83 of an order.
+fn judge_order(book: &[u8], symbol: &[u8], mark: u8, lots: u32, room: usize) -> Asked
+    ensures { λ r. ⌜ r ≡ orderedOf (now (book .entry)) (now (symbol .entry)) mark lots room ⌝ }
+{
+    let asked = judge(book, symbol, mark);
+    match asked {
+        Asked::Refused(number) => Asked::Refused(number),
+        Asked::Page(k) => measured(lots, room, k),
+    }
+}
+
+// B buys at the offers, S sells at the bids.
+fn order_side(mark: u8) -> Side
+    ensures { λ r. ⌜ r ≡ orderSide mark ⌝ }
+{
+    if mark != b'B' {
+        return Side::Bid;
+    }
+    Side::Offer
+}
+
+/// Plays an order of so many round lots on the symbol's page, at the offers (mark B) or at the bids (mark S), and lists its steps. None
+/// while the symbol is halted.
+pub fn try_order(book: &[u8], symbol: &[u8], mark: u8, lots: u32, steps: &mut [u8]) -> Tried
+    ensures { λ r. ⌜ record { number = r .number; found = r .steps; amount = r .unfilled; steps = now (steps .exit) } ≡ orderOut (now (book .entry)) (now (symbol .entry)) mark lots (now (steps .entry)) ⌝ }
+{
+    let asked = judge_order(book, symbol, mark, lots, steps.len());
+    match asked {
+        Asked::Refused(number) => Tried {
+            number,
+            steps: 0,
+            unfilled: 0,
+        },
+        Asked::Page(k) => {
+            let start = Book::OPENING_LEN + k * Book::PAGE_LEN;
+            let end = start + Book::PAGE_LEN;
+            let swept = sweep::play(&book[start..end], order_side(mark), lots, steps);
+            Tried {
+                number: 0,
+                steps: swept.steps,
+                unfilled: swept.unfilled,
             }
         }
     }

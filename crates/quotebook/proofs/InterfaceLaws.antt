@@ -6,9 +6,9 @@ use mathlib.Core.Bool.{Bool, cond}
 use mathlib.Core.List.{List, [], _∷_}
 use borrow.Author.Tests.{le-leb, lt-leb}
 use Rattle.block.specs.Written.{Out, writtenOut}
-use Rattle.calls.specs.Buffers.{TakenBlock, taken, RunOut, runOut}
+use Rattle.calls.specs.Buffers.{TakenBlock, taken, OrderOut, orderOut, RunOut, runOut}
 use Rattle.calls.specs.Call.{Outcome, queried, runTold, call, protected, convertLen}
-use Rattle.quotebook.specs.Interface.{bookLen, numbered, takenNumbers, queryNumbers, protectedNumbers, amountNumbers, lengthNumbers, runNumbers, convertedNumbers, outNumbers, writtenNumbers}
+use Rattle.quotebook.specs.Interface.{bookLen, numbered, takenNumbers, queryNumbers, protectedNumbers, amountNumbers, lengthNumbers, runNumbers, convertedNumbers, outNumbers, writtenNumbers, orderNumbers, triedNumbers}
 use Rattle.opening.specs.Layout.{bookLength, symbolsMost}
 
 module _ (n : ℕ) where
@@ -44,3 +44,7 @@ length-numbered b v n l h = ap (λ (o : Outcome). amountNumbers (o .answer)) h
 pub run-numbered : (b v out : List ℕ) (o : RunOut) → o ≡ runOut b v out → runNumbers o ≡ convertedNumbers b v out
 unfolding convertedNumbers
 run-numbered b v out o h = ap runNumbers h
+
+pub order-told : (b s : List ℕ) (m w : ℕ) (steps : List ℕ) (o : OrderOut) → o ≡ orderOut b s m w steps → orderNumbers o ≡ triedNumbers b s m w steps
+unfolding triedNumbers
+order-told b s m w steps o h = ap orderNumbers h

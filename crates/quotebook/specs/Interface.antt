@@ -6,7 +6,7 @@ use mathlib.Core.List.{List, [], _∷_}
 use lib.Dec.{leb}
 use Rattle.block.specs.Written.{Out, writtenOut}
 use Rattle.calls.specs.declared.Report.{Report}
-use Rattle.calls.specs.Buffers.{TakenBlock, taken, RunOut, runOut}
+use Rattle.calls.specs.Buffers.{TakenBlock, taken, OrderOut, orderOut, RunOut, runOut}
 use Rattle.calls.specs.Call.{Answer, call, protected, convertLen}
 use Rattle.opening.specs.Layout.{bookLength, symbolsMost}
 
@@ -73,3 +73,15 @@ runNumbers o = record { number = o .number; report = o .number ∷ o .length ∷
 -- T-11, the run: number, bytes written
 unfoldable pub convertedNumbers : List ℕ → List ℕ → List ℕ → RunNumbers
 convertedNumbers b v output = runNumbers (runOut b v output)
+
+pub record TriedNumbers : Type 0 where
+  pub number : ℕ
+  pub report : List ℕ
+  pub steps : List ℕ
+
+abbrev pub orderNumbers : OrderOut → TriedNumbers
+orderNumbers o = record { number = o .number; report = o .number ∷ o .found ∷ o .amount ∷ []; steps = o .steps }
+
+-- T-13: number, steps, lots not found; and the output
+unfoldable pub triedNumbers : List ℕ → List ℕ → ℕ → ℕ → List ℕ → TriedNumbers
+triedNumbers b s m w steps = orderNumbers (orderOut b s m w steps)

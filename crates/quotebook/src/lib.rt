@@ -3,7 +3,7 @@ ghost use mathlib.Core.Path.{_≡_};
 ghost use mathlib.Core.Bool.{cond};
 ghost use Rattle.calls.specs.Call.{bare, call, make, add, openLine, startDay, endDay};
 ghost use Rattle.calls.specs.Buffers.{readOut};
-ghost use Rattle.quotebook.specs.Interface.{bookLen, takenNumbers, protectedNumbers, writtenNumbers, lengthNumbers, convertedNumbers};
+ghost use Rattle.quotebook.specs.Interface.{bookLen, takenNumbers, protectedNumbers, triedNumbers, writtenNumbers, lengthNumbers, convertedNumbers};
 use opening::Book;
 
 const OPENING: u64 = Book::OPENING_LEN as u64;
@@ -153,5 +153,22 @@ pub extern "C" fn qb_convert(
 {
     let told = convert::convert(book, block, output);
     *report = [told.number as u64, told.len as u64];
+    told.number
+}
+
+/// The report's three numbers: number, steps, lots not found. The result is the number too.
+#[no_mangle]
+pub extern "C" fn qb_try_order(
+    book: &[u8],
+    symbol: &[u8],
+    side: u8,
+    lots: u32,
+    steps: &mut [u8],
+    report: &mut [u64; 3],
+) -> u8
+    ensures { λ r. ⌜ record { number = r; report = now (report .exit); steps = now (steps .exit) } ≡ triedNumbers (now (book .entry)) (now (symbol .entry)) side lots (now (steps .entry)) ⌝ }
+{
+    let told = query::try_order(book, symbol, side, lots, steps);
+    *report = [told.number as u64, told.steps as u64, told.unfilled as u64];
     told.number
 }

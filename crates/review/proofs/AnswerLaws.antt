@@ -11,16 +11,17 @@ use Rattle.lists.proofs.Tests.{clash}
 use Rattle.ranking.specs.declared.Side.{Side}
 use Rattle.ranking.specs.declared.Candidate.{Candidate}
 use Rattle.protection.specs.Protection.{protection}
+use Rattle.sweep.specs.Sweep.{swept}
 use Rattle.block.specs.Block.{messagesOf}
 use Rattle.update.proofs.EntryLaws.{bytes-every}
 use Rattle.opening.specs.declared.Line.{Line}
 use Rattle.opening.specs.Opening.{linesIn, restIn, pagesIn}
 use Rattle.line.specs.Line.{done}
-use Rattle.calls.specs.Call.{Call, make, add, openLine, startDay, endDay, take, read, protected, convertLen, convert, numberOf, Answer, bare, lineAnswer, published, askedSide, protectionTold, letterOf, answerOf, entriesIn, publishedOn, candidatesIn, candidatesOn, numberOn, answerOn, call}
+use Rattle.calls.specs.Call.{Call, make, add, openLine, startDay, endDay, take, read, protected, convertLen, convert, tryOrder, numberOf, Answer, bare, lineAnswer, published, askedSide, protectionTold, orderSide, stepsTold, letterOf, answerOf, entriesIn, publishedOn, candidatesIn, candidatesOn, numberOn, answerOn, call}
 use Rattle.work.specs.Work.{Listed, isListed, findReading, listedOf, toldOn}
 use Rattle.opening.proofs.OpeningLaws.{Sound, sound-is}
 use Rattle.opening.proofs.LineLaws.{line-upper, line-open}
-use Rattle.calls.proofs.NumberLaws.{number-same, read-done, protected-done}
+use Rattle.calls.proofs.NumberLaws.{number-same, read-done, protected-done, order-done}
 use Rattle.review.specs.Reviewer.{parts, reviewed, candidatesR, toldR, Review, reviewAnswer}
 use Rattle.review.specs.Lists.{blockIsBytes}
 use Rattle.review.proofs.Agree.{good-reviewed, good-trading, Core, ReadingOf, missing, found, reading-of}
@@ -87,6 +88,16 @@ module _ (n : ℕ) (b : List ℕ) (h : List (List ℕ)) (sd : Sound n b) (y : By
       go false e = refl
   answer-same (convertLen x) z = refl
   answer-same (convert x k) z = refl
+  answer-same (tryOrder x m w k) z = go (done (numberOf (restIn b) ls (tryOrder x m w k))) refl
+    where
+      told : (Side → ℕ → Option Candidate) → Answer
+      told cs = stepsTold (numberOf (restIn b) ls (tryOrder x m w k)) w (swept (orderSide m) w (cs (orderSide m)))
+
+      go : (t : Bool) → done (numberOf (restIn b) ls (tryOrder x m w k)) ≡ t
+          → cond t (told (candidatesOn b (be x))) (bare (numberOf (restIn b) ls (tryOrder x m w k)))
+          ≡ cond t (told (candidatesR h (be x))) (bare (numberOf (restIn b) ls (tryOrder x m w k)))
+      go true e = ap told (candidates-same (be x) (order-done (restIn b) ls x m w k e .1))
+      go false e = refl
 
   answer-sound : (k : Call) → answerOn b k ≡ answerOf (restIn b) ls (toldOn b) (publishedOn b) (candidatesOn b) (numberOn b k) k
   unfolding answerOf
@@ -100,6 +111,7 @@ module _ (n : ℕ) (b : List ℕ) (h : List (List ℕ)) (sd : Sound n b) (y : By
   answer-sound (protected x m v) = rw (sound-is n b sd)
   answer-sound (convertLen x) = rw (sound-is n b sd)
   answer-sound (convert x k) = rw (sound-is n b sd)
+  answer-sound (tryOrder x m w k) = rw (sound-is n b sd)
 
   answer-view : (k : Call) → blockIsBytes k ≡ true → answerOn b k ≡ reviewAnswer (viewOf b h) k
   unfolding reviewAnswer

@@ -21,6 +21,7 @@ use Rattle.review.proofs.Protected as Protected
 use Rattle.review.proofs.Closed as Closed
 use Rattle.review.proofs.Leading as Leading
 use Rattle.review.proofs.Halts as Halts
+use Rattle.review.proofs.Sweeps as Sweeps
 
 abbrev pub OnBook : List Row → Type 0
 OnBook [] = Unit {0}
@@ -78,3 +79,7 @@ leading = on-book Leading.table refl Leading.cases
 pub halts : OnBook Halts.table
 unfolding Halts.table blocksAreBytes every beBytes
 halts = on-book Halts.table refl Halts.cases
+
+pub sweeps : OnBook Sweeps.table
+unfolding Sweeps.table blocksAreBytes every beBytes
+sweeps = on-book Sweeps.table refl Sweeps.cases

@@ -16,9 +16,10 @@ use Rattle.lists.proofs.Members.{In}
 use Rattle.entries.specs.Entries.{entriesOf, unlessHalted}
 use Rattle.entries.proofs.LengthLaws.{length-publication}
 use Rattle.line.specs.Line.{done}
-use Rattle.calls.specs.Call.{Call, make, read, protected, convertLen, convert, numberOf, call, answers, bytesAfter}
+use Rattle.calls.specs.Call.{Call, make, read, protected, convertLen, convert, tryOrder, numberOf, call, answers, bytesAfter}
 use Rattle.calls.proofs.ProtectedLaws.{protected-keeps}
 use Rattle.calls.proofs.ConvertLaws.{length-keeps, convert-keeps}
+use Rattle.calls.proofs.OrderLaws.{order-keeps}
 use Rattle.work.specs.Work.{Listed}
 use Rattle.review.specs.Reviewer.{quoteOf, makersOf, levelsOf, haltedOf, parts, reviewedBy, reviewed, Review, freshReview, restAfter, symbolsAfter, historyAfter, reviewCall, reviewAnswers, reviewAfter}
 use Rattle.review.specs.Lists.{blocksAreBytes}
@@ -76,6 +77,15 @@ pub conversion-alters-nothing : (b : List ℕ) (v : Review) (x : List ℕ) (room
 unfolding reviewCall restAfter symbolsAfter historyAfter
 conversion-alters-nothing b v x room =
     (length-keeps b x, convert-keeps b x room, go (done (numberOf (v .rest) (v .symbols) (convertLen x))), go (done (numberOf (v .rest) (v .symbols) (convert x room))))
+  where
+    go : (t : Bool) → cond t v v ≡ v
+    go true = refl
+    go false = refl
+
+-- trying an order likewise
+pub order-alters-nothing : (b : List ℕ) (v : Review) (s : List ℕ) (m w room : ℕ) → (call b (tryOrder s m w room) .bytes ≡ b) × (reviewCall v (tryOrder s m w room) ≡ v)
+unfolding reviewCall restAfter symbolsAfter historyAfter
+order-alters-nothing b v s m w room = (order-keeps b s m w room, go (done (numberOf (v .rest) (v .symbols) (tryOrder s m w room))))
   where
     go : (t : Bool) → cond t v v ≡ v
     go true = refl

@@ -19,6 +19,7 @@ pub mod FrameLaws
 pub mod PlaceLaws
 pub mod Protected
 pub mod Halts
+pub mod Sweeps
 pub mod AgreedFrame
 pub mod Frame
 pub mod NumberLaws

@@ -27,12 +27,13 @@ use Rattle.block.specs.declared.Arrival.the-variants.{Taken, Duplicate}
 use Rattle.opening.specs.declared.Line.{Line}
 use Rattle.opening.specs.Opening.{sound, Rest, restIn, pagesIn}
 use Rattle.line.specs.Line.{arrivalNumberOf, lineNumber, checkedNumberOf, blockNumber, onLine}
-use Rattle.calls.specs.Call.{Call, make, add, openLine, startDay, endDay, take, read, protected, convertLen, convert, lots, sideMarks, numberOf, makeGood, isMake, numberOn}
+use Rattle.calls.specs.Call.{Call, make, add, openLine, startDay, endDay, take, read, protected, convertLen, convert, tryOrder, lots, sideMarks, lotsGood, numberOf, makeGood, isMake, numberOn}
 use Rattle.work.specs.Work.{Listed, isListed, listedOf}
 use Rattle.review.specs.Numbers.{numbersOf, codes}
 use Rattle.entries.specs.Publication.{publicationLength}
 use Rattle.venue.specs.Venue.{venueCount, venueSequence, blockGood, venueMessages, messagesGood, messagesPlaced, venueNumber}
 use Rattle.venuerun.specs.Run.{neededOf, convertNumber}
+use Rattle.sweep.specs.Sweep.{stepsLength}
 use Rattle.opening.specs.Layout.{lineCount}
 use Rattle.page.specs.Layout.{makerCount}
 
@@ -173,6 +174,10 @@ number-of r ls (read s room) = either (ltb room publicationLength) (among refl) 
 number-of r ls (protected s m x) = either (symbolGood s && isListed (be s) ls) (either (member sideMarks m) (among refl) (among refl)) (among refl)
 number-of r ls (convertLen v) = venue-known v
 number-of r ls (convert v room) = convert-known v room
+number-of r ls (tryOrder s m w room) =
+    either (symbolGood s && isListed (be s) ls)
+    (either (member sideMarks m) (either (lotsGood w) (either (ltb room stepsLength) (among refl) (among refl)) (among refl)) (among refl))
+    (among refl)
 
 sounded : (b : List ℕ) (c : Call) → isMake c ≡ false → member (numbersOf c) 1 ≡ true → Among (numbersOf c) (numberOn b c)
 unfolding numberOn
@@ -190,6 +195,7 @@ known-of b (read s room) = sounded b (read s room) refl refl
 known-of b (protected s m x) = sounded b (protected s m x) refl refl
 known-of b (convertLen v) = sounded b (convertLen v) refl refl
 known-of b (convert v room) = sounded b (convert v room) refl refl
+known-of b (tryOrder s m w room) = sounded b (tryOrder s m w room) refl refl
 
 -- the number of a call is one of document 01's, on any bytes
 pub number-known : (b : List ℕ) (c : Call) → member (numbersOf c) (numberOn b c) ≡ true

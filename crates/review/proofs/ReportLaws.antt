@@ -14,13 +14,14 @@ use Rattle.ranking.specs.declared.Side.{Side}
 use Rattle.ranking.specs.declared.Candidate.{Candidate}
 use Rattle.levels.specs.Levels.{Standing, Odd, oddOn, fifth, oddCode}
 use Rattle.protection.specs.Protection.{protection}
+use Rattle.sweep.specs.Sweep.{swept}
 use Rattle.block.specs.Block.{messagesOf}
 use Rattle.block.specs.Written.{joined}
 use Rattle.venuerun.specs.Run.{neededOf, venueRun}
 use Rattle.opening.specs.declared.Line.{Line}
 use Rattle.opening.specs.Opening.{sound, Rest, restIn, pagesIn}
 use Rattle.line.specs.Line.{done, gapTold, advanced}
-use Rattle.calls.specs.Call.{Call, make, add, openLine, startDay, endDay, take, read, protected, convertLen, convert, Answer, bare, protectionTold, askedSide, report, lineAnswer, runTold, listedLot, letterOf, answerOf, publishedOn, candidatesOn, makeGood, isMake, numberOn, call}
+use Rattle.calls.specs.Call.{Call, make, add, openLine, startDay, endDay, take, read, protected, convertLen, convert, tryOrder, Answer, bare, protectionTold, askedSide, stepsTold, orderSide, report, lineAnswer, runTold, listedLot, letterOf, answerOf, publishedOn, candidatesOn, makeGood, isMake, numberOn, call}
 use Rattle.told.specs.Told.{quads}
 use Rattle.work.specs.Work.{Listed, listedOf, toldOn}
 use Rattle.told.specs.declared.Told.{Told}
@@ -66,6 +67,11 @@ module _ (r : Rest) (ls : List Listed) (ts : ℕ → List (List ℕ) → List To
       go : (t : Bool) → (cond {A = Answer} t (runTold k (neededOf v) (joined (venueRun (listedLot ls) v))) (bare k)) .number ≡ k
       go true = refl
       go false = refl
+  answer-number (tryOrder s m w room) = go (done k)
+    where
+      go : (t : Bool) → (cond {A = Answer} t (stepsTold k w (swept (orderSide m) w (cs (be s) (orderSide m)))) (bare k)) .number ≡ k
+      go true = refl
+      go false = refl
 
 number-other : (b : List ℕ) (c : Call) → isMake c ≡ false
     → (cond {A = Answer} (sound b) (answerOf (restIn b) (listedOf (pagesIn b)) (toldOn b) (publishedOn b) (candidatesOn b) (numberOn b c) c) (bare 1)) .number ≡ numberOn b c
@@ -89,6 +95,7 @@ number-told b (read s room) = number-other b (read s room) refl
 number-told b (protected s m x) = number-other b (protected s m x) refl
 number-told b (convertLen v) = number-other b (convertLen v) refl
 number-told b (convert v room) = number-other b (convert v room) refl
+number-told b (tryOrder s m w room) = number-other b (tryOrder s m w room) refl
 
 -- ---- refusals
 
@@ -121,8 +128,9 @@ answer-empty r ls ts p cs k (read s room) e = (refl, rw e, refl, refl, refl)
 answer-empty r ls ts p cs k (protected s m x) e = rw e (refl, refl, refl, refl, refl)
 answer-empty r ls ts p cs k (convertLen v) e = rw e (refl, refl, refl, refl, refl)
 answer-empty r ls ts p cs k (convert v room) e = rw e (refl, refl, refl, refl, refl)
+answer-empty r ls ts p cs k (tryOrder s m w room) e = rw e (refl, refl, refl, refl, refl)
 
--- and fills nothing: neither the answer buffer, the publication buffer nor an output; a query tells no and 0
+-- and fills nothing: no answer, publication or output buffer; a query tells no and 0
 pub refused-empty : (b : List ℕ) (c : Call) → done (call b c .answer .number) ≡ false
     → (call b c .answer .answers ≡ []) × (call b c .answer .publication ≡ []) × (call b c .answer .found ≡ 0) × (call b c .answer .amount ≡ 0) × (call b c .answer .output ≡ [])
 unfolding call

@@ -16,6 +16,7 @@ use Rattle.levels.specs.Levels as Levels
 use Rattle.entries.specs.Entries as Entries
 use Rattle.entries.specs.Publication as Publication
 use Rattle.protection.specs.Protection as Protection
+use Rattle.sweep.specs.Sweep as Sweep
 use Rattle.text.specs.Form as Form
 use Rattle.message.specs.Message as Message
 use Rattle.block.specs.Block as Block
@@ -24,7 +25,7 @@ use Rattle.line.specs.Line as Line
 use Rattle.calls.specs.Call as Call
 use Rattle.told.specs.Told as Told
 use Rattle.work.specs.Work as Work
-use Rattle.calls.specs.Call.{Call, add, openLine, startDay, take, read, protected, Answer}
+use Rattle.calls.specs.Call.{Call, add, openLine, startDay, take, read, protected, tryOrder, Answer}
 use Rattle.review.specs.Runs as Runs
 use Rattle.review.specs.Reviewer as Reviewer
 use Rattle.review.specs.Reviewer.{freshReview, reviewAnswers}
@@ -137,6 +138,13 @@ yes looked = replicate 7 0 ++ (1 ∷ looked ∷ [])
 
 abbrev pub no : List ℕ
 no = replicate 7 0 ++ (0 ∷ 26 ∷ [])
+
+-- an order that was tried: its steps, and the lots not found
+abbrev pub step : ℕ → ℕ → ℕ → List ℕ
+step letter price lots = letter ∷ (beBytes 8 price ++ beBytes 4 lots)
+
+abbrev pub filled : List (List ℕ) → ℕ → List ℕ
+filled steps unfilled = replicate 7 0 ++ (length steps ∷ unfilled ∷ joined steps)
 
 -- ---- a publication: six entries of a name of 4 bytes, a price and a size
 
@@ -258,6 +266,13 @@ bidAt price = protected zt 66 price
 abbrev pub offerAt : ℕ → Call
 offerAt price = protected zt 83 price
 
+-- so many lots of ZT to buy, to sell
+abbrev pub buy : ℕ → Call
+buy lots = tryOrder zt 66 lots 325
+
+abbrev pub sell : ℕ → Call
+sell lots = tryOrder zt 83 lots 325
+
 -- ---- rows
 
 -- a book of n symbols, the calls after its make, and what each is answered
@@ -276,7 +291,7 @@ fromMake n cs told = record { n = n; calls = cs; answers = told }
 
 -- what the reviewer answers, worked out by the definitions named here
 unfoldable pub answered : ℕ → List Call → List (List ℕ)
-unfolding Field.be Field.beBytes Field.part Field.field Lists.sum Lists.member Lists.every Lists.all Ranking.comparedBy Ranking.lower Ranking.higher Ranking.byPrice Ranking.compared Ranking.better Ranking.whyAhead Quote.admits Quote.counts Quote.emptyQuote Quote.withCondition Quote.withTimes Quote.candidateOf Levels.without Levels.insert Levels.itemOn Levels.itemsOn Levels.clears Levels.clearedBy Levels.oddOn Levels.itemsBad Levels.oddBad Levels.oddCode Levels.itemAt Levels.itemsFrom Levels.oddIn Entries.letters Entries.makerCandidate Entries.finraBest Entries.asD Entries.letterCandidate Entries.candidates Entries.nationalBest Entries.nationalReason Entries.oddCandidate Entries.ranks Entries.letterLevels Entries.oddBest Entries.entriesBy Entries.entriesOf Entries.unlessHalted Entries.tradingCandidates Publication.noEntry Publication.publication Publication.changeFlags Protection.firstYes Protection.protection Lists.firstFrom Form.padded Form.symbolGood Form.makerGood Message.controlKind Message.quoteKind Message.statusKind Message.kindOf Message.timeOf Message.symbolOf Message.levelAt Message.quoteAt Message.makerName Message.oddAt Message.priceFault Message.quoteFault Message.readInquiry Message.testBytes Message.readTest Message.readFinra Message.readRoundLot Message.readOddLot Message.readMaker Message.readStatus Message.messageOf Message.makerCode Message.statusCode Message.codeOf Message.partlyTaken Block.checksumOf Block.startAt Block.messageAt Block.messagesFrom Block.messagesOf Block.lengthGood Block.spaced Block.tableGood Block.controlAmong Block.checked Block.idleBlock Sequence.gapOf Sequence.nextOf Sequence.arrivalOf Work.isListed Work.listedWith Line.lineNumber Line.blockNumber Call.numberOf Line.done Told.quads Told.tally Line.gapTold Line.advanced Call.answerOf Work.flagsOf Runs.latestRun Runs.firstTime Reviewer.parts Reviewer.roundsOf Reviewer.quoteOf Reviewer.makerQuotes Reviewer.conditionOf Reviewer.makerOf Reviewer.namesOf Reviewer.makersOf Reviewer.levelsOf Reviewer.haltedOf Reviewer.reviewedBy Reviewer.knownTo Reviewer.restAfter Reviewer.symbolsAfter Reviewer.historyAfter Reviewer.reviewCall Reviewer.reviewAnswer
+unfolding Field.be Field.beBytes Field.part Field.field Lists.sum Lists.member Lists.every Lists.all Ranking.comparedBy Ranking.lower Ranking.higher Ranking.byPrice Ranking.compared Ranking.better Ranking.whyAhead Quote.admits Quote.counts Quote.emptyQuote Quote.withCondition Quote.withTimes Quote.candidateOf Levels.without Levels.insert Levels.itemOn Levels.itemsOn Levels.clears Levels.clearedBy Levels.oddOn Levels.itemsBad Levels.oddBad Levels.oddCode Levels.itemAt Levels.itemsFrom Levels.oddIn Entries.letters Entries.makerCandidate Entries.finraBest Entries.asD Entries.letterCandidate Entries.candidates Entries.nationalBest Entries.nationalReason Entries.oddCandidate Entries.ranks Entries.letterLevels Entries.oddBest Entries.entriesBy Entries.entriesOf Entries.unlessHalted Entries.tradingCandidates Publication.noEntry Publication.publication Publication.changeFlags Protection.firstYes Protection.protection Lists.firstFrom Sweep.without Sweep.play Sweep.swept Sweep.filled Sweep.stepBytes Sweep.stepsBytes Form.padded Form.symbolGood Form.makerGood Message.controlKind Message.quoteKind Message.statusKind Message.kindOf Message.timeOf Message.symbolOf Message.levelAt Message.quoteAt Message.makerName Message.oddAt Message.priceFault Message.quoteFault Message.readInquiry Message.testBytes Message.readTest Message.readFinra Message.readRoundLot Message.readOddLot Message.readMaker Message.readStatus Message.messageOf Message.makerCode Message.statusCode Message.codeOf Message.partlyTaken Block.checksumOf Block.startAt Block.messageAt Block.messagesFrom Block.messagesOf Block.lengthGood Block.spaced Block.tableGood Block.controlAmong Block.checked Block.idleBlock Sequence.gapOf Sequence.nextOf Sequence.arrivalOf Work.isListed Work.listedWith Line.lineNumber Line.blockNumber Call.numberOf Line.done Told.quads Told.tally Line.gapTold Line.advanced Call.answerOf Work.flagsOf Runs.latestRun Runs.firstTime Reviewer.parts Reviewer.roundsOf Reviewer.quoteOf Reviewer.makerQuotes Reviewer.conditionOf Reviewer.makerOf Reviewer.namesOf Reviewer.makersOf Reviewer.levelsOf Reviewer.haltedOf Reviewer.reviewedBy Reviewer.knownTo Reviewer.restAfter Reviewer.symbolsAfter Reviewer.historyAfter Reviewer.reviewCall Reviewer.reviewAnswer
 answered n cs = allTold (reviewAnswers (freshReview n) cs)
 
 -- every row is answered as it says

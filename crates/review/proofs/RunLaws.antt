@@ -15,7 +15,7 @@ use Rattle.lists.proofs.Members.{In}
 use Rattle.text.specs.Form.{symbolGood, symbolLength}
 use Rattle.opening.specs.Opening.{freshBytes}
 use Rattle.line.specs.Line.{done}
-use Rattle.calls.specs.Call.{Call, make, add, openLine, startDay, endDay, take, read, protected, convertLen, convert, numberOf, Answer, answerOf, makeGood, numberOn, afterCall, call, bytesAfter, answers}
+use Rattle.calls.specs.Call.{Call, make, add, openLine, startDay, endDay, take, read, protected, convertLen, convert, tryOrder, numberOf, Answer, answerOf, makeGood, numberOn, afterCall, call, bytesAfter, answers}
 use Rattle.work.specs.Work.{Listed, isListed, listedOf}
 use Rattle.opening.proofs.FreshLaws.{fresh-sound, fresh-bytes, fresh-rest, fresh-pages}
 use Rattle.calls.proofs.NumberLaws.{add-done, symbol-back}
@@ -106,6 +106,7 @@ after-wells v (read s k) d w = w
 after-wells v (protected s m x) d w = w
 after-wells v (convertLen x) d w = w
 after-wells v (convert x k) d w = w
+after-wells v (tryOrder s m n k) d w = w
 
 call-wells : (v : Review) (c : Call) → Wells (v .symbols) → Wells (reviewCall v c .symbols)
 unfolding reviewCall

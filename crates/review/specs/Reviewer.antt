@@ -25,7 +25,7 @@ use Rattle.message.specs.Message.{roundLength, kindOf, symbolOf, roundLotOdd, o
 use Rattle.opening.specs.declared.Line.{Line}
 use Rattle.opening.specs.Opening.{Rest}
 use Rattle.line.specs.Line.{done, advanced}
-use Rattle.calls.specs.Call.{Call, make, add, openLine, startDay, endDay, take, read, protected, convertLen, convert, numberOf, letterOf, Answer, answerOf}
+use Rattle.calls.specs.Call.{Call, make, add, openLine, startDay, endDay, take, read, protected, convertLen, convert, tryOrder, numberOf, letterOf, Answer, answerOf}
 use Rattle.work.specs.Work.{Listed, isListed, lotOf, primaryOf, flagsOf}
 use Rattle.told.specs.declared.Told.{Told}
 use Rattle.review.specs.Runs.{latest}
@@ -126,7 +126,7 @@ reviewedBy h s = publication (unlessHalted (haltedOf h s) (entriesOf (quoteOf h 
 abbrev pub reviewed : List (List ℕ) → ℕ → List ℕ
 reviewed h s = reviewedBy (parts h) s
 
--- the symbol's national candidates of a side by letter, for T-06; none while it is halted
+-- the symbol's national candidates of a side by letter, for T-06 and T-13; none while it is halted
 abbrev pub candidatesR : List (List ℕ) → ℕ → Side → ℕ → Option Candidate
 candidatesR h s = tradingCandidates (haltedOf (parts h) s) (candidates (quoteOf (parts h) s) (makersOf (parts h) s))
 
@@ -197,6 +197,7 @@ restAfter r (read s room) = r
 restAfter r (protected s m x) = r
 restAfter r (convertLen v) = r
 restAfter r (convert v room) = r
+restAfter r (tryOrder s m w room) = r
 
 unfoldable pub symbolsAfter : List Listed → Call → List Listed
 symbolsAfter ls (make n) = []
@@ -209,6 +210,7 @@ symbolsAfter ls (read s room) = ls
 symbolsAfter ls (protected s m x) = ls
 symbolsAfter ls (convertLen v) = ls
 symbolsAfter ls (convert v room) = ls
+symbolsAfter ls (tryOrder s m w room) = ls
 
 -- "make and Start of Day with 0 empty the history"; "Nothing else alters the history"
 unfoldable pub historyAfter : Rest → List Listed → List (List ℕ) → Call → List (List ℕ)
@@ -222,6 +224,7 @@ historyAfter r ls h (read s room) = h
 historyAfter r ls h (protected s m x) = h
 historyAfter r ls h (convertLen v) = h
 historyAfter r ls h (convert v room) = h
+historyAfter r ls h (tryOrder s m w room) = h
 
 -- "a refused call alters nothing"
 unfoldable pub reviewCall : Review → Call → Review

@@ -81,7 +81,7 @@ candidate-counts s n q h = go (ltb 0 (sideOf s q .price)) refl (ltb 0 (sideOf s 
         record { price = λ z. omega arith; size = λ z. omega arith; fits = h }
 
 -- a letter's candidate has its letter as its name
-letter-named : (s : Side) (quotes : ℕ → Quote) (o : Option Candidate) (j : ℕ) (c : Candidate) → letterCandidate s quotes o j ≡ some c → c .name ≡ j
+pub letter-named : (s : Side) (quotes : ℕ → Quote) (o : Option Candidate) (j : ℕ) (c : Candidate) → letterCandidate s quotes o j ≡ some c → c .name ≡ j
 unfolding letterCandidate candidateOf asD
 letter-named s quotes o j c h = go (eqb j D) refl (eqb j S) (counts s (quotes j)) o h
   where
@@ -100,7 +100,7 @@ module _ (p : List ℕ) (b : Bytes p) where
   quote-counts : (s : Side) (n at : ℕ) → OrCounting (candidateOf s n (quoteIn (part p at quoteLength)))
   quote-counts s n at = candidate-counts s n (quoteIn (part p at quoteLength)) (rw (← quote-side p at s) (price-below p (at + inQuote s) b))
 
-  maker-counts : (s : Side) (k : ℕ) → OrCounting (makerAt p s k)
+  pub maker-counts : (s : Side) (k : ℕ) → OrCounting (makerAt p s k)
   unfolding makerAt makerCandidate
   maker-counts s k = rw (maker-at p (cellAt k)) (go (member (76 ∷ 82 ∷ []) (field p (cellAt k + nameLength) 1)))
     where
@@ -113,7 +113,7 @@ module _ (p : List ℕ) (b : Bytes p) where
   as-d-counts none h = tt
   as-d-counts (some c) h = record { price = h .price; size = h .size; fits = h .fits }
 
-  letter-counts : (s : Side) (o : Option Candidate) (l : ℕ) → OrCounting o → OrCounting (letterCandidate s (quotesIn p) o l)
+  pub letter-counts : (s : Side) (o : Option Candidate) (l : ℕ) → OrCounting o → OrCounting (letterCandidate s (quotesIn p) o l)
   unfolding letterCandidate quotesIn
   letter-counts s o l h = go (eqb l D) (eqb l S) (upper l)
     where
@@ -161,7 +161,7 @@ module _ (p : List ℕ) (b : Bytes p) where
   unfolding finraBest
   finra-is s = ap (best (better s)) (maker-list s)
 
-  finra-counts : (s : Side) → OrCounting (fb s)
+  pub finra-counts : (s : Side) → OrCounting (fb s)
   unfolding finraBest
   finra-counts s = rw (← maker-list s) (best-counts s (makerAt p s) (maker-counts s) (range makerCount 0))
 

@@ -63,8 +63,8 @@ fn level(page: &[u8], at: usize, name: u32) -> Candidate
     }
 }
 
-// A side of the quote at `at` under a name, none if that side doesn't count.
-fn quoted(page: &[u8], at: usize, side: Side, name: u32) -> Candidate
+/// A side of the quote at `at` under a name, none if that side doesn't count.
+pub fn quoted(page: &[u8], at: usize, side: Side, name: u32) -> Candidate
     requires { ⌜ at + quoteLength ≤ length (now page) ⌝ }
     ensures { λ r. ⌜ r ≡ orNone (candidateOf side name (quoteIn (part (now (page .entry)) at quoteLength))) ⌝ }
 {
@@ -151,8 +151,8 @@ fn walk_finra(page: &[u8], last: usize) -> Sides
     walk_makers(page)
 }
 
-// D's candidate: its FINRA best, under the letter D.
-fn as_d(c: Candidate) -> Candidate
+/// D's candidate: its FINRA best, under the letter D.
+pub fn as_d(c: Candidate) -> Candidate
     ensures { λ r. ⌜ r ≡ asD c ⌝ }
 {
     Candidate {

@@ -1,0 +1,11 @@
+pub mod GreedyLaws
+pub mod SelectionLaws
+pub mod PlayLaws
+pub mod DividedLaws
+pub mod LastLaws
+pub mod SweepLaws
+pub mod NextLaws
+pub mod LoopLaws
+pub mod HaltLaws
+pub mod StepsLaws
+pub mod Cases
