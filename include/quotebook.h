@@ -5,7 +5,8 @@
  *
  * Duties of the caller, which no call can check:
  *   - every pointer is valid for the length passed with it, also for length 0: never a null pointer;
- *   - the buffers of one call do not overlap: book, symbol, messages, lengths, block, answer, report, publication and output lie apart;
+ *   - the buffers of one call do not overlap: book, symbol, messages, lengths, block, answer, report, publication, output and
+ *     steps lie apart;
  *   - nobody else reads or writes the book during a call that changes it. Several readers at once are fine.
  * Everything else is checked: any bytes of any length may be lent as book, symbol, block or messages, and any numbers as lengths. A
  * refused call changes no byte of the book and fills no buffer, but for the report, which says why.
@@ -31,7 +32,9 @@ enum {
     QB_RUN_MAX = 3600,       /* no run of blocks that a venue's block is converted to is longer */
     QB_ANSWER_LEN = 180,     /* at least: 4 bytes for each of up to 45 messages */
     QB_PUBLICATION_LEN = 96, /* at least: six entries */
-    QB_ENTRY_LEN = 16
+    QB_ENTRY_LEN = 16,
+    QB_STEPS_LEN = 325, /* at least: 25 steps */
+    QB_STEP_LEN = 13
 };
 
 /* Numbers that calls answer. */
@@ -46,7 +49,7 @@ enum {
     QB_LINE_OR_LETTER = 7,      /* open: the line is above 63, or the letter is not A to Z without S */
     QB_LINE_OPEN = 8,           /* open: the line is already open */
     QB_BUFFER_SHORT = 9,        /* block: the answer buffer is under 180 bytes; read: the publication buffer under 96 */
-    QB_SYMBOL_UNKNOWN = 10,     /* read, is protected: the symbol is malformed or not listed */
+    QB_SYMBOL_UNKNOWN = 10,     /* read, is protected, try: the symbol is malformed or not listed */
     QB_DAY_OPEN = 11,           /* start: the day is already open */
     QB_DAY_NOT_OPEN = 12,       /* end: the day is not open */
     QB_BLOCK_WHILE_CLOSED = 20, /* block: the day is not open */
@@ -61,11 +64,13 @@ enum {
     QB_WRITE_MESSAGES = 71,     /* write: no messages, over 45, one under 20 bytes, lengths that do not add up, or a block over 1,000 */
     QB_WRITE_CONTROL = 72,      /* write: a control message among others */
     QB_WRITE_SHORT = 73,        /* write: the output is shorter than the block */
-    QB_SIDE = 74,               /* is protected: the side mark is not B or S */
+    QB_SIDE = 74,               /* is protected, try: the side mark is not B or S */
     QB_PRIMARY = 75,            /* add: the primary letter is not A to Z without S */
     QB_VENUE_BLOCK = 78,        /* convert: the block breaks a rule of the venues' form */
     QB_VENUE_UNPLACED = 79,     /* convert: a type, letter or condition without a place here, or a message too long for one block */
-    QB_CONVERT_SHORT = 80       /* convert: the output is shorter than the run */
+    QB_CONVERT_SHORT = 80,      /* convert: the output is shorter than the run */
+    QB_LOTS = 82,               /* try: the lots are not 1 to 1,000,000 */
+    QB_STEPS_SHORT = 83         /* try: the output is under 325 bytes */
 };
 
 /* Codes of messages, in the answer buffer. A Q K with 60 to 64 is partly accepted: its quote is in force, its odd lots did nothing. */
@@ -118,6 +123,21 @@ enum {
     QB_PROTECTED_YES = 1,    /* 1 for yes, 0 for no */
     QB_PROTECTED_LOOKED = 2, /* letters looked at: the place of the first that answers yes, A being 1, or 26 for no */
     QB_PROTECTED_LEN = 3
+};
+
+/* Places in the report of an order that is tried. */
+enum {
+    QB_TRIED_NUMBER = 0,
+    QB_TRIED_STEPS = 1,    /* how many steps it has, 25 at most */
+    QB_TRIED_UNFILLED = 2, /* the lots that nobody shows */
+    QB_TRIED_LEN = 3
+};
+
+/* Places in a step. */
+enum {
+    QB_STEP_LETTER = 0, /* the exchange; D is FINRA */
+    QB_STEP_PRICE = 1,  /* 8 bytes, six implied decimals */
+    QB_STEP_LOTS = 9    /* 4 bytes, the round lots taken */
 };
 
 /* Bytes of a book for n symbols; 0 if n is not 1 to 64. */
@@ -173,6 +193,15 @@ uint8_t qb_convert_len(const uint8_t *book, size_t len, const uint8_t *block, si
  * report: number, bytes written (0 after a refusal); always filled. */
 uint8_t qb_convert(const uint8_t *book, size_t len, const uint8_t *block, size_t block_len,
                    uint8_t *output, size_t output_len, uint64_t report[2]);
+
+/* Plays an order of 1 to 1,000,000 round lots: side B buys at the offers, S sells at the bids. Each step takes from the best exchange not
+ * yet used, in the order of the national best, as many lots as are wanted and shown; D stands with its FINRA best. A halted symbol
+ * fills nothing. Answers 0, 1, 10, 74, 82, 83. No other division of as many lots over the same quotes costs less to buy or brings more to sell.
+ * steps: QB_STEPS_LEN bytes at least, 13 filled for each step (letter 1, price 8, lots 4, big-endian); the bytes behind stay.
+ * report: number, steps, lots not found; always filled, 0 behind the number after a refusal.
+ * The book isn't changed; no day need be open. */
+uint8_t qb_try_order(const uint8_t *book, size_t len, const uint8_t *symbol, size_t symbol_len,
+                     uint8_t side, uint32_t lots, uint8_t *steps, size_t steps_len, uint64_t report[3]);
 
 /* Writes the block that carries count messages, laid end to end, under a sequence number. No book is needed. Answers 0, 71, 72, 73.
  * lengths: one for each message, messages_len in all.

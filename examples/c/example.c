@@ -1,5 +1,5 @@
 /* One quote of the New York Stock Exchange becomes a block, the block goes into a book, and the best prices come out; then a desk asks
- * whether prices are protected, and the exchange halts the symbol. `tests/c-example` builds and runs it. */
+ * whether prices are protected, a router tries an order, and the exchange halts the symbol. `tests/c-example` builds and runs it. */
 #include <stdio.h>
 #include <stdlib.h>
 #include <string.h>
@@ -38,9 +38,9 @@ static void status_message(uint8_t message[32], char status) {
 
 int main(void) {
     static const uint8_t zt[] = "ZT         ";
-    uint8_t quote[60], status[32], block[QB_BLOCK_MAX], answer[QB_ANSWER_LEN], publication[QB_PUBLICATION_LEN];
+    uint8_t quote[60], status[32], block[QB_BLOCK_MAX], answer[QB_ANSWER_LEN], publication[QB_PUBLICATION_LEN], steps[QB_STEPS_LEN];
     const uint32_t lengths[] = {sizeof quote}, halt[] = {sizeof status};    /* one for each message */
-    uint64_t written[2], report[QB_REPORT_LEN], told[QB_PROTECTED_LEN];
+    uint64_t written[2], report[QB_REPORT_LEN], told[QB_PROTECTED_LEN], tried[QB_TRIED_LEN];
     size_t len = (size_t)qb_book_len(1);
     uint8_t *book = (uint8_t *)malloc(len);
     if (!book || qb_make(book, len, 1) || qb_add_symbol(book, len, zt, QB_SYMBOL_LEN, 100, 'N') /* N may halt it */
@@ -64,14 +64,19 @@ int main(void) {
         printf("a bid at %.2f or more: %s, letters looked at %d\n", (double)price / 1e6,
                told[QB_PROTECTED_YES] ? "yes" : "no", (int)told[QB_PROTECTED_LOOKED]);
     }
+    if (qb_try_order(book, len, zt, QB_SYMBOL_LEN, 'B', 5, steps, sizeof steps, tried)) return 1; /* 5 lots to buy */
+    for (const uint8_t *step = steps; step < steps + QB_STEP_LEN * tried[QB_TRIED_STEPS]; step += QB_STEP_LEN)
+        printf("buy: %c %.2f for %d\n", step[QB_STEP_LETTER], (double)get(step + QB_STEP_PRICE, 8) / 1e6, (int)get(step + QB_STEP_LOTS, 4));
+    printf("lots not found: %d\n", (int)tried[QB_TRIED_UNFILLED]);
 
     status_message(status, 'H');                                            /* its primary exchange halts ZT */
     if (qb_write_block(status, sizeof status, halt, 1, 2, block, sizeof block, written)
         || qb_take_block(book, len, 5, block, (size_t)written[1], answer, sizeof answer, report)
         || qb_is_protected(book, len, zt, QB_SYMBOL_LEN, 'B', 9990000, told)
+        || qb_try_order(book, len, zt, QB_SYMBOL_LEN, 'B', 5, steps, sizeof steps, tried)
         || qb_read(book, len, zt, QB_SYMBOL_LEN, publication, sizeof publication)) return 1;
-    printf("halted: code %d, flags %d; a bid at 9.99 or more: %s; best bid: %s\n", answer[1], answer[2],
-           told[QB_PROTECTED_YES] ? "yes" : "no", publication[0] == ' ' ? "none" : "one");
+    printf("halted: code %d, flags %d; a bid at 9.99 or more: %s; best bid: %s; lots not found: %d\n", answer[1], answer[2],
+           told[QB_PROTECTED_YES] ? "yes" : "no", publication[0] == ' ' ? "none" : "one", (int)tried[QB_TRIED_UNFILLED]);
     free(book);
     return 0;
 }

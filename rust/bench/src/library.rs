@@ -1,7 +1,7 @@
 //! The proved library on lent memory, under the calls that all books here have.
 
 use quotebook::lent;
-use second::{Converted, Protected, QuoteBook, Report};
+use second::{Converted, Protected, QuoteBook, Report, Tried};
 
 /// A book of the library and the memory that is lent to its calls.
 pub struct Library {
@@ -89,6 +89,16 @@ impl QuoteBook for Library {
         Converted {
             number: told.number.into(),
             len: told.len,
+        }
+    }
+
+    #[inline]
+    fn try_order(&self, symbol: &[u8], side: u8, lots: u32, steps: &mut [u8]) -> Tried {
+        let told = lent::try_order(&self.memory, symbol, side, lots, steps);
+        Tried {
+            number: told.number.into(),
+            steps: told.steps as u8,
+            unfilled: told.unfilled,
         }
     }
 }

@@ -1,4 +1,5 @@
-//! What a query about a protected price costs, by the letter that answers, beside a read.
+//! What a query about a protected price costs, by the letter that answers, and an order, by its steps,
+//! beside a read.
 
 use std::hint::black_box;
 use std::time::Instant;
@@ -14,6 +15,14 @@ const ASKED: [(&str, u64, u8); 5] = [
     ("yes at N", 13, 14),
     ("yes at Z", 25, 26),
     ("no", 26, 26),
+];
+
+/// The orders: the lots of so many steps, three lots each.
+const ORDERS: [(&str, u32, u8); 4] = [
+    ("an order of 1 step", 3, 1),
+    ("5 steps", 15, 5),
+    ("25 steps", 75, 25),
+    ("25 steps, lots not found", 1_000_000, 25),
 ];
 
 /// Calls of a round, and rounds.
@@ -75,7 +84,7 @@ pub fn fastest(rounds: usize, mut call: impl FnMut(usize)) -> f64 {
     (0..rounds).map(round).fold(f64::INFINITY, f64::min)
 }
 
-/// A row for each answer and a read, for 1 and 64 symbols, bids and offers alike.
+/// A row for each answer, each order and a read, for 1 and 64 symbols, bids and offers alike.
 pub fn print(rounds: usize) {
     println!("| query, ns a call | n | library, bids | library, offers | Engine, bids |");
     println!("|---|---|---|---|---|");
@@ -99,6 +108,22 @@ pub fn print(rounds: usize) {
                 time(&library, b'B', bid),
                 time(&library, b'S', offer),
                 time(&engine, b'B', bid),
+            ];
+            let times = times.map(|time| format!("{time:.0}"));
+            println!("| {name} | {n} | {} |", times.join(" | "));
+        }
+        for (name, lots, expected) in ORDERS {
+            let mut steps = [0; 325];
+            let mut time = |book: &dyn QuoteBook, side| {
+                fastest(rounds, |call| {
+                    let told = book.try_order(&symbols[call], side, lots, black_box(&mut steps));
+                    assert_eq!((told.number, told.steps), (0, expected));
+                })
+            };
+            let times = [
+                time(&library, b'S'),
+                time(&library, b'B'),
+                time(&engine, b'S'),
             ];
             let times = times.map(|time| format!("{time:.0}"));
             println!("| {name} | {n} | {} |", times.join(" | "));

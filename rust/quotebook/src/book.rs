@@ -2,9 +2,10 @@
 
 use std::fmt::{self, Debug, Formatter};
 
-use crate::lent::{self, ANSWER_LEN, PUBLICATION_LEN, RUN_MAX, SYMBOL_LEN};
+use crate::lent::{self, ANSWER_LEN, PUBLICATION_LEN, RUN_MAX, STEPS_LEN, SYMBOL_LEN};
 use crate::message::filled_up;
 use crate::number::Refusal;
+use crate::order::{Order, Trial};
 use crate::price::Price;
 use crate::protection::{Protection, Side};
 use crate::publication::Publication;
@@ -108,6 +109,20 @@ impl Book {
         Ok(Run {
             bytes: output[..converted.len].to_vec(),
         })
+    }
+
+    /// Tries an order of 1 to 1,000,000 round lots: what it would take, step by step, at the offers or at
+    /// the bids. A halted symbol fills nothing. A day need not be open, and the book is not changed.
+    pub fn try_order(
+        &self,
+        symbol: impl AsRef<[u8]>,
+        order: Order,
+        lots: u32,
+    ) -> Result<Trial, Refusal> {
+        let mut steps = [0; STEPS_LEN];
+        let symbol = symbol_bytes(symbol);
+        let told = lent::try_order(&self.memory, &symbol, order.mark(), lots, &mut steps);
+        Trial::new(order, told, &steps)
     }
 
     /// The book's memory, to keep a copy that can be lent to the functions of [`lent`].

@@ -73,6 +73,17 @@ mod c {
             output_len: usize,
             report: *mut u64,
         ) -> u8;
+        pub fn qb_try_order(
+            book: *const u8,
+            len: usize,
+            symbol: *const u8,
+            symbol_len: usize,
+            side: u8,
+            lots: u32,
+            steps: *mut u8,
+            steps_len: usize,
+            report: *mut u64,
+        ) -> u8;
     }
 }
 
@@ -221,6 +232,32 @@ pub fn convert(book: &[u8], block: &[u8], output: &mut [u8], report: &mut [u64; 
             block.len(),
             output.as_mut_ptr(),
             output.len(),
+            report.as_mut_ptr(),
+        )
+    }
+}
+
+/// The result of the call is the report's number too.
+pub fn try_order(
+    book: &[u8],
+    symbol: &[u8],
+    side: u8,
+    lots: u32,
+    steps: &mut [u8],
+    report: &mut [u64; 3],
+) -> u8 {
+    // SAFETY: each pointer and its length are one slice's; the report has its three numbers; book and
+    // symbol are only read.
+    unsafe {
+        c::qb_try_order(
+            book.as_ptr(),
+            book.len(),
+            symbol.as_ptr(),
+            symbol.len(),
+            side,
+            lots,
+            steps.as_mut_ptr(),
+            steps.len(),
             report.as_mut_ptr(),
         )
     }

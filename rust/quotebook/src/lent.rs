@@ -6,6 +6,7 @@
 
 use crate::ffi;
 use crate::number::Number;
+use crate::order::Tried;
 use crate::protection::Protected;
 use crate::report::Report;
 use crate::run::Converted;
@@ -23,6 +24,10 @@ pub const PUBLICATION_LEN: usize = 96;
 pub const RUN_MAX: usize = 3600;
 /// The length of a symbol.
 pub const SYMBOL_LEN: usize = 11;
+/// The length of a step of an order: letter 1, price 8, lots 4.
+pub const STEP_LEN: usize = 13;
+/// The shortest output of an order: 25 steps.
+pub const STEPS_LEN: usize = 325;
 
 fn number(byte: u8) -> Number {
     Number::try_from(byte).expect("the library answers numbers of document 01")
@@ -95,6 +100,14 @@ pub fn convert(book: &[u8], block: &[u8], output: &mut [u8]) -> Converted {
     let mut fields = [0; 2];
     let answered = ffi::convert(book, block, output, &mut fields);
     Converted::from_fields(number(answered), fields)
+}
+
+/// Plays an order of so many round lots, which buys at the offers (side mark B) or sells at the bids
+/// (S). The first 13 bytes for each step are filled: those of a [`Step`](crate::Step).
+pub fn try_order(book: &[u8], symbol: &[u8], side: u8, lots: u32, steps: &mut [u8]) -> Tried {
+    let mut fields = [0; 3];
+    let answered = ffi::try_order(book, symbol, side, lots, steps, &mut fields);
+    Tried::from_fields(number(answered), fields)
 }
 
 /// Writes the block that carries these messages, laid end to end with a length for each, under a
@@ -191,6 +204,30 @@ mod tests {
         }
         assert_eq!(filled(&book, &block, Some(71)), [80, 0]);
         assert_eq!(filled(&[], &[], Some(0)), [1, 0]);
+    }
+
+    /// Trying an order writes its three numbers, whatever they were, and its result is the first.
+    #[test]
+    fn an_orders_report_is_filled() {
+        let mut book = vec![0; book_len(1).expect("one symbol")];
+        assert_eq!(make(&mut book, 1), Number::Done);
+        let zt = b"ZT         ";
+        assert_eq!(add_symbol(&mut book, zt, 100, b'N'), Number::Done);
+        let filled = |book: &[u8], symbol: &[u8], side, lots, room| {
+            let mut fields = [u64::MAX; 3];
+            let mut steps = vec![0xEE; room];
+            let result = ffi::try_order(book, symbol, side, lots, &mut steps, &mut fields);
+            assert_eq!(u64::from(result), fields[0]);
+            assert!(steps.iter().all(|&byte| byte == 0xEE));
+            fields
+        };
+        assert_eq!(filled(&book, zt, b'B', 7, STEPS_LEN), [0, 0, 7]);
+        assert_eq!(filled(&book, zt, b'S', 7, STEPS_LEN - 1), [83, 0, 0]);
+        assert_eq!(filled(&book, zt, b'S', 0, 0), [82, 0, 0]);
+        assert_eq!(filled(&book, zt, b'X', 0, 0), [74, 0, 0]);
+        assert_eq!(filled(&book, b"ZT", b'X', 0, 0), [10, 0, 0]);
+        assert_eq!(filled(&book[1..], zt, b'B', 7, STEPS_LEN), [1, 0, 0]);
+        assert_eq!(filled(&[], &[], 0, 0, 0), [1, 0, 0]);
     }
 
     /// The writer writes both numbers of its report, and its result is the first.

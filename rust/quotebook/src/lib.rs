@@ -2,7 +2,7 @@
 //!
 //! ```
 //! use quotebook::message::{Header, RoundLotQuote};
-//! use quotebook::{write_block, Book, Code, Side};
+//! use quotebook::{write_block, Book, Code, Order, Side};
 //!
 //! # fn main() -> Result<(), Box<dyn std::error::Error>> {
 //! let quote = RoundLotQuote::new(Header::new(b'N', 7), "ZT".parse()?)
@@ -23,6 +23,8 @@
 //! assert_eq!(best.odd_bid, None);
 //! let bid = book.is_protected("ZT", Side::Bids, "10.00".parse()?)?;
 //! assert_eq!(bid.to_string(), "yes: N bids 10.00 or more");
+//! let order = book.try_order("ZT", Order::Buy, 3)?;
+//! assert_eq!(order.to_string(), "N 10.02 x 2; 1 not found");
 //! # Ok(())
 //! # }
 //! ```
@@ -43,6 +45,7 @@ mod field_error;
 pub mod lent;
 pub mod message;
 mod number;
+mod order;
 mod price;
 mod protection;
 mod publication;
@@ -55,6 +58,7 @@ pub use book::Book;
 pub use code::Code;
 pub use field_error::FieldError;
 pub use number::{Number, Refusal};
+pub use order::{Order, Step, Trial, Tried};
 pub use price::Price;
 pub use protection::{Protected, Protection, Side};
 pub use publication::{Entry, Name, Publication, Reason};

@@ -33,11 +33,13 @@ table! {
     71 WriteMessages "No messages, over 45, one under 20 bytes, lengths that do not add up, or a block over 1,000.";
     72 WriteControl "A control message among others: it has to be alone in its block.";
     73 WriteShort "The output is shorter than the block to write.";
-    74 Side "The side mark is not B (bids) or S (offers).";
+    74 Side "The side mark is not B or S.";
     75 Primary "The primary letter is not A to Z, or it is S.";
     78 VenueBlock "The venue's block breaks a rule of its form.";
     79 VenueUnplaced "A message of the venue's block has no place here: its type, letter, condition or length.";
     80 ConvertShort "The output is shorter than the run to write.";
+    82 Lots "The lots are not 1 to 1,000,000.";
+    83 StepsShort "The output is under 325 bytes.";
 }
 
 impl Number {

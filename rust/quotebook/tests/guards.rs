@@ -83,6 +83,16 @@ fn a_byte_at_a_conversion() {
 }
 
 #[test]
+fn a_byte_at_an_order() {
+    let mut book = book();
+    let zt = build::symbol("ZT");
+    let order = |book: &Guarded| book.try_order(&zt, b'B', 1, &mut [0; 325]).number;
+    assert_eq!(order(&book), 0);
+    book.plant(page(0).start + 12);
+    assert_eq!(order(&book), broken::BEYOND);
+}
+
+#[test]
 fn a_byte_at_a_read() {
     let mut book = book();
     book.plant(page(0).start + 12);

@@ -25,6 +25,8 @@ mod line;
 mod messages;
 #[path = "../../second/tests/hand/operator.rs"]
 mod operator;
+#[path = "../../second/tests/hand/orders.rs"]
+mod orders;
 #[path = "../../second/tests/hand/protection.rs"]
 mod protection;
 #[path = "../../second/tests/hand/times.rs"]

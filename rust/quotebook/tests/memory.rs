@@ -8,12 +8,14 @@ mod support;
 use std::collections::BTreeMap;
 
 use second::generate::{self, Random};
-use second::{build, Call, Converted, Protected, QuoteBook, Report};
+use second::{build, Call, Converted, Protected, QuoteBook, Report, Tried};
 use support::damage::{damage, overwrite, Wrong};
 use support::foretold::{self, ensure, Left, NUMBERS};
 use support::guarded::{Fenced, Guarded};
 use support::layout::{in_page, is_book, page, record, N, SYMBOL};
-use support::parts::{against_the_entry, on_wrong_entries, resent, ASKED, PARTS, RESENT};
+use support::parts::{
+    against_the_entry, beside_the_entry, on_wrong_entries, resent, ASKED, ORDERED, PARTS, RESENT,
+};
 use support::reading::Reading;
 
 const BOOKS: u64 = 4_000;
@@ -56,7 +58,7 @@ fn any_memory() {
 }
 
 /// Sound books whose pages have wrong entries, overwritten before each call. Each kind of part meets
-/// each kind of wrong entries, and queries are answered otherwise than these say.
+/// each kind of wrong entries, queries are answered otherwise than these say, and orders begin elsewhere.
 #[test]
 fn wrong_entries() {
     let mut reached = BTreeMap::new();
@@ -75,7 +77,7 @@ fn wrong_entries() {
         }
     }
     for wrong in Wrong::ALL {
-        for part in PARTS.into_iter().chain([ASKED]) {
+        for part in PARTS.into_iter().chain([ASKED, ORDERED]) {
             let times = reached.get(&(wrong, part)).copied().unwrap_or(0);
             println!("{wrong:?}, {part}: {times} times");
             assert_ne!(times, 0, "{wrong:?}, {part}");
@@ -108,7 +110,9 @@ fn fit(random: &mut Random, call: &Call, memory: &[u8]) -> Call {
     let at = random.below(usize::from(memory[N]));
     let of_page = in_page(at, SYMBOL);
     match &mut call {
-        Call::Read { symbol, .. } | Call::AddSymbol { symbol, .. } => {
+        Call::Read { symbol, .. }
+        | Call::AddSymbol { symbol, .. }
+        | Call::TryOrder { symbol, .. } => {
             *symbol = memory[of_page].to_vec();
         }
         // A price that stands in the page, or one beside it.
@@ -132,18 +136,19 @@ fn fit(random: &mut Random, call: &Call, memory: &[u8]) -> Call {
     call
 }
 
-/// What the calls that only read a book tell beside their numbers.
-#[derive(Clone, Copy, PartialEq, Debug, Default)]
-pub struct Told {
-    protected: Option<Protected>,
+/// What a call tells: but for a block, the report has its number alone. What the calls that only read a
+/// book tell stands beside it.
+#[derive(Default)]
+struct Told {
+    report: Report,
+    asked: Option<Protected>,
     converted: Option<Converted>,
+    tried: Option<Tried>,
 }
 
-/// Makes a call; but for a block, the report has its number alone. What is told besides stands beside
-/// it.
-fn make_call(book: &mut Guarded, call: &Call, buffer: &mut [u8]) -> (Report, Told) {
-    let mut asked = Told::default();
-    let number = match call {
+fn make_call(book: &mut Guarded, call: &Call, buffer: &mut [u8]) -> Told {
+    let mut told = Told::default();
+    told.report.number = match call {
         Call::Make { n } => book.make(*n),
         Call::AddSymbol {
             symbol,
@@ -154,7 +159,8 @@ fn make_call(book: &mut Guarded, call: &Call, buffer: &mut [u8]) -> (Report, Tol
         Call::StartDay => book.start_day(),
         Call::EndDay => book.end_day(),
         Call::TakeBlock { line, block, .. } => {
-            return (book.take_block(*line, block, buffer), asked);
+            told.report = book.take_block(*line, block, buffer);
+            return told;
         }
         Call::Read { symbol, .. } => book.read(symbol, buffer),
         Call::IsProtected {
@@ -162,33 +168,36 @@ fn make_call(book: &mut Guarded, call: &Call, buffer: &mut [u8]) -> (Report, Tol
             side,
             price,
         } => {
-            let told = book.is_protected(symbol, *side, *price);
-            asked.protected = Some(told);
-            told.number
+            let asked = book.is_protected(symbol, *side, *price);
+            told.asked = Some(asked);
+            asked.number
         }
         Call::ConvertLen { block } => {
-            let told = book.convert_len(block);
-            asked.converted = Some(told);
-            told.number
+            let converted = book.convert_len(block);
+            told.converted = Some(converted);
+            converted.number
         }
         Call::Convert { block, .. } => {
-            let told = book.convert(block, buffer);
-            asked.converted = Some(told);
-            told.number
+            let converted = book.convert(block, buffer);
+            told.converted = Some(converted);
+            converted.number
+        }
+        Call::TryOrder {
+            symbol, side, lots, ..
+        } => {
+            let tried = book.try_order(symbol, *side, *lots, buffer);
+            told.tried = Some(tried);
+            tried.number
         }
     };
-    let report = Report {
-        number,
-        ..Report::default()
-    };
-    (report, asked)
+    told
 }
 
 /// What a call on any memory led to.
 struct Checked {
     number: u8,
     /// The kind of a taken block's first message, if that met wrong entries, or a query that was
-    /// answered otherwise than the kept entry says.
+    /// answered otherwise than the kept entry says, or an order that begins elsewhere.
     met: Option<&'static str>,
     /// Which sides of the first message keep a time.
     resent: Vec<&'static str>,
@@ -202,12 +211,18 @@ fn check_call(memory: &mut Vec<u8>, call: &Call) -> Result<Checked, String> {
             publication_len, ..
         } => *publication_len,
         Call::Convert { output_len, .. } => *output_len,
+        Call::TryOrder { steps_len, .. } => *steps_len,
         _ => 0,
     };
     let pattern: Vec<u8> = (0..room).map(|at| 0xA5 ^ at as u8).collect();
     let mut buffer = Fenced::new(&pattern);
     let mut book = Guarded::over(memory);
-    let (report, asked) = make_call(&mut book, call, buffer.bytes_mut());
+    let Told {
+        report,
+        asked,
+        converted,
+        tried,
+    } = make_call(&mut book, call, buffer.bytes_mut());
 
     let number = report.number;
     let (_, numbers) = NUMBERS[foretold::row(call)];
@@ -216,11 +231,13 @@ fn check_call(memory: &mut Vec<u8>, call: &Call) -> Result<Checked, String> {
         let right = number == foretold;
         ensure(right, format!("number {number}, not {foretold}"))?;
     }
-    let expected = Told {
-        protected: foretold::protected(memory, call, number),
-        converted: foretold::converted(memory, call).map(|(told, _)| told),
-    };
+    let expected = foretold::protected(memory, call, number);
     ensure(asked == expected, format!("{asked:?}, not {expected:?}"))?;
+    let expected = foretold::converted(memory, call).map(|(told, _)| told);
+    let right = converted == expected;
+    ensure(right, format!("{converted:?}, not {expected:?}"))?;
+    let expected = foretold::tried(memory, call, number).map(|(told, _)| told);
+    ensure(tried == expected, format!("{tried:?}, not {expected:?}"))?;
     ensure(buffer.stands(), "a byte around the buffer was written")?;
     let left = Left {
         before: memory,
@@ -242,8 +259,11 @@ fn check_call(memory: &mut Vec<u8>, call: &Call) -> Result<Checked, String> {
             checked.resent = resent(memory, &messages[0], code);
         }
         (Call::IsProtected { .. }, 0) => {
-            checked.met =
-                against_the_entry(memory, call, asked.protected.is_some_and(|told| told.yes));
+            checked.met = against_the_entry(memory, call, asked.is_some_and(|told| told.yes));
+        }
+        (Call::TryOrder { .. }, 0) => {
+            let steps = tried.map_or(0, |told| 13 * usize::from(told.steps));
+            checked.met = beside_the_entry(memory, call, &buffer.bytes()[..steps]);
         }
         _ => {}
     }

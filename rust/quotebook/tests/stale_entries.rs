@@ -565,3 +565,23 @@ fn a_query_goes_by_the_quotes() {
     bytes[slot(b'T')].fill(0);
     assert_eq!(asked(&Guarded::over(&bytes), b'B', TEN), no);
 }
+
+/// An order goes by the quotes of the page, not by its entries, and leaves these as they stand.
+#[test]
+fn an_order_goes_by_the_quotes() {
+    let order = |book: &Guarded, side| {
+        let mut steps = [0; 325];
+        let told = book.try_order(&build::symbol("ZT"), side, 7, &mut steps);
+        assert_eq!(told.number, 0);
+        let price = u64::from_be_bytes(steps[1..9].try_into().expect("eight bytes"));
+        (told.steps, steps[0], price)
+    };
+    let book = claimed(self::book(), &ALL);
+    assert_eq!([order(&book, b'B'), order(&book, b'S')], [(0, 0, 0); 2]);
+    for (line, message, letter) in [(N, quote(b'N', &Odd::IDLE), b'N'), (D, maker(), b'D')] {
+        let book = claimed(after(self::book(), line, message), &ALL);
+        assert_eq!(order(&book, b'B'), (1, letter, TEN + 2 * CENT));
+        assert_eq!(order(&book, b'S'), (1, letter, TEN));
+        assert_eq!(read(&book, "ZT"), CLAIMED);
+    }
+}

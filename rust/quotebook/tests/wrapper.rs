@@ -3,9 +3,10 @@
 
 use std::collections::HashSet;
 
-use quotebook::lent::{self, PUBLICATION_LEN, RUN_MAX};
+use quotebook::lent::{self, PUBLICATION_LEN, RUN_MAX, STEPS_LEN};
 use quotebook::{
-    Answer, Book, Code, Number, Price, Protection, Publication, Reason, Refusal, Side,
+    Answer, Book, Code, Number, Order, Price, Protection, Publication, Reason, Refusal, Side, Step,
+    Trial,
 };
 use second::build::{self, Odd, Round};
 use second::{generate, terms, Call};
@@ -17,7 +18,7 @@ fn numbers_and_codes_are_those_of_the_documents() {
         .collect();
     let mut expected: Vec<u8> = (0..=12).collect();
     expected.extend([
-        20, 21, 30, 31, 32, 33, 34, 35, 70, 71, 72, 73, 74, 75, 78, 79, 80,
+        20, 21, 30, 31, 32, 33, 34, 35, 70, 71, 72, 73, 74, 75, 78, 79, 80, 82, 83,
     ]);
     assert_eq!(numbers, expected);
     let codes: Vec<u8> = (0..=255)
@@ -272,6 +273,80 @@ fn a_desk_asks_whether_a_price_is_protected() -> Result<(), Refusal> {
 }
 
 #[test]
+fn a_router_tries_an_order() -> Result<(), Refusal> {
+    let mut book = book()?;
+    assert_eq!(
+        book.try_order("ZT", Order::Buy, 7)?.to_string(),
+        "7 not found"
+    );
+    book.take_block(5, &quote(1, (10_000_000, 3), &Odd::IDLE))?;
+    let round = Round::regular(b'D', 7, "ZT", NOTHING, (10_015_000, 9));
+    let maker = build::maker_quote(&round, build::maker("AB"));
+    book.take_block(7, &build::block(1, &[maker]))?;
+    let before = book.clone();
+    let trial = book.try_order("ZT", Order::Buy, 10)?;
+    let steps = [(b'D', 10_015_000, 9), (b'N', 10_020_000, 1)];
+    let steps = steps.map(|(letter, price, lots)| Step {
+        letter,
+        price: Price(price),
+        lots,
+    });
+    assert_eq!(trial.steps, steps);
+    assert_eq!((trial.filled(), trial.unfilled), (10, 0));
+    assert_eq!(trial.total(), 9 * 10_015_000 + 10_020_000);
+    assert_eq!(trial.average_price(), Some(Price(10_015_500)));
+    assert_eq!(trial.to_string(), "D 10.015 x 9, N 10.02 x 1");
+    let trial = book.try_order("ZT", Order::Sell, 10)?;
+    assert_eq!(trial.to_string(), "N 10.00 x 3; 7 not found");
+    assert_eq!((trial.order, trial.total()), (Order::Sell, 30_000_000));
+    assert_eq!(book, before);
+    for (symbol, lots, number) in [
+        ("XX", 1, Number::SymbolUnknown),
+        ("ZT", 0, Number::Lots),
+        ("ZT", 1_000_001, Number::Lots),
+    ] {
+        let refusal = book.try_order(symbol, Order::Buy, lots).unwrap_err();
+        assert_eq!(refusal.number, number);
+    }
+    let zt = build::symbol("ZT");
+    let mut output = [0xEE; 324];
+    let refused = lent::try_order(book.as_bytes(), &zt, b'B', 1, &mut output);
+    assert_eq!(
+        (refused.number, refused.steps, refused.unfilled),
+        (Number::StepsShort, 0, 0)
+    );
+    assert_eq!(output, [0xEE; 324]);
+    Ok(())
+}
+
+/// Totals past 64 bits are exact; an average is rounded to the nearest millionth.
+#[test]
+fn totals_and_averages() {
+    let trial = |steps: &[(u64, u32)]| Trial {
+        order: Order::Buy,
+        steps: steps
+            .iter()
+            .map(|&(price, lots)| Step {
+                letter: b'N',
+                price: Price(price),
+                lots,
+            })
+            .collect(),
+        unfilled: 0,
+    };
+    let large = trial(&[(u64::MAX, 999_999), (u64::MAX, 1)]);
+    assert_eq!(large.total(), u128::from(u64::MAX) * 1_000_000);
+    assert_eq!(large.average_price(), Some(Price(u64::MAX)));
+    assert_eq!(trial(&[]).average_price(), None);
+    assert_eq!(trial(&[]).total(), 0);
+    for (other, average) in [(10, 10), (11, 11), (12, 11), (13, 12)] {
+        let halved = trial(&[(10, 1), (other, 1)]);
+        assert_eq!(halved.average_price(), Some(Price(average)));
+    }
+    assert_eq!(trial(&[(10, 2), (11, 1)]).average_price(), Some(Price(10)));
+}
+
+#[test]
 fn symbols_are_filled_up() -> Result<(), Refusal> {
     let mut book = book()?;
     assert_eq!(
@@ -379,6 +454,27 @@ fn a_book_and_lent_memory_agree() {
                         assert_eq!(run.blocks().collect::<Vec<_>>().concat(), run.as_bytes());
                     }
                     (run.map(|_| ()), lent.number)
+                }
+                Call::TryOrder { side, .. } if !b"BS".contains(side) => continue,
+                Call::TryOrder {
+                    symbol, side, lots, ..
+                } => {
+                    let order = match *side {
+                        b'B' => Order::Buy,
+                        _ => Order::Sell,
+                    };
+                    let mut steps = [0; STEPS_LEN];
+                    let filled = filled_up(symbol);
+                    let lent = lent::try_order(&memory, &filled, *side, *lots, &mut steps);
+                    let tried = book.try_order(symbol, order, *lots);
+                    if let Ok(trial) = &tried {
+                        let (steps, _) = steps.as_chunks();
+                        let steps = steps[..lent.steps].iter().map(Step::from_bytes);
+                        assert!(trial.steps.iter().copied().eq(steps));
+                        assert_eq!(trial.unfilled, lent.unfilled);
+                        assert_eq!(trial.filled() + trial.unfilled, *lots);
+                    }
+                    (tried.map(|_| ()), lent.number)
                 }
             };
             match method {

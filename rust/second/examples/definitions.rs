@@ -12,8 +12,8 @@
 
 use second::compare::{lent_part, observe, Observed};
 use second::coverage::Coverage;
-use second::terms::PUBLICATION_LEN;
-use second::{generate, Call, List, Protected, QuoteBook, Report, Reviewer};
+use second::terms::{PUBLICATION_LEN, STEP_LEN};
+use second::{generate, Call, List, Protected, QuoteBook, Report, Reviewer, Tried};
 
 fn word(at: usize) -> String {
     let usage = "usage: definitions FIRST_SEED LISTS CALLS SYMBOLS MESSAGES each|end";
@@ -90,7 +90,8 @@ fn messages_of(observed: &Observed) -> usize {
     (report.accepted + report.partly + report.rejected) as usize
 }
 
-/// The seven numbers of an answer, then the bytes that the call filled and the numbers of a query.
+/// The seven numbers of an answer, then the answers or the publication that the call filled, the numbers of
+/// a query, and the steps of an order.
 fn told(observed: &Observed) -> Vec<u64> {
     let bare = Report {
         number: observed.number,
@@ -98,18 +99,29 @@ fn told(observed: &Observed) -> Vec<u64> {
     };
     let filled = match observed.report {
         Some(_) => 4 * messages_of(observed),
+        None if observed.tried.is_some() => {
+            STEP_LEN * observed.tried.map_or(0, |told| told.steps.into())
+        }
         None if observed.number == 0 && !observed.buffer.is_empty() => PUBLICATION_LEN,
         None => 0,
     };
     let mut told = observed.report.unwrap_or(bare).fields().to_vec();
-    if filled > 0 {
-        let bytes = &lent_part(&observed.buffer)[..filled];
-        told.extend(bytes.iter().map(|&byte| u64::from(byte)));
-    }
     if let Some(Protected { yes, looked, .. }) = observed.protected {
         if yes || looked > 0 {
             told.extend([u64::from(yes), u64::from(looked)]);
         }
+    }
+    if let Some(Tried {
+        steps, unfilled, ..
+    }) = observed.tried
+    {
+        if steps > 0 || unfilled > 0 {
+            told.extend([u64::from(steps), u64::from(unfilled)]);
+        }
+    }
+    if filled > 0 {
+        let bytes = &lent_part(&observed.buffer)[..filled];
+        told.extend(bytes.iter().map(|&byte| u64::from(byte)));
     }
     told
 }
@@ -140,6 +152,12 @@ fn term(call: &Call) -> String {
             price,
         } => format!("protected {} {side} {price}", row(symbol)),
         Call::ConvertLen { .. } | Call::Convert { .. } => unreachable!("conversions are left out"),
+        Call::TryOrder {
+            symbol,
+            side,
+            lots,
+            steps_len,
+        } => format!("tryOrder {} {side} {lots} {steps_len}", row(symbol)),
     }
 }
 

@@ -68,6 +68,17 @@ pub enum Call {
         /// The length of the output.
         output_len: usize,
     },
+    /// Try an order.
+    TryOrder {
+        /// The symbol, of any length.
+        symbol: Vec<u8>,
+        /// The side mark.
+        side: u8,
+        /// The round lots wanted.
+        lots: u32,
+        /// The length of the output.
+        steps_len: usize,
+    },
 }
 
 /// A list of calls on a fresh book of n symbols.
@@ -122,6 +133,12 @@ impl Display for Call {
             Call::Convert { block, output_len } => {
                 write!(f, "convert {} {output_len}", Hex(block))
             }
+            Call::TryOrder {
+                symbol,
+                side,
+                lots,
+                steps_len,
+            } => write!(f, "order {} {side} {lots} {steps_len}", Hex(symbol)),
         }
     }
 }
@@ -191,6 +208,12 @@ fn parse_call(words: &[&str]) -> Option<Call> {
         ["convert", block, output_len] => Call::Convert {
             block: bytes(block)?,
             output_len: output_len.parse().ok()?,
+        },
+        ["order", symbol, side, lots, steps_len] => Call::TryOrder {
+            symbol: bytes(symbol)?,
+            side: side.parse().ok()?,
+            lots: lots.parse().ok()?,
+            steps_len: steps_len.parse().ok()?,
         },
         _ => return None,
     })

@@ -3,7 +3,7 @@
 use std::fmt::{self, Display, Formatter};
 
 use crate::call::{Call, List};
-use crate::quote_book::{Protected, QuoteBook, Report};
+use crate::quote_book::{Protected, QuoteBook, Report, Tried};
 use crate::terms::{ANSWER_LEN, PUBLICATION_LEN};
 use crate::venue::Converted;
 
@@ -21,6 +21,8 @@ pub struct Observed {
     pub protected: Option<Protected>,
     /// What a conversion, or the question for its length, answers.
     pub converted: Option<Converted>,
+    /// What trying an order reports.
+    pub tried: Option<Tried>,
     /// Every byte of the buffer lent to the call, and of the guards around it.
     pub buffer: Vec<u8>,
     /// What a read afterwards gives for each symbol that the list adds: number and buffer.
@@ -80,6 +82,7 @@ fn observe_call(book: &mut dyn QuoteBook, call: &Call, watched: &Watched) -> Obs
     let mut report = None;
     let mut protected = None;
     let mut converted = None;
+    let mut tried = None;
     let mut buffer = Vec::new();
     let number = match call {
         Call::Make { n } => book.make(*n),
@@ -128,6 +131,17 @@ fn observe_call(book: &mut dyn QuoteBook, call: &Call, watched: &Watched) -> Obs
             converted = Some(told);
             told.number
         }
+        Call::TryOrder {
+            symbol,
+            side,
+            lots,
+            steps_len,
+        } => {
+            buffer = patterned(*steps_len);
+            let told = book.try_order(symbol, *side, *lots, lent(&mut buffer));
+            tried = Some(told);
+            told.number
+        }
     };
     let publications = watched.symbols.iter().map(|symbol| {
         let mut publication = patterned(PUBLICATION_LEN);
@@ -144,6 +158,7 @@ fn observe_call(book: &mut dyn QuoteBook, call: &Call, watched: &Watched) -> Obs
         report,
         protected,
         converted,
+        tried,
         buffer,
         publications,
         records: records.collect(),
@@ -216,6 +231,10 @@ impl Display for Difference {
                 f,
                 "the conversion answers {answer:?}, expected {expected:?}"
             )?;
+        }
+        if observed.tried != expected.tried {
+            let (told, expected) = (observed.tried, expected.tried);
+            writeln!(f, "the order tells {told:?}, expected {expected:?}")?;
         }
         write_bytes(f, "the buffer", &observed.buffer, &expected.buffer)?;
         let pairs = observed.publications.iter().zip(&expected.publications);

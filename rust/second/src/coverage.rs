@@ -1,5 +1,5 @@
-//! Counting which numbers, codes, flags, answers to queries, cases of resent quotes, of closed venues,
-//! of leaders and of halts a run of lists has reached.
+//! Counting which numbers, codes, flags, answers to queries, orders, cases of resent quotes, of closed
+//! venues, of leaders and of halts a run of lists has reached.
 
 mod closed;
 mod finra;
@@ -14,7 +14,8 @@ use std::fmt::{self, Display, Formatter};
 use crate::build;
 use crate::call::{Call, List};
 use crate::compare::{lent_part, Observed};
-use crate::quote_book::Protected;
+use crate::quote_book::{Protected, Tried};
+use crate::terms::{FINRA, STEP_LEN};
 use crate::venue::{self, Converted};
 use closed::Closed;
 use finra::Finra;
@@ -23,7 +24,7 @@ use leading::Leading;
 use resent::Resent;
 
 /// The numbers that each call can answer in a list.
-const NUMBERS: [(&str, &[u8]); 10] = [
+const NUMBERS: [(&str, &[u8]); 11] = [
     ("make", &[0, 2]),
     ("add", &[0, 3, 4, 5, 6, 75]),
     ("open", &[0, 7, 8]),
@@ -34,6 +35,7 @@ const NUMBERS: [(&str, &[u8]); 10] = [
     ("protected", &[0, 10, 74]),
     ("convert_len", &[0, 78, 79]),
     ("convert", &[0, 78, 79, 80]),
+    ("order", &[0, 10, 74, 82, 83]),
 ];
 
 /// How many letters a query can look at before it answers yes: the positions of the letters that
@@ -52,6 +54,16 @@ const ANSWERS: [(&str, &[u8]); 6] = [
 
 /// How many blocks runs have in lists. Four are rare there; the worked cases have them.
 const RUNS: [(&str, &[u8]); 1] = [("convert", &[1, 2, 3])];
+
+/// What orders must have: how many steps; in which of them D stands; whether lots are not found.
+const ORDERS: [(&str, &[u8]); 6] = [
+    ("bought in steps", &[0, 1, 2, 3, 4, 5]),
+    ("sold in steps", &[0, 1, 2, 3, 4, 5]),
+    ("bought of D in step", &[1, 2, 3]),
+    ("sold to D in step", &[1, 2, 3]),
+    ("bought, not found", &[0, 1]),
+    ("sold, not found", &[0, 1]),
+];
 
 /// The codes that each type of message can get.
 const CODES: [(&str, &[u8]); 11] = [
@@ -79,7 +91,7 @@ const FLAGS: [(&str, &[u8]); 7] = [
     ("T S", &[1, 2, 4, 8, 16, 32]),
 ];
 
-/// How often each number, code, flag, answer and case was reached.
+/// How often each number, code, flag, answer, order and case was reached.
 #[derive(Default)]
 pub struct Coverage {
     calls: u64,
@@ -88,6 +100,7 @@ pub struct Coverage {
     flags: Counts,
     answers: Counts,
     runs: Counts,
+    orders: Counts,
     resent: Resent,
     closed: Closed,
     finra: Finra,
@@ -166,6 +179,12 @@ impl Coverage {
                 self.halts.ask(symbol);
             }
         }
+        if let (Call::TryOrder { symbol, side, .. }, Some(told)) = (call, observed.tried) {
+            if told.number == 0 {
+                self.note_order(*side, told, lent_part(&observed.buffer));
+                self.halts.try_order(symbol);
+            }
+        }
     }
 
     fn note_answer(&mut self, side: u8, price: u64, answer: Protected) {
@@ -184,6 +203,24 @@ impl Coverage {
             };
             let key = (name, u8::from(answer.yes));
             *self.answers.entry(key).or_default() += 1;
+        }
+    }
+
+    fn note_order(&mut self, side: u8, told: Tried, steps: &[u8]) {
+        let [counted, finra, unfilled] = match side {
+            b'B' => [
+                "bought in steps",
+                "bought of D in step",
+                "bought, not found",
+            ],
+            _ => ["sold in steps", "sold to D in step", "sold, not found"],
+        };
+        let mut note = |name, value| *self.orders.entry((name, value)).or_default() += 1;
+        note(counted, told.steps);
+        note(unfilled, u8::from(told.unfilled > 0));
+        let mut letters = steps.chunks_exact(STEP_LEN).take(told.steps.into());
+        if let Some(at) = letters.position(|step| step[0] == FINRA) {
+            note(finra, at as u8 + 1);
         }
     }
 
@@ -213,6 +250,7 @@ impl Coverage {
         missing.extend(self.finra.missing());
         missing.extend(self.leading.missing());
         missing.extend(missing_in("blocks in a run", &RUNS, &self.runs));
+        missing.extend(missing_in("order", &ORDERS, &self.orders));
         missing
     }
 
@@ -263,6 +301,7 @@ fn call_name(call: &Call) -> &'static str {
         Call::IsProtected { .. } => "protected",
         Call::ConvertLen { .. } => "convert_len",
         Call::Convert { .. } => "convert",
+        Call::TryOrder { .. } => "order",
     }
 }
 
@@ -292,6 +331,7 @@ impl Display for Coverage {
             ("flags", &self.flags),
             ("answers", &self.answers),
             ("blocks in a run", &self.runs),
+            ("orders", &self.orders),
         ];
         for (what, counts) in tables {
             let mut last = "";

@@ -32,6 +32,6 @@ pub mod writer;
 
 pub use call::{Call, List};
 pub use engine::{Engine, Incremental};
-pub use quote_book::{Protected, QuoteBook, Report};
+pub use quote_book::{Protected, QuoteBook, Report, Tried};
 pub use reviewer::Reviewer;
 pub use venue::Converted;

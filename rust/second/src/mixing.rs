@@ -101,7 +101,8 @@ pub fn make_calls(book: &mut dyn QuoteBook, calls: &[Call]) {
             Call::Read { .. }
             | Call::IsProtected { .. }
             | Call::ConvertLen { .. }
-            | Call::Convert { .. } => {}
+            | Call::Convert { .. }
+            | Call::TryOrder { .. } => {}
         }
     }
 }

@@ -57,6 +57,27 @@ impl Protected {
     }
 }
 
+/// What trying an order reports (T-13). A refusal carries its number, no steps and 0.
+#[derive(Clone, Copy, PartialEq, Eq, Debug, Default)]
+pub struct Tried {
+    /// 0, or the refusal.
+    pub number: u8,
+    /// How many steps stand in the output.
+    pub steps: u8,
+    /// The lots not found.
+    pub unfilled: u32,
+}
+
+impl Tried {
+    /// A refused order.
+    pub fn refused(number: u8) -> Tried {
+        Tried {
+            number,
+            ..Tried::default()
+        }
+    }
+}
+
 /// A quote book under its calls. Arguments are raw: a number may be out of range, a symbol,
 /// block or buffer may have any length. Each call answers its number of document 01.
 ///
@@ -94,4 +115,8 @@ pub trait QuoteBook {
 
     /// Writes a venue's block as a run of blocks, end to end.
     fn convert(&self, block: &[u8], output: &mut [u8]) -> Converted;
+
+    /// Plays an order of round lots, buying at the offers (side mark B) or selling at the bids (S), and
+    /// lists its steps, 13 bytes each.
+    fn try_order(&self, symbol: &[u8], side: u8, lots: u32, steps: &mut [u8]) -> Tried;
 }

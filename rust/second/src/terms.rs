@@ -62,6 +62,10 @@ pub mod number {
     pub const VENUE_UNPLACED: u8 = 79;
     /// The output is too short for the run.
     pub const CONVERT_SHORT: u8 = 80;
+    /// The lots of an order are not 1 to 1,000,000.
+    pub const LOTS: u8 = 82;
+    /// The output of an order is under 325 bytes.
+    pub const STEPS_SHORT: u8 = 83;
 }
 
 /// Codes that a message gets.
@@ -136,3 +140,9 @@ pub const ANSWER_LEN: usize = 180;
 pub const PUBLICATION_LEN: usize = 96;
 /// The length of one entry of a publication.
 pub const ENTRY_LEN: usize = 16;
+/// The most round lots of an order.
+pub const LOTS_MAX: u32 = 1_000_000;
+/// The length of a step of an order: letter 1, price 8, lots 4.
+pub const STEP_LEN: usize = 13;
+/// The shortest output of an order: 25 steps.
+pub const STEPS_LEN: usize = 325;

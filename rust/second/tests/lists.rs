@@ -27,9 +27,9 @@ fn a_printed_list_is_read_back() {
         let list = generate::list(seed, 150);
         assert_eq!(list.to_string().parse(), Ok(list));
     }
-    let form = "fresh 2\nmake 2\nadd 5a54 100 78\nopen 5 78\nstart\nend\ntake 5 - 180\nread - 96\nprotected 5a54 66 0\nconvert_len -\nconvert 00 72\n";
+    let form = "fresh 2\nmake 2\nadd 5a54 100 78\nopen 5 78\nstart\nend\ntake 5 - 180\nread - 96\nprotected 5a54 66 0\nconvert_len -\nconvert 00 72\norder 5a54 83 1000000 325\n";
     let list: List = form.parse().expect("a list of every call");
-    assert_eq!(list.calls.len(), 10);
+    assert_eq!(list.calls.len(), 11);
     assert_eq!(list.to_string(), form);
     for wrong in [
         "",

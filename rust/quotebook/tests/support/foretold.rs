@@ -2,7 +2,7 @@
 
 use quotebook::Code;
 use second::venue::{self, mistake};
-use second::{build, Call, Converted, Protected, Report};
+use second::{build, Call, Converted, Protected, Report, Tried};
 
 use super::guarded::Guarded;
 use super::layout::{
@@ -12,7 +12,7 @@ use super::layout::{
 use super::reading::Reading;
 
 /// The numbers that each call can answer.
-pub const NUMBERS: [(&str, &[u8]); 10] = [
+pub const NUMBERS: [(&str, &[u8]); 11] = [
     ("make", &[0, 2]),
     ("add", &[0, 1, 3, 4, 5, 6, 75]),
     ("open", &[0, 1, 7, 8]),
@@ -23,6 +23,7 @@ pub const NUMBERS: [(&str, &[u8]); 10] = [
     ("protected", &[0, 1, 10, 74]),
     ("convert_len", &[0, 1, 78, 79]),
     ("convert", &[0, 1, 78, 79, 80]),
+    ("order", &[0, 1, 10, 74, 82, 83]),
 ];
 
 /// The row of a call in the table.
@@ -38,6 +39,7 @@ pub fn row(call: &Call) -> usize {
         Call::IsProtected { .. } => 7,
         Call::ConvertLen { .. } => 8,
         Call::Convert { .. } => 9,
+        Call::TryOrder { .. } => 10,
     }
 }
 
@@ -103,6 +105,17 @@ pub fn number(memory: &[u8], call: &Call) -> Option<u8> {
         ],
         // 78 to 80 are the converter's: foretold beside its length.
         Call::ConvertLen { .. } | Call::Convert { .. } => return None,
+        Call::TryOrder {
+            symbol,
+            side,
+            lots,
+            steps_len,
+        } => vec![
+            (!is_symbol(symbol) || !listed(symbol), 10),
+            (!b"BS".contains(side), 74),
+            (!(1..=1_000_000).contains(lots), 82),
+            (*steps_len < 325, 83),
+        ],
     };
     let fault = checks.iter().find(|check| check.0);
     match (fault, call) {
@@ -159,6 +172,28 @@ pub fn converted(memory: &[u8], call: &Call) -> Option<(Converted, Vec<u8>)> {
     Some((told, run))
 }
 
+/// What an order on memory of any bytes reports, and its steps: by the quotes of the page too.
+pub fn tried(memory: &[u8], call: &Call, number: u8) -> Option<(Tried, Vec<u8>)> {
+    let Call::TryOrder {
+        symbol, side, lots, ..
+    } = call
+    else {
+        return None;
+    };
+    if number != 0 {
+        return Some((Tried::refused(number), Vec::new()));
+    }
+    let reading = Reading::of(&memory[page(listed_page(memory, symbol)?)]);
+    // B buys at the offers.
+    let (steps, unfilled) = reading.order(usize::from(*side == b'B'), *lots);
+    let told = Tried {
+        number,
+        steps: (steps.len() / 13) as u8,
+        unfilled,
+    };
+    Some((told, steps))
+}
+
 /// The memory before and after a call, and the buffer that was lent to it.
 pub struct Left<'a> {
     pub before: &'a [u8],
@@ -189,7 +224,18 @@ impl Left<'_> {
                 ensure(self.before == self.after, "a query wrote")
             }
             Call::Convert { .. } => self.check_converted(call),
+            Call::TryOrder { .. } => self.check_order(call),
         }
+    }
+
+    /// An order writes its steps and nothing else.
+    fn check_order(&self, call: &Call) -> Result<(), String> {
+        ensure(self.before == self.after, "an order wrote into the book")?;
+        let (_, steps) = tried(self.before, call, 0).ok_or("no order")?;
+        let (filled, behind) = self.buffer.split_at(steps.len());
+        ensure(filled == steps, format!("steps {filled:?}, not {steps:?}"))?;
+        let kept = behind == &self.buffer_before[steps.len()..];
+        ensure(kept, "a byte behind the steps was written")
     }
 
     /// A refused call changes nothing; a block's report has the line as it stands.

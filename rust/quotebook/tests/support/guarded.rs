@@ -5,7 +5,7 @@
 use std::ops::{BitXorAssign, Range};
 
 use quotebook::{lent, Number};
-use second::{build, Converted, Protected, QuoteBook, Report};
+use second::{build, Converted, Protected, QuoteBook, Report, Tried};
 
 use super::layout::{self, byte, in_page, line, moved, page, CONTENTS, COUNT, DAY, LINES, N};
 
@@ -255,6 +255,16 @@ impl QuoteBook for Guarded {
         Converted {
             number: self.settle_read(told.number, argument.keeps(block)),
             len: told.len,
+        }
+    }
+
+    fn try_order(&self, symbol: &[u8], side: u8, lots: u32, steps: &mut [u8]) -> Tried {
+        let argument = Fenced::new(symbol);
+        let told = lent::try_order(self.memory.bytes(), argument.bytes(), side, lots, steps);
+        Tried {
+            number: self.settle_read(told.number, argument.keeps(symbol)),
+            steps: told.steps as u8,
+            unfilled: told.unfilled,
         }
     }
 }

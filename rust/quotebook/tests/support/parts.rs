@@ -26,6 +26,24 @@ pub const PARTS: [&str; 14] = [
 /// A query whose answer is not what the entry that the page keeps says.
 pub const ASKED: &str = "a query";
 
+/// An order whose first step is not at the entry that the page keeps.
+pub const ORDERED: &str = "an order";
+
+/// That an order's first step, or having none, is not what the kept entry says.
+pub fn beside_the_entry(book: &[u8], call: &Call, steps: &[u8]) -> Option<&'static str> {
+    let Call::TryOrder { symbol, side, .. } = call else {
+        return None;
+    };
+    let entries = &book[in_page(listed_page(book, symbol)?, ENTRIES)];
+    let (bid, offer) = entries[..32].split_at(16);
+    let entry = if *side == b'B' { offer } else { bid };
+    let same = match steps.get(..9) {
+        Some(first) => first[0] == entry[0] && first[1..] == entry[4..12],
+        None => entry[0] == b' ',
+    };
+    (!same).then_some(ORDERED)
+}
+
 /// That a query was answered otherwise than the kept entry says.
 pub fn against_the_entry(book: &[u8], call: &Call, yes: bool) -> Option<&'static str> {
     let Call::IsProtected {

@@ -291,6 +291,46 @@ impl Reading {
         all.nth(place).map_or(0, |quote| quote.sides[side].price)
     }
 
+    /// The best of the makers.
+    fn finra(&self, side: usize) -> Option<Candidate> {
+        let makers = self.makers.iter().flatten();
+        best(
+            side,
+            makers.filter_map(|(name, quote)| counting(side, quote, *name)),
+        )
+    }
+
+    /// The national candidates: each letter's quote that counts, D with its best maker; S has none.
+    fn national(&self, side: usize) -> Vec<Candidate> {
+        let letters = (b'A'..).zip(&self.letters);
+        let quotes = letters.filter_map(|(letter, (quote, _))| {
+            let counting = counting(side, quote, [letter, quote.condition, b' ', b' ']);
+            counting.filter(|_| !matches!(letter, b'D' | b'S'))
+        });
+        // A maker's side counts under R only.
+        let d = self.finra(side).map(|(shown, _)| (shown, *b"DR  "));
+        quotes.chain(d).collect()
+    }
+
+    /// An order's steps, 13 bytes each, and the lots not found: from the best that is left as many
+    /// lots as are wanted and shown. A halted symbol fills nothing.
+    pub fn order(&self, side: usize, lots: u32) -> (Vec<u8>, u32) {
+        if self.halted {
+            return (Vec::new(), lots);
+        }
+        let mut left = self.national(side);
+        let (mut steps, mut wanted) = (Vec::new(), lots);
+        while let Some((shown, name)) = best(side, left.iter().copied()).filter(|_| wanted > 0) {
+            left.retain(|(_, other)| other[0] != name[0]);
+            let taken = shown.size.min(wanted);
+            steps.push(name[0]);
+            steps.extend(shown.price.to_be_bytes());
+            steps.extend(taken.to_be_bytes());
+            wanted -= taken;
+        }
+        (steps, wanted)
+    }
+
     /// The six entries that follow, none while the symbol is halted.
     pub fn entries(&self) -> [u8; 96] {
         let mut entries = [0; 96];
@@ -299,18 +339,8 @@ impl Reading {
             return entries;
         }
         for side in SIDES {
-            let makers = self.makers.iter().flatten();
-            let makers = makers.filter_map(|(name, quote)| counting(side, quote, *name));
-            let finra = best(side, makers);
-            let quotes = (b'A'..)
-                .zip(&self.letters)
-                .filter_map(|(letter, (quote, _))| {
-                    let counting = counting(side, quote, [letter, quote.condition, b' ', b' ']);
-                    counting.filter(|_| !matches!(letter, b'D' | b'S'))
-                });
-            // A maker's side counts under R only.
-            let d = finra.map(|(shown, _)| (shown, *b"DR  "));
-            let nationals: Vec<Candidate> = quotes.chain(d).collect();
+            let finra = self.finra(side);
+            let nationals = self.national(side);
             let leader = best(side, nationals.iter().copied());
             // T-08: the third byte, by the best of the other letters.
             let national = leader.map(|(shown, mut name)| {

@@ -39,15 +39,16 @@ enum Case {
     /// FINRA Close and Open while a symbol is halted: flags 0, and flags of another symbol.
     CloseUnseen,
     CloseSeenElsewhere,
-    /// A query about a halted symbol.
+    /// A query about a halted symbol, and an order of one.
     Query,
+    Order,
     /// Start of Day, End of Day and an add while a symbol is halted.
     Start,
     End,
     Add,
 }
 
-const CASES: [Case; 23] = [
+const CASES: [Case; 24] = [
     Case::Halt,
     Case::IdleHalt,
     Case::Trading,
@@ -68,6 +69,7 @@ const CASES: [Case; 23] = [
     Case::CloseUnseen,
     Case::CloseSeenElsewhere,
     Case::Query,
+    Case::Order,
     Case::Start,
     Case::End,
     Case::Add,
@@ -112,6 +114,12 @@ impl Halts {
     pub fn ask(&mut self, symbol: &[u8]) {
         if self.halted.contains(symbol) {
             self.reach(Case::Query);
+        }
+    }
+
+    pub fn try_order(&mut self, symbol: &[u8]) {
+        if self.halted.contains(symbol) {
+            self.reach(Case::Order);
         }
     }
 

@@ -136,4 +136,25 @@ mistakes! {
     118 CLOSE_PASSES_HALTED "FINRA Open and Close leave the makers of a halted symbol.";
     119 HALTED_ANSWERS "A query about a halted symbol goes by its quotes.";
     120 HALTED_LOOKS_0 "A query about a halted symbol reports no letters.";
+    121 ORDER_MARKS_EXCHANGED "An order buys at the bids and sells at the offers.";
+    122 ORDER_BY_LETTER "An order goes through the letters from A, not in national order.";
+    123 LEADER_FILLS_ALONE "An order takes from the national leader alone.";
+    124 LEADER_USED_TWICE "An order comes back to the leader once all are used.";
+    125 SHOWN_TAKEN "A step takes all lots that are shown, though fewer are wanted.";
+    126 SHOWN_LISTED "A step lists the lots shown, not those taken.";
+    127 EMPTY_LAST_STEP "A filled order has one more step, of no lots.";
+    128 D_WITH_ALL_MAKERS "D shows the lots of all its makers at the FINRA best price.";
+    129 ORDER_OF_INDICATIONS "An order looks at quotes whose condition admits no side.";
+    130 ODD_LOTS_FILL "An order takes odd lots of letters without a quote.";
+    131 NOT_FOUND_LOST "An order never reports lots not found.";
+    132 NOT_FOUND_COUNTS_STEPS "At most as many lots are reported as not found as there are steps.";
+    133 NO_LOTS_TAKEN "An order of no lots is played.";
+    134 MILLION_REFUSED "An order of 1,000,000 lots is refused.";
+    135 MORE_LOTS_TAKEN "An order of 1,000,001 lots is played.";
+    136 ROOM_BEFORE_LOTS "83 is checked before 82.";
+    137 ROOM_BY_NEED "83 goes by the steps that the order has, not by 325 bytes.";
+    138 REFUSED_NOT_FOUND "An order refused with 82 reports its lots as not found.";
+    139 ORDER_CLEARS_OUTPUT "The output behind the steps is cleared.";
+    140 HALTED_FILLS "An order of a halted symbol is played by its quotes.";
+    141 HALTED_NONE_WANTED "An order of a halted symbol reports no lots not found.";
 }

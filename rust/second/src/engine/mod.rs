@@ -8,6 +8,7 @@ mod directory;
 mod message;
 pub mod mistake;
 mod odd_part;
+mod order;
 mod page;
 mod page_side;
 mod quote;
@@ -17,8 +18,11 @@ mod update;
 
 use std::marker::PhantomData;
 
-use crate::quote_book::{Protected, QuoteBook, Report};
-use crate::terms::{number, FINRA, LINES, PROCESSOR, PUBLICATION_LEN, ROUND_LOTS, SYMBOLS_MAX};
+use crate::quote_book::{Protected, QuoteBook, Report, Tried};
+use crate::terms::{
+    number, FINRA, LINES, LOTS_MAX, PROCESSOR, PUBLICATION_LEN, ROUND_LOTS, STEPS_LEN, STEP_LEN,
+    SYMBOLS_MAX,
+};
 use crate::venue::{self, Converted};
 use candidate::Side;
 use directory::{well_formed, Directory, Symbol};
@@ -244,6 +248,63 @@ impl<U: Update, const M: u8> QuoteBook for Book<U, M> {
             Some(self.pages[page].round_lot)
         };
         venue::convert::<{ venue::mistake::NONE }>(block, &lots, output)
+    }
+
+    /// Checks 10, 74, 82, 83.
+    fn try_order(&self, symbol: &[u8], side: u8, lots: u32, steps: &mut [u8]) -> Tried {
+        let listed = as_symbol(symbol).and_then(|symbol| self.directory.find(symbol));
+        let Some(page) = listed else {
+            return Tried::refused(number::SYMBOL_UNKNOWN);
+        };
+        let side = match side {
+            b'B' if M == mistake::ORDER_MARKS_EXCHANGED => Side::Bid,
+            b'S' if M == mistake::ORDER_MARKS_EXCHANGED => Side::Offer,
+            b'B' => Side::Offer,
+            b'S' => Side::Bid,
+            _ => return Tried::refused(number::SIDE),
+        };
+        let too_short = steps.len() < STEPS_LEN;
+        if M == mistake::ROOM_BEFORE_LOTS && too_short {
+            return Tried::refused(number::STEPS_SHORT);
+        }
+        let least = if M == mistake::NO_LOTS_TAKEN { 0 } else { 1 };
+        let most = match M {
+            mistake::MILLION_REFUSED => LOTS_MAX - 1,
+            mistake::MORE_LOTS_TAKEN => LOTS_MAX + 1,
+            _ => LOTS_MAX,
+        };
+        if !(least..=most).contains(&lots) {
+            let mut refused = Tried::refused(number::LOTS);
+            if M == mistake::REFUSED_NOT_FOUND {
+                refused.unfilled = lots;
+            }
+            return refused;
+        }
+        let page = &self.pages[page];
+        // T-10: a halted symbol fills nothing.
+        let (played, unfilled) = match page.halted {
+            true if M == mistake::HALTED_NONE_WANTED => (Vec::new(), 0),
+            true if M != mistake::HALTED_FILLS => (Vec::new(), lots),
+            _ => order::play::<M>(&page.sides[side as usize], side, lots),
+        };
+        let needed = match M {
+            mistake::ROOM_BY_NEED => STEP_LEN * played.len(),
+            _ => STEPS_LEN,
+        };
+        if steps.len() < needed {
+            return Tried::refused(number::STEPS_SHORT);
+        }
+        if M == mistake::ORDER_CLEARS_OUTPUT {
+            steps.fill(0);
+        }
+        for (bytes, step) in steps.chunks_exact_mut(STEP_LEN).zip(&played) {
+            bytes.copy_from_slice(step);
+        }
+        Tried {
+            number: number::DONE,
+            steps: played.len() as u8,
+            unfilled,
+        }
     }
 }
 

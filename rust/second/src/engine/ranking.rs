@@ -42,6 +42,15 @@ impl<const N: usize> Ranking<N> {
         }
     }
 
+    /// The sizes that count at a rank, added up.
+    pub fn shown_at(&self, rank: u64) -> u32 {
+        let places = self.ranks.iter().zip(&self.candidates);
+        let shown = places.filter(|(&other, _)| other == rank && rank > 0);
+        shown.fold(0, |sum, (_, candidate)| {
+            u32::saturating_add(sum, candidate.size)
+        })
+    }
+
     /// The best of all that count, or none.
     #[inline]
     pub fn best<const M: u8>(&self) -> Candidate {

@@ -18,7 +18,7 @@ use crate::build::Shown;
 use crate::call::{Call, List};
 use crate::engine::Engine;
 use crate::quote_book::QuoteBook;
-use crate::terms::{number, ANSWER_LEN, PUBLICATION_LEN, ROUND_LOTS};
+use crate::terms::{number, ANSWER_LEN, PUBLICATION_LEN, ROUND_LOTS, STEPS_LEN};
 use crate::venue::Converting;
 use pools::{Pools, Symbol, Theme};
 pub use random::{from_environment, Random};
@@ -152,7 +152,8 @@ impl Generator {
             5 => Call::EndDay,
             6 => self.make_call(),
             7 => self.protected_call(),
-            _ => self.convert_call(),
+            8 => self.convert_call(),
+            _ => self.order_call(),
         }
     }
 
@@ -164,13 +165,18 @@ impl Generator {
         }
     }
 
-    /// Mostly a listed symbol; a price of the list, one beside it, or one at the ends of the range.
-    fn protected_call(&mut self) -> Call {
-        let symbol = if self.listed.is_empty() || self.random.percent(20) {
+    /// Mostly a listed symbol.
+    fn draw_asked_symbol(&mut self) -> Vec<u8> {
+        if self.listed.is_empty() || self.random.percent(20) {
             self.draw_symbol_argument()
         } else {
             self.random.pick(&self.listed).0.to_vec()
-        };
+        }
+    }
+
+    /// A price of the list, one beside it, or one at the ends of the range.
+    fn protected_call(&mut self) -> Call {
+        let symbol = self.draw_asked_symbol();
         let price = self.random.pick(&self.pools.prices);
         let near = [price, price - 1, price.saturating_add(1)];
         Call::IsProtected {
@@ -191,6 +197,20 @@ impl Generator {
         Call::Convert {
             block,
             output_len: room,
+        }
+    }
+
+    /// Few lots, so that steps are cut, or more than are shown.
+    fn order_call(&mut self) -> Call {
+        let odd_lengths = [0, 12, 13, 26, 65, 312, 324, 326, 400];
+        let symbol = self.draw_asked_symbol();
+        let few = 1 + self.random.below(12) as u32;
+        let lots = [few, few, 20, 999_999, 1_000_000];
+        Call::TryOrder {
+            symbol,
+            side: self.random.usually(90, b"BS", b"bsAXZ \x00\xff"),
+            lots: self.random.usually(85, &lots, &[0, 1_000_001, u32::MAX]),
+            steps_len: self.random.usually(80, &[STEPS_LEN], &odd_lengths),
         }
     }
 
@@ -294,7 +314,8 @@ impl Generator {
             Call::Read { .. }
             | Call::IsProtected { .. }
             | Call::ConvertLen { .. }
-            | Call::Convert { .. } => {}
+            | Call::Convert { .. }
+            | Call::TryOrder { .. } => {}
         }
     }
 }

@@ -43,13 +43,13 @@ impl Theme {
         }
     }
 
-    /// Weights of the calls: take, read, add, open, Start, End, make, is protected, convert.
-    pub fn calls(self) -> [usize; 9] {
+    /// Weights of the calls: take, read, add, open, Start, End, make, is protected, convert, try an order.
+    pub fn calls(self) -> [usize; 10] {
         match self {
-            Theme::Operator => [36, 12, 20, 16, 6, 7, 3, 10, 8],
-            Theme::Lines => [83, 2, 2, 4, 4, 4, 1, 1, 2],
-            Theme::Wide => [80, 10, 6, 2, 1, 1, 0, 5, 5],
-            Theme::Mixed | Theme::Makers | Theme::Levels => [90, 3, 2, 2, 1, 2, 0, 6, 3],
+            Theme::Operator => [36, 12, 20, 16, 6, 7, 3, 10, 8, 10],
+            Theme::Lines => [83, 2, 2, 4, 4, 4, 1, 1, 2, 1],
+            Theme::Wide => [80, 10, 6, 2, 1, 1, 0, 5, 5, 5],
+            Theme::Mixed | Theme::Makers | Theme::Levels => [90, 3, 2, 2, 1, 2, 0, 6, 3, 6],
         }
     }
 

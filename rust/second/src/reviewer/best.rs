@@ -136,6 +136,30 @@ fn ranks(account: &Account, letter: u8, side: Side) -> bool {
     }
 }
 
+/// "Each step takes from the best candidate not yet used, in national order, as many lots as are wanted
+/// and shown, until none are wanted." Letter, price and lots of each step, and the lots not found. "A
+/// halted symbol fills nothing."
+pub fn order_steps(account: &Account, side: Side, lots: u32) -> (Vec<(u8, u64, u32)>, u32) {
+    if account.is_halted() {
+        return (Vec::new(), lots);
+    }
+    let letters = b'A'..=b'Z';
+    let candidates = letters.filter_map(|letter| national_candidate(account, side, letter));
+    let mut unused: Vec<Candidate> = candidates.collect();
+    let mut wanted = lots;
+    let mut steps = Vec::new();
+    while wanted > 0 {
+        let Some(next) = best(side, unused.clone()) else {
+            break;
+        };
+        unused.retain(|candidate| candidate.name != next.name);
+        let taken = wanted.min(next.size);
+        steps.push((next.name[0], next.price, taken));
+        wanted -= taken;
+    }
+    (steps, wanted)
+}
+
 /// "Odd best: over all letters' levels priced above the national bid (below the national offer;
 /// any level if that side has none)."
 fn odd_best(account: &Account, side: Side) -> Option<Candidate> {

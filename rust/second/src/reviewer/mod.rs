@@ -10,11 +10,11 @@ mod block;
 mod fields;
 mod judge;
 
-use crate::quote_book::{Protected, QuoteBook, Report};
+use crate::quote_book::{Protected, QuoteBook, Report, Tried};
 use crate::terms::{number, ANSWER_LEN, ENTRY_LEN, LINES, PUBLICATION_LEN, ROUND_LOTS, SYMBOL_LEN};
 use crate::venue::{self, Converted};
 use account::Account;
-use best::{protection, publication};
+use best::{order_steps, protection, publication};
 use fields::{is_symbol, symbol_of, Kind, Side};
 use judge::is_partly_accepted;
 
@@ -277,5 +277,36 @@ impl QuoteBook for Reviewer {
     fn convert(&self, block: &[u8], output: &mut [u8]) -> Converted {
         let lots = |symbol: &[u8; SYMBOL_LEN]| self.listed(symbol).map(|listed| listed.round_lot);
         venue::convert::<{ venue::mistake::NONE }>(block, &lots, output)
+    }
+
+    fn try_order(&self, symbol: &[u8], side: u8, lots: u32, steps: &mut [u8]) -> Tried {
+        if !is_symbol(symbol) || self.listed(symbol).is_none() {
+            return Tried::refused(number::SYMBOL_UNKNOWN);
+        }
+        let side = match side {
+            b'B' => Side::Offer,
+            b'S' => Side::Bid,
+            _ => return Tried::refused(number::SIDE),
+        };
+        if !(1..=1_000_000).contains(&lots) {
+            return Tried::refused(number::LOTS);
+        }
+        if steps.len() < 325 {
+            return Tried::refused(number::STEPS_SHORT);
+        }
+        let account = Account::of(&self.history, symbol);
+        let (played, unfilled) = order_steps(&account, side, lots);
+        let mut at = 0;
+        for &(letter, price, lots) in &played {
+            steps[at] = letter;
+            steps[at + 1..at + 9].copy_from_slice(&price.to_be_bytes());
+            steps[at + 9..at + 13].copy_from_slice(&lots.to_be_bytes());
+            at += 13;
+        }
+        Tried {
+            number: number::DONE,
+            steps: played.len() as u8,
+            unfilled,
+        }
     }
 }

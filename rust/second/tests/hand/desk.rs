@@ -1,7 +1,7 @@
 //! A desk that makes hand-written cases short.
 
 use second::build::{self, Odd, Round, Shown};
-use second::{Protected, QuoteBook, Report};
+use second::{Protected, QuoteBook, Report, Tried};
 
 use crate::BOOKS;
 
@@ -17,6 +17,9 @@ pub const CENT: u64 = 10_000;
 
 /// No quote on a side.
 pub const NOTHING: Shown = (0, 0);
+
+/// A step of an order: letter, price and lots.
+pub type Step = (char, u64, u32);
 
 /// A published entry: its name without trailing spaces, price and size.
 pub type Entry = (String, u64, u32);
@@ -89,6 +92,13 @@ impl Desk {
         self.message(line, message).0
     }
 
+    /// Opens a line for a letter that the desk has none of, and sends a regular quote of ZT on it.
+    pub fn quote_by(&mut self, line: u32, letter: u8, bid: Shown, offer: Shown) {
+        assert_eq!(self.book.open_line(line, letter), 0);
+        let round = Round::regular(letter, 7, "ZT", bid, offer);
+        assert_eq!(self.code(line, quote(&round)), 0);
+    }
+
     pub fn publication(&self, symbol: &str) -> Vec<u8> {
         let mut publication = vec![0xEE; 100];
         assert_eq!(self.book.read(&build::symbol(symbol), &mut publication), 0);
@@ -107,6 +117,26 @@ impl Desk {
         } = self.book.is_protected(&symbol, side, price);
         assert_eq!(number, 0);
         (yes, looked)
+    }
+
+    /// What an order of ZT gives: letter, price and lots of each step, and the lots not found.
+    pub fn order(&self, side: u8, lots: u32) -> (Vec<Step>, u32) {
+        let symbol = build::symbol("ZT");
+        let mut output = [0xEE; 340];
+        let Tried {
+            number,
+            steps,
+            unfilled,
+        } = self.book.try_order(&symbol, side, lots, &mut output);
+        assert_eq!(number, 0);
+        let (filled, behind) = output.split_at(13 * usize::from(steps));
+        assert!(behind.iter().all(|&byte| byte == 0xEE));
+        let steps = filled.chunks_exact(13).map(|step| {
+            let price = u64::from_be_bytes(step[1..9].try_into().unwrap());
+            let lots = u32::from_be_bytes(step[9..].try_into().unwrap());
+            (char::from(step[0]), price, lots)
+        });
+        (steps.collect(), unfilled)
     }
 
     /// The six entries of a symbol.

@@ -16,6 +16,7 @@ mod leading;
 mod line;
 mod messages;
 mod operator;
+mod orders;
 mod protection;
 mod times;
 

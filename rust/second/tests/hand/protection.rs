@@ -1,7 +1,7 @@
 //! Hand-written answers to "Is this price protected?" (T-06).
 
 use crate::desk::*;
-use second::build::{self, Round};
+use second::build;
 use second::Protected;
 
 /// The answer no, after all 26 letters.
@@ -9,13 +9,6 @@ const NO: (bool, u8) = (false, 26);
 
 fn yes(looked: u8) -> (bool, u8) {
     (true, looked)
-}
-
-/// Opens a line for a letter that the desk has none of, and sends a regular quote of ZT on it.
-fn quote_by(desk: &mut Desk, line: u32, letter: u8, bid: (u64, u32), offer: (u64, u32)) {
-    assert_eq!(desk.book.open_line(line, letter), 0);
-    let round = Round::regular(letter, 7, "ZT", bid, offer);
-    assert_eq!(desk.code(line, quote(&round)), 0);
 }
 
 #[test]
@@ -69,13 +62,13 @@ fn positions() {
     each_desk(|desk| {
         // S, position 19, is looked at and has nothing.
         for (line, letter, position) in [(20, b'Z', 26), (21, b'T', 20), (22, b'R', 18)] {
-            quote_by(desk, line, letter, (TEN, 1), (TEN + CENT, 1));
+            desk.quote_by(line, letter, (TEN, 1), (TEN + CENT, 1));
             assert_eq!(desk.protected(b'B', TEN), yes(position));
             assert_eq!(desk.protected(b'S', TEN + CENT), yes(position));
         }
         desk.code(D, maker("AA", (TEN, 1), (TEN + CENT, 1)));
         assert_eq!(desk.protected(b'B', TEN), yes(4));
-        quote_by(desk, 23, b'B', (TEN, 1), (TEN + CENT, 1));
+        desk.quote_by(23, b'B', (TEN, 1), (TEN + CENT, 1));
         assert_eq!(desk.protected(b'B', TEN), yes(2));
         desk.code(A, quote(&round(A, (TEN, 1), (TEN + CENT, 1))));
         assert_eq!(desk.protected(b'B', TEN), yes(1));
