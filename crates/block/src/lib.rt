@@ -95,8 +95,8 @@ pub fn checksum(block: &[u8]) -> u16
     ((total(block) - own) % 65536) as u16
 }
 
-// The sum of at most 1,000 bytes.
-fn total(s: &[u8]) -> u32
+/// The sum of at most 1,000 bytes.
+pub fn total(s: &[u8]) -> u32
     requires { ⌜ length (now s) ≤ blockLongest ⌝ }
     ensures { λ r. ⌜ r ≡ sum (now (s .entry)) ⌝ }
 {

@@ -126,8 +126,8 @@ fn is_any_control(messages: &[u8], lengths: &[u32]) -> bool
     false
 }
 
-// The messages into their place.
-fn copy(output: &mut [u8], at: usize, messages: &[u8])
+/// Writes bytes into their place.
+pub fn copy(output: &mut [u8], at: usize, messages: &[u8])
     requires { ⌜ at + length (now messages) ≤ length (now output) ⌝ }
     ensures { λ _. ⌜ now (output .exit) ≡ splice (now (output .entry)) at (now (messages .entry)) ⌝ }
 {

@@ -1,0 +1,4 @@
+pub mod Snapshot
+pub mod Feed
+pub mod Receiver
+pub mod Sizes
