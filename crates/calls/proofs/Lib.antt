@@ -4,3 +4,4 @@ pub mod ProtectedLaws
 pub mod OrderLaws
 pub mod SoundLaws
 pub mod TakenLaws
+pub mod SnapshotLaws

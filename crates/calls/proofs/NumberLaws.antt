@@ -20,7 +20,7 @@ use Rattle.update.proofs.TableLaws.{length-range}
 use Rattle.update.proofs.CellLaws.{member-below}
 use Rattle.opening.specs.Opening.{symbolsOf, countOf, sound, Rest, restIn, pageAt, pagesIn}
 use Rattle.line.specs.Line.{done}
-use Rattle.calls.specs.Call.{Call, make, add, openLine, startDay, endDay, take, read, protected, convertLen, convert, tryOrder, lots, sideMarks, lotsGood, numberOf, makeGood, isMake, numberOn}
+use Rattle.calls.specs.Call.{Call, make, add, openLine, startDay, endDay, take, read, protected, convertLen, convert, snapshotLen, snapshot, tryOrder, lots, sideMarks, lotsGood, numberOf, makeGood, isMake, numberOn}
 use Rattle.block.specs.Block.{answerLength}
 use Rattle.work.specs.Work.{Listed, isListed, listing, listedOf}
 use Rattle.opening.proofs.OpeningLaws.{Sound, sound-is}
@@ -74,6 +74,8 @@ module _ (n : ℕ) (b : List ℕ) (sd : Sound n b) where
   number-same (protected x m v) = rw (sound-is n b sd)
   number-same (convertLen x) = rw (sound-is n b sd)
   number-same (convert x k) = rw (sound-is n b sd)
+  number-same (snapshotLen x) = rw (sound-is n b sd)
+  number-same (snapshot x room) = rw (sound-is n b sd)
   number-same (tryOrder x m w k) = rw (sound-is n b sd)
 
   rest-n : restIn b .n ≡ n
@@ -161,6 +163,24 @@ module _ (r : Rest) (ls : List Listed) where
       go true true false e = clash (sym e)
       go true false c e = clash (sym e)
       go false b c e = clash (sym e)
+
+  known-done : (s : List ℕ) → done (cond (symbolGood s && isListed (be s) ls) 0 10) ≡ true → (symbolGood s ≡ true) × (isListed (be s) ls ≡ true)
+  unfolding done
+  known-done s = go (symbolGood s) (isListed (be s) ls)
+    where
+      go : (a b : Bool) → done (cond (a && b) 0 10) ≡ true → (a ≡ true) × (b ≡ true)
+      go true true e = (refl, refl)
+      go true false e = clash (sym e)
+      go false b e = clash (sym e)
+
+  -- of both calls of T-12
+  pub len-done : (s : List ℕ) → done (numberOf r ls (snapshotLen s)) ≡ true → (symbolGood s ≡ true) × (isListed (be s) ls ≡ true)
+  unfolding numberOf
+  len-done s e = known-done s e
+
+  pub feed-done : (s : List ℕ) (room : ℕ) → done (numberOf r ls (snapshot s room)) ≡ true → (symbolGood s ≡ true) × (isListed (be s) ls ≡ true)
+  unfolding numberOf
+  feed-done s room e = known-done s e
 
   pub order-done : (s : List ℕ) (m w k : ℕ) → done (numberOf r ls (tryOrder s m w k)) ≡ true → (symbolGood s ≡ true) × (isListed (be s) ls ≡ true)
   unfolding done numberOf

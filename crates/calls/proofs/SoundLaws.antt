@@ -15,7 +15,7 @@ use Rattle.update.proofs.BlankLaws.{emptied-kept}
 use Rattle.opening.specs.declared.Line.{Line}
 use Rattle.opening.specs.Opening.{symbolsOf, countOf, sound, linesIn, restIn, pagesIn, eachPage, freshBytes, restartLines}
 use Rattle.line.specs.Line.{done, advanced}
-use Rattle.calls.specs.Call.{Call, make, add, openLine, startDay, endDay, take, read, protected, convertLen, convert, tryOrder, letterOf, advanceOn, afterCall, makeGood, isMake, numberOn, call}
+use Rattle.calls.specs.Call.{Call, make, add, openLine, startDay, endDay, take, read, protected, convertLen, convert, snapshotLen, snapshot, tryOrder, letterOf, advanceOn, afterCall, makeGood, isMake, numberOn, call}
 use Rattle.work.specs.Work.{listedOf, messagesOn}
 use Rattle.opening.proofs.OpeningLaws.{Sound, sound-of}
 use Rattle.opening.proofs.PageLaws.{OpeningKept, kept-sound, each-kept}
@@ -74,6 +74,8 @@ module _ (n : ℕ) (b : List ℕ) (sd : Sound n b) where
   after-stays (protected x m v) d = record { sound = sd; bytes = λ y. y }
   after-stays (convertLen x) d = record { sound = sd; bytes = λ y. y }
   after-stays (convert x k) d = record { sound = sd; bytes = λ y. y }
+  after-stays (snapshotLen x) d = record { sound = sd; bytes = λ y. y }
+  after-stays (snapshot x room) d = record { sound = sd; bytes = λ y. y }
   after-stays (tryOrder x m w k) d = record { sound = sd; bytes = λ y. y }
 
   -- a sound book stays sound, and bytes stay bytes
@@ -117,4 +119,6 @@ call-length b (read s k) = other-length b (read s k) refl
 call-length b (protected s m x) = other-length b (protected s m x) refl
 call-length b (convertLen x) = other-length b (convertLen x) refl
 call-length b (convert x k) = other-length b (convert x k) refl
+call-length b (snapshotLen s) = other-length b (snapshotLen s) refl
+call-length b (snapshot s room) = other-length b (snapshot s room) refl
 call-length b (tryOrder s m w k) = other-length b (tryOrder s m w k) refl

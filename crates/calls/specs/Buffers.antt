@@ -5,7 +5,7 @@ use mathlib.Core.List.{List}
 use lib.ListN.{length}
 use Rattle.field.specs.Field.{splice}
 use Rattle.calls.specs.declared.Report.{Report}
-use Rattle.calls.specs.Call.{Answer, call, take, read, convert, tryOrder}
+use Rattle.calls.specs.Call.{Answer, call, take, read, convert, snapshot, tryOrder}
 
 abbrev pub reportOf : Answer → Report
 reportOf a =
@@ -58,6 +58,19 @@ runOut b v output =
       length = call b (convert v (length output)) .answer .amount;
       output = splice output 0 (call b (convert v (length output)) .answer .output);
     }
+
+pub record FeedOut : Type 0 where
+  pub number : ℕ
+  pub blocks : ℕ
+  pub bytes : ℕ
+  pub output : List ℕ
+
+abbrev pub feedOf : List ℕ → Answer → FeedOut
+feedOf output a = record { number = a .number; blocks = a .found; bytes = a .amount; output = splice output 0 (a .output) }
+
+-- T-12: the number, the blocks and bytes written and the output after a snapshot
+unfoldable pub feedOut : List ℕ → List ℕ → List ℕ → FeedOut
+feedOut b s output = feedOf output (call b (snapshot s (length output)) .answer)
 
 pub record OrderOut : Type 0 where
   pub number : ℕ

@@ -17,6 +17,10 @@ use Rattle.ranking.specs.declared.Side.the-variants.{Bid, Offer}
 use Rattle.ranking.specs.declared.Candidate.{Candidate}
 use Rattle.entries.specs.Entries.{candidates, tradingCandidates}
 use Rattle.page.specs.Page.{occupied}
+use Rattle.quote.specs.declared.Quote.{Quote}
+use Rattle.quote.specs.Quote.{noQuote}
+use Rattle.snapshot.specs.Snapshot.{Snapshot, snapshotOf}
+use Rattle.snapshot.specs.Feed.{feedBlocks, feedBytes}
 use Rattle.protection.specs.Protection.{protection}
 use Rattle.protection.specs.declared.Protection.{Protection}
 use Rattle.block.specs.Written.{joined}
@@ -51,6 +55,9 @@ pub data Call : Type 0 where
   -- T-11: a venue's block; and with it the output's length
   convertLen : List ℕ → Call
   convert : List ℕ → ℕ → Call
+  -- T-12: the symbol's bytes; and with them the output's length
+  snapshotLen : List ℕ → Call
+  snapshot : List ℕ → ℕ → Call
   -- T-13: the symbol's bytes, the side mark, the lots, the output's length
   tryOrder : List ℕ → ℕ → ℕ → ℕ → Call
 
@@ -89,6 +96,9 @@ numberOf r ls (read s room) = cond (ltb room publicationLength) 9 (cond (isKnown
 numberOf r ls (protected s m x) = cond (isKnown ls s) (cond (member sideMarks m) 0 74) 10
 numberOf r ls (convertLen v) = venueNumber v
 numberOf r ls (convert v room) = convertNumber v room
+-- 81, which reads the symbol's quotes, is in the answer: `snapshotTold`
+numberOf r ls (snapshotLen s) = cond (isKnown ls s) 0 10
+numberOf r ls (snapshot s room) = cond (isKnown ls s) 0 10
 numberOf r ls (tryOrder s m w room) = cond (isKnown ls s) (cond (member sideMarks m) (cond (lotsGood w) (cond (ltb room stepsLength) 83 0) 82) 74) 10
 
 -- ---- answers
@@ -104,10 +114,11 @@ pub record Answer : Type 0 where
   pub rejected : ℕ
   pub answers : List ℕ
   pub publication : List ℕ
-  -- T-06: 1 for yes or 0 for no, and how many letters were looked at; T-11: how many bytes the run has; T-13: how many steps, and the lots not found
+  -- T-06: 1 for yes or 0 for no, and how many letters were looked at; T-11: how many bytes the run has; T-12: how many blocks and bytes the snapshot has;
+  -- T-13: how many steps, and the lots not found
   pub found : ℕ
   pub amount : ℕ
-  -- T-11: the run; T-13: the steps
+  -- T-11: the run; T-12: the snapshot; T-13: the steps
   pub output : List ℕ
 
 -- "carries its number, and no or 0 for all else"
@@ -165,6 +176,20 @@ runTold k n run =
 abbrev pub listedLot : List Listed → ℕ → ℕ
 listedLot ls s = lotOf s ls
 
+-- ---- a snapshot's answer (T-12)
+
+abbrev pub fed : ℕ → ℕ → ℕ → List ℕ → Answer
+fed k blocks bytes output =
+    record { number = k; gap = 0; expected = 0; count = 0; accepted = 0; partly = 0; rejected = 0; answers = []; publication = []; found = blocks; amount = bytes; output = output }
+
+-- "A second call tells the number of blocks and bytes beforehand"
+abbrev pub sizeTold : ℕ → Snapshot → Answer
+sizeTold k x = fed k (length (feedBlocks x)) (length (feedBytes x)) []
+
+-- "81 output too short"
+abbrev pub snapshotTold : ℕ → ℕ → Snapshot → Answer
+snapshotTold k room x = cond (ltb room (length (feedBytes x))) (bare 81) (fed k (length (feedBlocks x)) (length (feedBytes x)) (feedBytes x))
+
 -- T-13: "B buys at offers, S sells at bids"
 abbrev pub orderSide : ℕ → Side
 orderSide m = cond (eqb m B) Offer Bid
@@ -191,20 +216,22 @@ abbrev pub letterOf : Option Line → ℕ
 letterOf none = 0
 letterOf (some x) = x .letter
 
--- ls: the listed symbols; ts: what is told of a block's messages, from the line's letter; p: the entries of a symbol; cs: its national candidates of a side, by letter.
--- Book and reviewer both answer through this
-unfoldable pub answerOf : Rest → List Listed → (ℕ → List (List ℕ) → List Told) → (ℕ → List ℕ) → (ℕ → Side → ℕ → Option Candidate) → ℕ → Call → Answer
-answerOf r ls ts p cs k (make n) = bare k
-answerOf r ls ts p cs k (add s n l) = bare k
-answerOf r ls ts p cs k (openLine i l) = bare k
-answerOf r ls ts p cs k startDay = bare k
-answerOf r ls ts p cs k endDay = bare k
-answerOf r ls ts p cs k (take i b room) = cond (eqb k 9) (bare k) (lineAnswer k b (ts (letterOf (r .lines i)) (messagesOf b)) (r .lines i))
-answerOf r ls ts p cs k (read s room) = published k (p (be s))
-answerOf r ls ts p cs k (protected s m x) = cond (done k) (protectionTold k (protection (askedSide m) x (cs (be s) (askedSide m)))) (bare k)
-answerOf r ls ts p cs k (convertLen v) = cond (done k) (runTold k (neededOf v) []) (bare k)
-answerOf r ls ts p cs k (convert v room) = cond (done k) (runTold k (neededOf v) (joined (venueRun (listedLot ls) v))) (bare k)
-answerOf r ls ts p cs k (tryOrder s m w room) = cond (done k) (stepsTold k w (swept (orderSide m) w (cs (be s) (orderSide m)))) (bare k)
+-- ls: the listed symbols; ts: what is told of a block's messages, from the line's letter; p: the entries of a symbol; cs: its national candidates of a side, by letter;
+-- qs: its letters' latest quotes. Book and reviewer both answer through this
+unfoldable pub answerOf : Rest → List Listed → (ℕ → List (List ℕ) → List Told) → (ℕ → List ℕ) → (ℕ → Side → ℕ → Option Candidate) → (ℕ → ℕ → Quote) → ℕ → Call → Answer
+answerOf r ls ts p cs qs k (make n) = bare k
+answerOf r ls ts p cs qs k (add s n l) = bare k
+answerOf r ls ts p cs qs k (openLine i l) = bare k
+answerOf r ls ts p cs qs k startDay = bare k
+answerOf r ls ts p cs qs k endDay = bare k
+answerOf r ls ts p cs qs k (take i b room) = cond (eqb k 9) (bare k) (lineAnswer k b (ts (letterOf (r .lines i)) (messagesOf b)) (r .lines i))
+answerOf r ls ts p cs qs k (read s room) = published k (p (be s))
+answerOf r ls ts p cs qs k (protected s m x) = cond (done k) (protectionTold k (protection (askedSide m) x (cs (be s) (askedSide m)))) (bare k)
+answerOf r ls ts p cs qs k (convertLen v) = cond (done k) (runTold k (neededOf v) []) (bare k)
+answerOf r ls ts p cs qs k (convert v room) = cond (done k) (runTold k (neededOf v) (joined (venueRun (listedLot ls) v))) (bare k)
+answerOf r ls ts p cs qs k (snapshotLen s) = cond (done k) (sizeTold k (snapshotOf s (p (be s)) (qs (be s)))) (bare k)
+answerOf r ls ts p cs qs k (snapshot s room) = cond (done k) (snapshotTold k room (snapshotOf s (p (be s)) (qs (be s)))) (bare k)
+answerOf r ls ts p cs qs k (tryOrder s m w room) = cond (done k) (stepsTold k w (swept (orderSide m) w (cs (be s) (orderSide m)))) (bare k)
 
 -- ---- the book's bytes
 
@@ -223,6 +250,14 @@ candidatesIn (some r) = tradingCandidates (r .halted) (candidates (r .quotes) (o
 abbrev pub candidatesOn : List ℕ → ℕ → Side → ℕ → Option Candidate
 candidatesOn b s = candidatesIn (findReading s (pagesIn b))
 
+-- the letters' quotes of a page, as they stand
+abbrev pub quotesFor : Option Reading → ℕ → Quote
+quotesFor none = λ l. noQuote
+quotesFor (some r) = r .quotes
+
+abbrev pub quotesOn : List ℕ → ℕ → ℕ → Quote
+quotesOn b s = quotesFor (findReading s (pagesIn b))
+
 -- the line's record after a block
 abbrev pub advanceOn : ℕ → List ℕ → Option Line → List ℕ → List ℕ
 advanceOn i k none b = b
@@ -240,6 +275,9 @@ afterCall b (read s room) = b
 afterCall b (protected s m x) = b
 afterCall b (convertLen v) = b
 afterCall b (convert v room) = b
+-- "The book isn't changed"
+afterCall b (snapshotLen s) = b
+afterCall b (snapshot s room) = b
 afterCall b (tryOrder s m w room) = b
 
 -- 2: "n not 1 to 64 or wrong length"
@@ -258,6 +296,8 @@ isMake (read s room) = false
 isMake (protected s m x) = false
 isMake (convertLen v) = false
 isMake (convert v room) = false
+isMake (snapshotLen s) = false
+isMake (snapshot s room) = false
 isMake (tryOrder s m w room) = false
 
 abbrev pub madeNumber : List ℕ → Call → ℕ
@@ -271,13 +311,15 @@ madeNumber b (read s room) = 0
 madeNumber b (protected s m x) = 0
 madeNumber b (convertLen v) = 0
 madeNumber b (convert v room) = 0
+madeNumber b (snapshotLen s) = 0
+madeNumber b (snapshot s room) = 0
 madeNumber b (tryOrder s m w room) = 0
 
 unfoldable pub numberOn : List ℕ → Call → ℕ
 numberOn b c = cond (isMake c) (madeNumber b c) (cond (sound b) (numberOf (restIn b) (listedOf (pagesIn b)) c) 1)
 
 abbrev pub answerOn : List ℕ → Call → Answer
-answerOn b c = cond (isMake c) (bare (numberOn b c)) (cond (sound b) (answerOf (restIn b) (listedOf (pagesIn b)) (toldOn b) (publishedOn b) (candidatesOn b) (numberOn b c) c) (bare 1))
+answerOn b c = cond (isMake c) (bare (numberOn b c)) (cond (sound b) (answerOf (restIn b) (listedOf (pagesIn b)) (toldOn b) (publishedOn b) (candidatesOn b) (quotesOn b) (numberOn b c) c) (bare 1))
 
 pub record Outcome : Type 0 where
   pub bytes : List ℕ

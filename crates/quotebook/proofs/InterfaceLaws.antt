@@ -6,9 +6,9 @@ use mathlib.Core.Bool.{Bool, cond}
 use mathlib.Core.List.{List, [], _∷_}
 use borrow.Author.Tests.{le-leb, lt-leb}
 use Rattle.block.specs.Written.{Out, writtenOut}
-use Rattle.calls.specs.Buffers.{TakenBlock, taken, OrderOut, orderOut, RunOut, runOut}
-use Rattle.calls.specs.Call.{Outcome, queried, runTold, call, protected, convertLen}
-use Rattle.quotebook.specs.Interface.{bookLen, numbered, takenNumbers, queryNumbers, protectedNumbers, amountNumbers, lengthNumbers, runNumbers, convertedNumbers, outNumbers, writtenNumbers, orderNumbers, triedNumbers}
+use Rattle.calls.specs.Buffers.{TakenBlock, taken, FeedOut, feedOut, OrderOut, orderOut, RunOut, runOut}
+use Rattle.calls.specs.Call.{Outcome, queried, runTold, fed, call, protected, convertLen, snapshotLen}
+use Rattle.quotebook.specs.Interface.{bookLen, numbered, takenNumbers, queryNumbers, protectedNumbers, amountNumbers, lengthNumbers, runNumbers, convertedNumbers, outNumbers, writtenNumbers, orderNumbers, triedNumbers, SizeNumbers, sizeNumbers, feedSized, feedNumbers}
 use Rattle.opening.specs.Layout.{bookLength, symbolsMost}
 
 module _ (n : ℕ) where
@@ -44,6 +44,14 @@ length-numbered b v n l h = ap (λ (o : Outcome). amountNumbers (o .answer)) h
 pub run-numbered : (b v out : List ℕ) (o : RunOut) → o ≡ runOut b v out → runNumbers o ≡ convertedNumbers b v out
 unfolding convertedNumbers
 run-numbered b v out o h = ap runNumbers h
+
+pub size-told : (b s : List ℕ) (n k l : ℕ) → record { bytes = b; answer = fed n k l [] } ≡ call b (snapshotLen s) → record { number = n; size = k ∷ l ∷ [] } ≡ sizeNumbers b s
+unfolding sizeNumbers
+size-told b s n k l h = ap (λ (o : Outcome). record { number = o .answer .number; size = o .answer .found ∷ o .answer .amount ∷ [] }) h
+
+pub feed-sized : (b s out : List ℕ) (f : FeedOut) → f ≡ feedOut b s out → feedSized f ≡ feedNumbers b s out
+unfolding feedNumbers
+feed-sized b s out f h = ap feedSized h
 
 pub order-told : (b s : List ℕ) (m w : ℕ) (steps : List ℕ) (o : OrderOut) → o ≡ orderOut b s m w steps → orderNumbers o ≡ triedNumbers b s m w steps
 unfolding triedNumbers

@@ -6,8 +6,8 @@ use mathlib.Core.List.{List, [], _∷_}
 use lib.Dec.{leb}
 use Rattle.block.specs.Written.{Out, writtenOut}
 use Rattle.calls.specs.declared.Report.{Report}
-use Rattle.calls.specs.Buffers.{TakenBlock, taken, OrderOut, orderOut, RunOut, runOut}
-use Rattle.calls.specs.Call.{Answer, call, protected, convertLen}
+use Rattle.calls.specs.Buffers.{TakenBlock, taken, FeedOut, feedOut, OrderOut, orderOut, RunOut, runOut}
+use Rattle.calls.specs.Call.{Answer, call, protected, convertLen, snapshotLen}
 use Rattle.opening.specs.Layout.{bookLength, symbolsMost}
 
 -- 0 where n is not 1 to 64
@@ -73,6 +73,29 @@ runNumbers o = record { number = o .number; report = o .number ∷ o .length ∷
 -- T-11, the run: number, bytes written
 unfoldable pub convertedNumbers : List ℕ → List ℕ → List ℕ → RunNumbers
 convertedNumbers b v output = runNumbers (runOut b v output)
+
+pub record SizeNumbers : Type 0 where
+  pub number : ℕ
+  pub size : List ℕ
+
+-- T-12: blocks, bytes
+unfoldable pub sizeNumbers : List ℕ → List ℕ → SizeNumbers
+sizeNumbers b s =
+    record {
+      number = call b (snapshotLen s) .answer .number;
+      size = call b (snapshotLen s) .answer .found ∷ call b (snapshotLen s) .answer .amount ∷ [];
+    }
+
+pub record FeedNumbers : Type 0 where
+  pub number : ℕ
+  pub size : List ℕ
+  pub output : List ℕ
+
+abbrev pub feedSized : FeedOut → FeedNumbers
+feedSized f = record { number = f .number; size = f .blocks ∷ f .bytes ∷ []; output = f .output }
+
+unfoldable pub feedNumbers : List ℕ → List ℕ → List ℕ → FeedNumbers
+feedNumbers b s output = feedSized (feedOut b s output)
 
 pub record TriedNumbers : Type 0 where
   pub number : ℕ

@@ -3,7 +3,7 @@ ghost use mathlib.Core.Path.{_≡_};
 ghost use mathlib.Core.Bool.{cond};
 ghost use Rattle.calls.specs.Call.{bare, call, make, add, openLine, startDay, endDay};
 ghost use Rattle.calls.specs.Buffers.{readOut};
-ghost use Rattle.quotebook.specs.Interface.{bookLen, takenNumbers, protectedNumbers, triedNumbers, writtenNumbers, lengthNumbers, convertedNumbers};
+ghost use Rattle.quotebook.specs.Interface.{bookLen, takenNumbers, protectedNumbers, triedNumbers, writtenNumbers, lengthNumbers, convertedNumbers, sizeNumbers, feedNumbers};
 use opening::Book;
 
 const OPENING: u64 = Book::OPENING_LEN as u64;
@@ -153,6 +153,31 @@ pub extern "C" fn qb_convert(
 {
     let told = convert::convert(book, block, output);
     *report = [told.number as u64, told.len as u64];
+    told.number
+}
+
+/// The size's two numbers: blocks, bytes.
+#[no_mangle]
+pub extern "C" fn qb_snapshot_len(book: &[u8], symbol: &[u8], size: &mut [u64; 2]) -> u8
+    ensures { λ r. ⌜ record { number = r; size = now (size .exit) } ≡ sizeNumbers (now (book .entry)) (now (symbol .entry)) ⌝ }
+{
+    let told = recovery::snapshot_len(book, symbol);
+    *size = [told.blocks as u64, told.bytes as u64];
+    told.number
+}
+
+/// The size's two numbers: blocks, bytes written.
+#[no_mangle]
+pub extern "C" fn qb_snapshot(
+    book: &[u8],
+    symbol: &[u8],
+    output: &mut [u8],
+    size: &mut [u64; 2],
+) -> u8
+    ensures { λ r. ⌜ record { number = r; size = now (size .exit); output = now (output .exit) } ≡ feedNumbers (now (book .entry)) (now (symbol .entry)) (now (output .entry)) ⌝ }
+{
+    let told = recovery::snapshot(book, symbol, output);
+    *size = [told.blocks as u64, told.bytes as u64];
     told.number
 }
 

@@ -11,20 +11,22 @@ use Rattle.lists.proofs.Tests.{clash}
 use Rattle.ranking.specs.declared.Side.{Side}
 use Rattle.ranking.specs.declared.Candidate.{Candidate}
 use Rattle.protection.specs.Protection.{protection}
+use Rattle.snapshot.specs.Snapshot.{Snapshot, shownOf, snapshotOf}
 use Rattle.sweep.specs.Sweep.{swept}
 use Rattle.block.specs.Block.{messagesOf}
 use Rattle.update.proofs.EntryLaws.{bytes-every}
 use Rattle.opening.specs.declared.Line.{Line}
 use Rattle.opening.specs.Opening.{linesIn, restIn, pagesIn}
 use Rattle.line.specs.Line.{done}
-use Rattle.calls.specs.Call.{Call, make, add, openLine, startDay, endDay, take, read, protected, convertLen, convert, tryOrder, numberOf, Answer, bare, lineAnswer, published, askedSide, protectionTold, orderSide, stepsTold, letterOf, answerOf, entriesIn, publishedOn, candidatesIn, candidatesOn, numberOn, answerOn, call}
+use Rattle.calls.specs.Call.{Call, make, add, openLine, startDay, endDay, take, read, protected, convertLen, convert, snapshotLen, snapshot, tryOrder, numberOf, Answer, bare, lineAnswer, published, askedSide, protectionTold, orderSide, stepsTold, sizeTold, snapshotTold, letterOf, answerOf, entriesIn, publishedOn, candidatesIn, candidatesOn, quotesFor, quotesOn, numberOn, answerOn, call}
 use Rattle.work.specs.Work.{Listed, isListed, findReading, listedOf, toldOn}
 use Rattle.opening.proofs.OpeningLaws.{Sound, sound-is}
 use Rattle.opening.proofs.LineLaws.{line-upper, line-open}
-use Rattle.calls.proofs.NumberLaws.{number-same, read-done, protected-done, order-done}
-use Rattle.review.specs.Reviewer.{parts, reviewed, candidatesR, toldR, Review, reviewAnswer}
+use Rattle.calls.proofs.NumberLaws.{number-same, read-done, protected-done, len-done, feed-done, order-done}
+use Rattle.review.specs.Reviewer.{parts, roundsOf, quoteOf, reviewed, candidatesR, toldR, Review, reviewAnswer}
 use Rattle.review.specs.Lists.{blockIsBytes}
 use Rattle.review.proofs.Agree.{good-reviewed, good-trading, Core, ReadingOf, missing, found, reading-of}
+use Rattle.review.proofs.FeedLaws.{snapshot-same, held-shown}
 use Rattle.review.proofs.WorkLaws.{told-same}
 use Rattle.review.proofs.BytesLaws.{messages-bytes, told-done}
 use Rattle.review.proofs.CallLaws.{Agrees, viewOf, view-is}
@@ -49,14 +51,29 @@ module _ (n : ℕ) (b : List ℕ) (h : List (List ℕ)) (sd : Sound n b) (y : By
       go (missing u v) = clash (sym e ∙ v)
       go (found r u v w g) = rw (u, sym w) (good-trading (parts h) r g)
 
+  -- and quotes that show the same
+  quotes-same : (x e : List ℕ) (s : ℕ) → isListed s ls ≡ true → snapshotOf x e (quotesOn b s) ≡ snapshotOf x e (quoteOf (parts h) s)
+  unfolding quoteOf
+  quotes-same x e s t = go (reading-of s (parts h) (pagesIn b) (c .good))
+    where
+      go : ReadingOf s (parts h) (pagesIn b) → snapshotOf x e (quotesFor (findReading s (pagesIn b))) ≡ snapshotOf x e (quoteOf (parts h) s)
+      go (missing u v) = clash (sym t ∙ v)
+      go (found r u v w g) =
+          rw (u, sym w)
+          (snapshot-same (r .quotes) (quoteOf (parts h) (r .symbol)) (λ l. ap (shownOf l) (g .quotes l) ∙ held-shown l (roundsOf (parts h) (r .symbol) l)) x e)
+
+  -- what both calls of T-12 are told from
+  pub feed-same : (x : List ℕ) → isListed (be x) ls ≡ true → snapshotOf x (publishedOn b (be x)) (quotesOn b (be x)) ≡ snapshotOf x (reviewed h (be x)) (quoteOf (parts h) (be x))
+  feed-same x e = ap (λ (p : List ℕ). snapshotOf x p (quotesOn b (be x))) (read-same (be x) e) ∙ quotes-same x (reviewed h (be x)) (be x) e
+
   pub told-line : (i : ℕ) (r : Line) (x : List ℕ) → linesIn b i ≡ some r → Bytes x → toldOn b (r .letter) (messagesOf x) ≡ toldR ls h (r .letter) (messagesOf x)
   told-line i r x e z =
       told-done n (r .letter) (line-upper r (line-open b i r e .1)) (messagesOf x) b (messages-bytes x z) sd y
       ∙ told-same (r .letter) ls (messagesOf x) h (pagesIn b) refl c
 
   answer-same : (k : Call) → blockIsBytes k ≡ true
-      → answerOf (restIn b) ls (toldOn b) (publishedOn b) (candidatesOn b) (numberOf (restIn b) ls k) k
-      ≡ answerOf (restIn b) ls (toldR ls h) (reviewed h) (candidatesR h) (numberOf (restIn b) ls k) k
+      → answerOf (restIn b) ls (toldOn b) (publishedOn b) (candidatesOn b) (quotesOn b) (numberOf (restIn b) ls k) k
+      ≡ answerOf (restIn b) ls (toldR ls h) (reviewed h) (candidatesR h) (quoteOf (parts h)) (numberOf (restIn b) ls k) k
   unfolding answerOf restIn
   answer-same (make k) z = refl
   answer-same (add x l m) z = refl
@@ -88,6 +105,26 @@ module _ (n : ℕ) (b : List ℕ) (h : List (List ℕ)) (sd : Sound n b) (y : By
       go false e = refl
   answer-same (convertLen x) z = refl
   answer-same (convert x k) z = refl
+  answer-same (snapshotLen x) z = go (done (numberOf (restIn b) ls (snapshotLen x))) refl
+    where
+      told : Snapshot → Answer
+      told f = sizeTold (numberOf (restIn b) ls (snapshotLen x)) f
+
+      go : (t : Bool) → done (numberOf (restIn b) ls (snapshotLen x)) ≡ t
+          → cond t (told (snapshotOf x (publishedOn b (be x)) (quotesOn b (be x)))) (bare (numberOf (restIn b) ls (snapshotLen x)))
+          ≡ cond t (told (snapshotOf x (reviewed h (be x)) (quoteOf (parts h) (be x)))) (bare (numberOf (restIn b) ls (snapshotLen x)))
+      go true e = ap told (feed-same x (len-done (restIn b) ls x e .1))
+      go false e = refl
+  answer-same (snapshot x k) z = go (done (numberOf (restIn b) ls (snapshot x k))) refl
+    where
+      told : Snapshot → Answer
+      told f = snapshotTold (numberOf (restIn b) ls (snapshot x k)) k f
+
+      go : (t : Bool) → done (numberOf (restIn b) ls (snapshot x k)) ≡ t
+          → cond t (told (snapshotOf x (publishedOn b (be x)) (quotesOn b (be x)))) (bare (numberOf (restIn b) ls (snapshot x k)))
+          ≡ cond t (told (snapshotOf x (reviewed h (be x)) (quoteOf (parts h) (be x)))) (bare (numberOf (restIn b) ls (snapshot x k)))
+      go true e = ap told (feed-same x (feed-done (restIn b) ls x k e .1))
+      go false e = refl
   answer-same (tryOrder x m w k) z = go (done (numberOf (restIn b) ls (tryOrder x m w k))) refl
     where
       told : (Side → ℕ → Option Candidate) → Answer
@@ -99,7 +136,7 @@ module _ (n : ℕ) (b : List ℕ) (h : List (List ℕ)) (sd : Sound n b) (y : By
       go true e = ap told (candidates-same (be x) (order-done (restIn b) ls x m w k e .1))
       go false e = refl
 
-  answer-sound : (k : Call) → answerOn b k ≡ answerOf (restIn b) ls (toldOn b) (publishedOn b) (candidatesOn b) (numberOn b k) k
+  answer-sound : (k : Call) → answerOn b k ≡ answerOf (restIn b) ls (toldOn b) (publishedOn b) (candidatesOn b) (quotesOn b) (numberOn b k) k
   unfolding answerOf
   answer-sound (make k) = refl
   answer-sound (add x l m) = rw (sound-is n b sd)
@@ -111,11 +148,13 @@ module _ (n : ℕ) (b : List ℕ) (h : List (List ℕ)) (sd : Sound n b) (y : By
   answer-sound (protected x m v) = rw (sound-is n b sd)
   answer-sound (convertLen x) = rw (sound-is n b sd)
   answer-sound (convert x k) = rw (sound-is n b sd)
+  answer-sound (snapshotLen x) = rw (sound-is n b sd)
+  answer-sound (snapshot x k) = rw (sound-is n b sd)
   answer-sound (tryOrder x m w k) = rw (sound-is n b sd)
 
   answer-view : (k : Call) → blockIsBytes k ≡ true → answerOn b k ≡ reviewAnswer (viewOf b h) k
   unfolding reviewAnswer
-  answer-view k z = answer-sound k ∙ ap (λ (q : ℕ). answerOf (restIn b) ls (toldOn b) (publishedOn b) (candidatesOn b) q k) (number-same n b sd k) ∙ answer-same k z
+  answer-view k z = answer-sound k ∙ ap (λ (q : ℕ). answerOf (restIn b) ls (toldOn b) (publishedOn b) (candidatesOn b) (quotesOn b) q k) (number-same n b sd k) ∙ answer-same k z
 
 pub call-answer : (n : ℕ) (b : List ℕ) (v : Review) (k : Call) → blockIsBytes k ≡ true → Agrees n b v → call b k .answer ≡ reviewAnswer v k
 unfolding call

@@ -21,6 +21,7 @@ use Rattle.review.proofs.Protected as Protected
 use Rattle.review.proofs.Closed as Closed
 use Rattle.review.proofs.Leading as Leading
 use Rattle.review.proofs.Halts as Halts
+use Rattle.review.proofs.Snapshots as Snapshots
 use Rattle.review.proofs.Sweeps as Sweeps
 
 abbrev pub OnBook : List Row → Type 0
@@ -79,6 +80,10 @@ leading = on-book Leading.table refl Leading.cases
 pub halts : OnBook Halts.table
 unfolding Halts.table blocksAreBytes every beBytes
 halts = on-book Halts.table refl Halts.cases
+
+pub snapshots : OnBook Snapshots.table
+unfolding Snapshots.table blocksAreBytes every beBytes
+snapshots = on-book Snapshots.table refl Snapshots.cases
 
 pub sweeps : OnBook Sweeps.table
 unfolding Sweeps.table blocksAreBytes every beBytes

@@ -23,7 +23,7 @@ use Rattle.update.proofs.BlankLaws.{emptied-kept, emptied-reads}
 use Rattle.opening.specs.declared.Line.{Line}
 use Rattle.opening.specs.Opening.{symbolsOf, countOf, lineIn, linesIn, restIn, pagesIn, eachPage, restartLines}
 use Rattle.line.specs.Line.{done, nextBy, advanced}
-use Rattle.calls.specs.Call.{Call, make, add, openLine, startDay, endDay, take, read, protected, convertLen, convert, tryOrder, numberOf, letterOf, advanceOn, afterCall, call}
+use Rattle.calls.specs.Call.{Call, make, add, openLine, startDay, endDay, take, read, protected, convertLen, convert, snapshotLen, snapshot, tryOrder, numberOf, letterOf, advanceOn, afterCall, call}
 use Rattle.work.specs.Work.{Listed, listedOf, messagesOn}
 use Rattle.opening.proofs.OpeningLaws.{Sound, rest-by}
 use Rattle.opening.proofs.PageLaws.{OpeningKept, kept-sound, each-kept, each-reads}
@@ -206,6 +206,14 @@ module _ (n : ℕ) (b : List ℕ) (h : List (List ℕ)) (sd : Sound n b) (y : By
   unfolding restAfter symbolsAfter historyAfter afterCall
   after-convert x k = record { rest = refl; listed = refl; core = c }
 
+  after-len : (x : List ℕ) → Then (snapshotLen x)
+  unfolding afterCall restAfter symbolsAfter historyAfter
+  after-len x = record { rest = refl; listed = refl; core = c }
+
+  after-snapshot : (x : List ℕ) (k : ℕ) → Then (snapshot x k)
+  unfolding afterCall restAfter symbolsAfter historyAfter
+  after-snapshot x k = record { rest = refl; listed = refl; core = c }
+
   after-order : (x : List ℕ) (m w k : ℕ) → Then (tryOrder x m w k)
   unfolding afterCall restAfter symbolsAfter historyAfter
   after-order x m w k = record { rest = refl; listed = refl; core = c }
@@ -221,6 +229,8 @@ module _ (n : ℕ) (b : List ℕ) (h : List (List ℕ)) (sd : Sound n b) (y : By
   after (protected x m v) z d = after-protected x m v
   after (convertLen x) z d = after-convert-len x
   after (convert x k) z d = after-convert x k
+  after (snapshotLen x) z d = after-len x
+  after (snapshot x k) z d = after-snapshot x k
   after (tryOrder x m w k) z d = after-order x m w k
 
   call-view : (k : Call) → blockIsBytes k ≡ true → Held (call b k .bytes) (reviewCall (viewOf b h) k)

@@ -16,7 +16,7 @@ use Rattle.lists.proofs.Members.{In}
 use Rattle.entries.specs.Entries.{entriesOf, unlessHalted}
 use Rattle.entries.proofs.LengthLaws.{length-publication}
 use Rattle.line.specs.Line.{done}
-use Rattle.calls.specs.Call.{Call, make, read, protected, convertLen, convert, tryOrder, numberOf, call, answers, bytesAfter}
+use Rattle.calls.specs.Call.{Call, make, read, protected, convertLen, convert, snapshot, tryOrder, numberOf, call, answers, bytesAfter}
 use Rattle.calls.proofs.ProtectedLaws.{protected-keeps}
 use Rattle.calls.proofs.ConvertLaws.{length-keeps, convert-keeps}
 use Rattle.calls.proofs.OrderLaws.{order-keeps}
@@ -26,7 +26,7 @@ use Rattle.review.specs.Lists.{blocksAreBytes}
 use Rattle.review.specs.Numbers.{numbersOf}
 use Rattle.review.proofs.RunLaws.{answers-agree, reads-agree}
 use Rattle.review.proofs.NumberLaws.{number-known}
-use Rattle.review.proofs.ReportLaws.{number-told, refused-same}
+use Rattle.review.proofs.ReportLaws.{of-each, number-told, room-known, refused-same}
 use Rattle.entries.specs.Publication.{publicationLength}
 use Rattle.text.specs.Form.{symbolLength}
 
@@ -58,9 +58,15 @@ reviewed-length h s = length-publication (unlessHalted (haltedOf (parts h) s) (e
 pub refusal-changes-nothing : (b : List ℕ) (c : Call) → done (call b c .answer .number) ≡ false → call b c .bytes ≡ b
 refusal-changes-nothing b c e = refused-same b c e
 
+short-known : (s : List ℕ) (room : ℕ) → member (numbersOf (snapshot s room)) 81 ≡ true
+unfolding member
+short-known s room = refl
+
 -- every number is one of document 01's for that call
 pub numbers-known : (b : List ℕ) (c : Call) → member (numbersOf c) (call b c .answer .number) ≡ true
-numbers-known b c = ap (member (numbersOf c)) (number-told b c) ∙ number-known b c
+numbers-known b =
+    of-each (λ (c : Call). member (numbersOf c) (call b c .answer .number) ≡ true) (λ c w. ap (member (numbersOf c)) (number-told b c w) ∙ number-known b c)
+    (λ s room. room-known b s room (numbersOf (snapshot s room)) (short-known s room) (number-known b (snapshot s room)))
 
 -- a query alters nothing, refused or not: no byte of the book, and nothing that the reviewer holds
 pub query-alters-nothing : (b : List ℕ) (v : Review) (s : List ℕ) (m x : ℕ) → (call b (protected s m x) .bytes ≡ b) × (reviewCall v (protected s m x) ≡ v)

@@ -11,6 +11,7 @@ pub mod WorkLaws
 pub mod BytesLaws
 pub mod ListLaws
 pub mod CallLaws
+pub mod FeedLaws
 pub mod AnswerLaws
 pub mod RunLaws
 pub mod Demand3
@@ -19,6 +20,7 @@ pub mod FrameLaws
 pub mod PlaceLaws
 pub mod Protected
 pub mod Halts
+pub mod Snapshots
 pub mod Sweeps
 pub mod AgreedFrame
 pub mod Frame
@@ -39,3 +41,4 @@ pub mod Openings
 pub mod Statements
 pub mod BookCases
 pub mod Run
+pub mod Recovery

@@ -27,7 +27,7 @@ use Rattle.block.specs.declared.Arrival.the-variants.{Taken, Duplicate}
 use Rattle.opening.specs.declared.Line.{Line}
 use Rattle.opening.specs.Opening.{sound, Rest, restIn, pagesIn}
 use Rattle.line.specs.Line.{arrivalNumberOf, lineNumber, checkedNumberOf, blockNumber, onLine}
-use Rattle.calls.specs.Call.{Call, make, add, openLine, startDay, endDay, take, read, protected, convertLen, convert, tryOrder, lots, sideMarks, lotsGood, numberOf, makeGood, isMake, numberOn}
+use Rattle.calls.specs.Call.{Call, make, add, openLine, startDay, endDay, take, read, protected, convertLen, convert, snapshotLen, snapshot, tryOrder, lots, sideMarks, lotsGood, numberOf, makeGood, isMake, numberOn}
 use Rattle.work.specs.Work.{Listed, isListed, listedOf}
 use Rattle.review.specs.Numbers.{numbersOf, codes}
 use Rattle.entries.specs.Publication.{publicationLength}
@@ -174,6 +174,8 @@ number-of r ls (read s room) = either (ltb room publicationLength) (among refl) 
 number-of r ls (protected s m x) = either (symbolGood s && isListed (be s) ls) (either (member sideMarks m) (among refl) (among refl)) (among refl)
 number-of r ls (convertLen v) = venue-known v
 number-of r ls (convert v room) = convert-known v room
+number-of r ls (snapshotLen s) = either (symbolGood s && isListed (be s) ls) (among refl) (among refl)
+number-of r ls (snapshot s room) = either (symbolGood s && isListed (be s) ls) (among refl) (among refl)
 number-of r ls (tryOrder s m w room) =
     either (symbolGood s && isListed (be s) ls)
     (either (member sideMarks m) (either (lotsGood w) (either (ltb room stepsLength) (among refl) (among refl)) (among refl)) (among refl))
@@ -195,8 +197,10 @@ known-of b (read s room) = sounded b (read s room) refl refl
 known-of b (protected s m x) = sounded b (protected s m x) refl refl
 known-of b (convertLen v) = sounded b (convertLen v) refl refl
 known-of b (convert v room) = sounded b (convert v room) refl refl
+known-of b (snapshotLen s) = sounded b (snapshotLen s) refl refl
+known-of b (snapshot s room) = sounded b (snapshot s room) refl refl
 known-of b (tryOrder s m w room) = sounded b (tryOrder s m w room) refl refl
 
--- the number of a call is one of document 01's, on any bytes
+-- the number of a call is one of document 01's, on any bytes; 81 apart, which a snapshot tells with its answer
 pub number-known : (b : List ℕ) (c : Call) → member (numbersOf c) (numberOn b c) ≡ true
 number-known b c = is-among (known-of b c)

@@ -15,7 +15,7 @@ use Rattle.opening.specs.Layout.{mark}
 use Rattle.opening.specs.Opening as Opening
 use Rattle.line.specs.Line as Line
 use Rattle.work.specs.Work as Work
-use Rattle.calls.specs.Call.{add, openLine, startDay, endDay, take, read, protected, convertLen, convert, tryOrder, call}
+use Rattle.calls.specs.Call.{add, openLine, startDay, endDay, take, read, protected, convertLen, convert, snapshotLen, snapshot, tryOrder, call}
 use Rattle.calls.specs.Call as Call
 
 -- a mark, n, the count of symbols, the day flag, the offset of the first page; then any bytes
@@ -25,10 +25,10 @@ book m n count day offset rest = m ++ (n ∷ count ∷ day ∷ (beBytes 4 offset
 -- the numbers of the other calls, with arguments that their next check refuses
 unfoldable pub asked : List ℕ → List ℕ
 unfolding Field.be Field.beBytes Field.part Field.field Lists.sameList Form.symbolGood Opening.symbolsOf Opening.countOf Opening.sound Opening.restIn Work.listedOf Line.done Venue.sizeGood Venue.blockGood Venue.venueNumber VenueRun.convertNumber Call.numberOf Call.answerOf Call.numberOn Call.call
-asked b = map (λ c. call b c .answer .number) (add [] 0 0 ∷ openLine 64 0 ∷ startDay ∷ endDay ∷ take 64 [] 0 ∷ read [] 0 ∷ protected [] 0 0 ∷ convertLen [] ∷ convert [] 0 ∷ tryOrder [] 0 0 0 ∷ [])
+asked b = map (λ c. call b c .answer .number) (add [] 0 0 ∷ openLine 64 0 ∷ startDay ∷ endDay ∷ take 64 [] 0 ∷ read [] 0 ∷ protected [] 0 0 ∷ convertLen [] ∷ convert [] 0 ∷ snapshotLen [] ∷ snapshot [] 0 ∷ tryOrder [] 0 0 0 ∷ [])
 
 abbrev noBook : List ℕ → Type 0
-noBook b = asked b ≡ 1 ∷ 1 ∷ 1 ∷ 1 ∷ 1 ∷ 1 ∷ 1 ∷ 1 ∷ 1 ∷ 1 ∷ []
+noBook b = asked b ≡ 1 ∷ 1 ∷ 1 ∷ 1 ∷ 1 ∷ 1 ∷ 1 ∷ 1 ∷ 1 ∷ 1 ∷ 1 ∷ 1 ∷ []
 
 -- QUOTEBK2, and RUOTEBK1
 pub the-last-byte-of-the-mark : (rest : List ℕ) → noBook (book (81 ∷ 85 ∷ 79 ∷ 84 ∷ 69 ∷ 66 ∷ 75 ∷ 50 ∷ []) 1 0 0 847 rest)
@@ -76,11 +76,11 @@ pub a-byte-too-many : noBook (book mark 1 0 0 847 (replicate 6889 0))
 unfolding asked
 a-byte-too-many = refl
 
--- a book of one symbol: 3, 7, Start and End by the day, 9, 9, 10, 78, 78, 10; none listed, the day closed; then one listed, the day open
-pub sound-closed : asked (book mark 1 0 0 847 (replicate 6888 0)) ≡ 3 ∷ 7 ∷ 0 ∷ 12 ∷ 9 ∷ 9 ∷ 10 ∷ 78 ∷ 78 ∷ 10 ∷ []
+-- a book of one symbol: 3, 7, Start and End by the day, 9, 9, 10, 78, 78, 10, 10, 10; none listed, the day closed; then one listed, the day open
+pub sound-closed : asked (book mark 1 0 0 847 (replicate 6888 0)) ≡ 3 ∷ 7 ∷ 0 ∷ 12 ∷ 9 ∷ 9 ∷ 10 ∷ 78 ∷ 78 ∷ 10 ∷ 10 ∷ 10 ∷ []
 unfolding asked
 sound-closed = refl
 
-pub sound-full-open : asked (book mark 1 1 1 847 (replicate 6888 0)) ≡ 3 ∷ 7 ∷ 11 ∷ 0 ∷ 9 ∷ 9 ∷ 10 ∷ 78 ∷ 78 ∷ 10 ∷ []
+pub sound-full-open : asked (book mark 1 1 1 847 (replicate 6888 0)) ≡ 3 ∷ 7 ∷ 11 ∷ 0 ∷ 9 ∷ 9 ∷ 10 ∷ 78 ∷ 78 ∷ 10 ∷ 10 ∷ 10 ∷ []
 unfolding asked
 sound-full-open = refl

@@ -23,9 +23,11 @@ use Rattle.block.specs.Block as Block
 use Rattle.block.specs.Sequence as Sequence
 use Rattle.line.specs.Line as Line
 use Rattle.calls.specs.Call as Call
+use Rattle.snapshot.specs.Snapshot as Snapshot
+use Rattle.snapshot.specs.Feed as Feed
 use Rattle.told.specs.Told as Told
 use Rattle.work.specs.Work as Work
-use Rattle.calls.specs.Call.{Call, add, openLine, startDay, take, read, protected, tryOrder, Answer}
+use Rattle.calls.specs.Call.{Call, add, openLine, startDay, take, read, protected, snapshotLen, snapshot, tryOrder, Answer}
 use Rattle.review.specs.Runs as Runs
 use Rattle.review.specs.Reviewer as Reviewer
 use Rattle.review.specs.Reviewer.{freshReview, reviewAnswers}
@@ -138,6 +140,10 @@ yes looked = replicate 7 0 ++ (1 ∷ looked ∷ [])
 
 abbrev pub no : List ℕ
 no = replicate 7 0 ++ (0 ∷ 26 ∷ [])
+
+-- a snapshot: its blocks and bytes, and what is written; one that is told alone has nothing written
+abbrev pub sent : ℕ → ℕ → List ℕ → List ℕ
+sent blocks bytes output = replicate 7 0 ++ (blocks ∷ bytes ∷ output)
 
 -- an order that was tried: its steps, and the lots not found
 abbrev pub step : ℕ → ℕ → ℕ → List ℕ
@@ -266,6 +272,13 @@ bidAt price = protected zt 66 price
 abbrev pub offerAt : ℕ → Call
 offerAt price = protected zt 83 price
 
+-- ZT's snapshot into so many bytes
+abbrev pub send : ℕ → Call
+send room = snapshot zt room
+
+abbrev pub measure : Call
+measure = snapshotLen zt
+
 -- so many lots of ZT to buy, to sell
 abbrev pub buy : ℕ → Call
 buy lots = tryOrder zt 66 lots 325
@@ -291,7 +304,7 @@ fromMake n cs told = record { n = n; calls = cs; answers = told }
 
 -- what the reviewer answers, worked out by the definitions named here
 unfoldable pub answered : ℕ → List Call → List (List ℕ)
-unfolding Field.be Field.beBytes Field.part Field.field Lists.sum Lists.member Lists.every Lists.all Ranking.comparedBy Ranking.lower Ranking.higher Ranking.byPrice Ranking.compared Ranking.better Ranking.whyAhead Quote.admits Quote.counts Quote.emptyQuote Quote.withCondition Quote.withTimes Quote.candidateOf Levels.without Levels.insert Levels.itemOn Levels.itemsOn Levels.clears Levels.clearedBy Levels.oddOn Levels.itemsBad Levels.oddBad Levels.oddCode Levels.itemAt Levels.itemsFrom Levels.oddIn Entries.letters Entries.makerCandidate Entries.finraBest Entries.asD Entries.letterCandidate Entries.candidates Entries.nationalBest Entries.nationalReason Entries.oddCandidate Entries.ranks Entries.letterLevels Entries.oddBest Entries.entriesBy Entries.entriesOf Entries.unlessHalted Entries.tradingCandidates Publication.noEntry Publication.publication Publication.changeFlags Protection.firstYes Protection.protection Lists.firstFrom Sweep.without Sweep.play Sweep.swept Sweep.filled Sweep.stepBytes Sweep.stepsBytes Form.padded Form.symbolGood Form.makerGood Message.controlKind Message.quoteKind Message.statusKind Message.kindOf Message.timeOf Message.symbolOf Message.levelAt Message.quoteAt Message.makerName Message.oddAt Message.priceFault Message.quoteFault Message.readInquiry Message.testBytes Message.readTest Message.readFinra Message.readRoundLot Message.readOddLot Message.readMaker Message.readStatus Message.messageOf Message.makerCode Message.statusCode Message.codeOf Message.partlyTaken Block.checksumOf Block.startAt Block.messageAt Block.messagesFrom Block.messagesOf Block.lengthGood Block.spaced Block.tableGood Block.controlAmong Block.checked Block.idleBlock Sequence.gapOf Sequence.nextOf Sequence.arrivalOf Work.isListed Work.listedWith Line.lineNumber Line.blockNumber Call.numberOf Line.done Told.quads Told.tally Line.gapTold Line.advanced Call.answerOf Work.flagsOf Runs.latestRun Runs.firstTime Reviewer.parts Reviewer.roundsOf Reviewer.quoteOf Reviewer.makerQuotes Reviewer.conditionOf Reviewer.makerOf Reviewer.namesOf Reviewer.makersOf Reviewer.levelsOf Reviewer.haltedOf Reviewer.reviewedBy Reviewer.knownTo Reviewer.restAfter Reviewer.symbolsAfter Reviewer.historyAfter Reviewer.reviewCall Reviewer.reviewAnswer
+unfolding Field.be Field.beBytes Field.part Field.field Lists.sum Lists.member Lists.every Lists.all Ranking.comparedBy Ranking.lower Ranking.higher Ranking.byPrice Ranking.compared Ranking.better Ranking.whyAhead Quote.admits Quote.counts Quote.emptyQuote Quote.withCondition Quote.withTimes Quote.candidateOf Levels.without Levels.insert Levels.itemOn Levels.itemsOn Levels.clears Levels.clearedBy Levels.oddOn Levels.itemsBad Levels.oddBad Levels.oddCode Levels.itemAt Levels.itemsFrom Levels.oddIn Entries.letters Entries.makerCandidate Entries.finraBest Entries.asD Entries.letterCandidate Entries.candidates Entries.nationalBest Entries.nationalReason Entries.oddCandidate Entries.ranks Entries.letterLevels Entries.oddBest Entries.entriesBy Entries.entriesOf Entries.unlessHalted Entries.tradingCandidates Publication.noEntry Publication.publication Publication.changeFlags Protection.firstYes Protection.protection Lists.firstFrom Sweep.without Sweep.play Sweep.swept Sweep.filled Sweep.stepBytes Sweep.stepsBytes Form.padded Form.symbolGood Form.makerGood Message.controlKind Message.quoteKind Message.statusKind Message.kindOf Message.timeOf Message.symbolOf Message.levelAt Message.quoteAt Message.makerName Message.oddAt Message.priceFault Message.quoteFault Message.readInquiry Message.testBytes Message.readTest Message.readFinra Message.readRoundLot Message.readOddLot Message.readMaker Message.readStatus Message.messageOf Message.makerCode Message.statusCode Message.codeOf Message.partlyTaken Block.checksumOf Block.startAt Block.messageAt Block.messagesFrom Block.messagesOf Block.lengthGood Block.spaced Block.tableGood Block.controlAmong Block.checked Block.idleBlock Sequence.gapOf Sequence.nextOf Sequence.arrivalOf Work.isListed Work.listedWith Line.lineNumber Line.blockNumber Call.numberOf Snapshot.isShown Snapshot.snapshotOf Feed.opened Feed.nationalSide Feed.consolidated Feed.pricedBytes Feed.participant Feed.finraSide Feed.finraMessage Feed.feedMessages Feed.fitting Feed.grouped Feed.feedFront Feed.feedWith Feed.feedChecksum Feed.feedBlock Feed.feedFrom Feed.feedBlocks Feed.feedBytes Line.done Told.quads Told.tally Line.gapTold Line.advanced Call.answerOf Work.flagsOf Runs.latestRun Runs.firstTime Reviewer.parts Reviewer.roundsOf Reviewer.quoteOf Reviewer.makerQuotes Reviewer.conditionOf Reviewer.makerOf Reviewer.namesOf Reviewer.makersOf Reviewer.levelsOf Reviewer.haltedOf Reviewer.reviewedBy Reviewer.knownTo Reviewer.restAfter Reviewer.symbolsAfter Reviewer.historyAfter Reviewer.reviewCall Reviewer.reviewAnswer
 answered n cs = allTold (reviewAnswers (freshReview n) cs)
 
 -- every row is answered as it says

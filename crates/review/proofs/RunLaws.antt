@@ -15,7 +15,7 @@ use Rattle.lists.proofs.Members.{In}
 use Rattle.text.specs.Form.{symbolGood, symbolLength}
 use Rattle.opening.specs.Opening.{freshBytes}
 use Rattle.line.specs.Line.{done}
-use Rattle.calls.specs.Call.{Call, make, add, openLine, startDay, endDay, take, read, protected, convertLen, convert, tryOrder, numberOf, Answer, answerOf, makeGood, numberOn, afterCall, call, bytesAfter, answers}
+use Rattle.calls.specs.Call.{Call, make, add, openLine, startDay, endDay, take, read, protected, convertLen, convert, snapshotLen, snapshot, tryOrder, numberOf, Answer, answerOf, makeGood, numberOn, afterCall, call, bytesAfter, answers}
 use Rattle.work.specs.Work.{Listed, isListed, listedOf}
 use Rattle.opening.proofs.FreshLaws.{fresh-sound, fresh-bytes, fresh-rest, fresh-pages}
 use Rattle.calls.proofs.NumberLaws.{add-done, symbol-back}
@@ -106,6 +106,8 @@ after-wells v (read s k) d w = w
 after-wells v (protected s m x) d w = w
 after-wells v (convertLen x) d w = w
 after-wells v (convert x k) d w = w
+after-wells v (snapshotLen s) d w = w
+after-wells v (snapshot s k) d w = w
 after-wells v (tryOrder s m n k) d w = w
 
 call-wells : (v : Review) (c : Call) → Wells (v .symbols) → Wells (reviewCall v c .symbols)
@@ -130,6 +132,11 @@ well-in x (y ∷ xs) w (inr m) = let r = well-in x xs (w .1) m in (r .0, go (eqb
     go : (t : Bool) → isListed (x .symbol) xs ≡ true → cond t true (isListed (x .symbol) xs) ≡ true
     go true e = refl
     go false e = e
+
+-- its bytes are a symbol's, and give its number back; it is listed
+pub held-symbol : (n : ℕ) (cs : List Call) (x : Listed) → In x (reviewAfter (freshReview n) cs .symbols)
+    → (symbolGood (beBytes symbolLength (x .symbol)) ≡ true) × ((be (beBytes symbolLength (x .symbol)) ≡ x .symbol) × (isListed (x .symbol) (reviewAfter (freshReview n) cs .symbols) ≡ true))
+held-symbol n cs x i = let w = well-in x (reviewAfter (freshReview n) cs .symbols) (run-wells (freshReview n) cs tt) i in (w .0 .0, (w .0 .1, w .1))
 
 -- ---- reads
 

@@ -7,7 +7,7 @@ use mathlib.Core.List.{List, [], _∷_}
 use lib.ListN.{set}
 use Rattle.field.specs.Field.{be}
 use Rattle.lists.specs.Lists.{range}
-use Rattle.calls.specs.Call.{Call, make, add, openLine, startDay, endDay, take, read, protected, convertLen, convert, tryOrder}
+use Rattle.calls.specs.Call.{Call, make, add, openLine, startDay, endDay, take, read, protected, convertLen, convert, snapshotLen, snapshot, tryOrder}
 use Rattle.review.specs.Reviewer.{freshReview, reviewAfter}
 use Rattle.review.specs.Frame.{touched, takenOf, takenR}
 use Rattle.review.specs.Numbers.{numbersOf, codes}
@@ -155,6 +155,12 @@ of-convert-len v = refl
 
 pub of-convert : (v : List ℕ) (room : ℕ) → numbersOf (convert v room) ≡ 0 ∷ 1 ∷ 78 ∷ 79 ∷ 80 ∷ []
 of-convert v room = refl
+
+pub of-snapshot-len : (s : List ℕ) → numbersOf (snapshotLen s) ≡ 0 ∷ 1 ∷ 10 ∷ []
+of-snapshot-len s = refl
+
+pub of-snapshot : (s : List ℕ) (room : ℕ) → numbersOf (snapshot s room) ≡ 0 ∷ 1 ∷ 10 ∷ 81 ∷ []
+of-snapshot s room = refl
 
 pub of-order : (s : List ℕ) (m w room : ℕ) → numbersOf (tryOrder s m w room) ≡ 0 ∷ 1 ∷ 10 ∷ 74 ∷ 82 ∷ 83 ∷ []
 of-order s m w room = refl

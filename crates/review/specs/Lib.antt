@@ -3,3 +3,4 @@ pub mod Reviewer
 pub mod Lists
 pub mod Frame
 pub mod Numbers
+pub mod Recovered

@@ -5,7 +5,7 @@ use mathlib.Core.Bool.{Bool, true, _&&_}
 use mathlib.Core.List.{List, [], _∷_}
 use lib.Dec.{ltb}
 use Rattle.lists.specs.Lists.{every}
-use Rattle.calls.specs.Call.{Call, make, add, openLine, startDay, endDay, take, read, protected, convertLen, convert, tryOrder}
+use Rattle.calls.specs.Call.{Call, make, add, openLine, startDay, endDay, take, read, protected, convertLen, convert, snapshotLen, snapshot, tryOrder}
 
 -- each element is a byte
 abbrev pub areBytes : List ℕ → Bool
@@ -23,6 +23,8 @@ blockIsBytes (read s room) = true
 blockIsBytes (protected s m x) = true
 blockIsBytes (convertLen v) = true
 blockIsBytes (convert v room) = true
+blockIsBytes (snapshotLen s) = true
+blockIsBytes (snapshot s room) = true
 blockIsBytes (tryOrder s m w room) = true
 
 unfoldable pub blocksAreBytes : List Call → Bool

@@ -2,7 +2,7 @@
 -- Assumes nothing.
 use Prim.Native.Nat.{ℕ}
 use mathlib.Core.List.{List, [], _∷_}
-use Rattle.calls.specs.Call.{Call, make, add, openLine, startDay, endDay, take, read, protected, convertLen, convert, tryOrder}
+use Rattle.calls.specs.Call.{Call, make, add, openLine, startDay, endDay, take, read, protected, convertLen, convert, snapshotLen, snapshot, tryOrder}
 
 abbrev pub numbersOf : Call → List ℕ
 numbersOf (make n) = 0 ∷ 2 ∷ []
@@ -15,6 +15,8 @@ numbersOf (read s room) = 0 ∷ 1 ∷ 9 ∷ 10 ∷ []
 numbersOf (protected s m x) = 0 ∷ 1 ∷ 10 ∷ 74 ∷ []
 numbersOf (convertLen v) = 0 ∷ 1 ∷ 78 ∷ 79 ∷ []
 numbersOf (convert v room) = 0 ∷ 1 ∷ 78 ∷ 79 ∷ 80 ∷ []
+numbersOf (snapshotLen s) = 0 ∷ 1 ∷ 10 ∷ []
+numbersOf (snapshot s room) = 0 ∷ 1 ∷ 10 ∷ 81 ∷ []
 numbersOf (tryOrder s m w room) = 0 ∷ 1 ∷ 10 ∷ 74 ∷ 82 ∷ 83 ∷ []
 
 abbrev pub codes : List ℕ

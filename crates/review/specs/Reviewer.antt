@@ -25,7 +25,7 @@ use Rattle.message.specs.Message.{roundLength, kindOf, symbolOf, roundLotOdd, o
 use Rattle.opening.specs.declared.Line.{Line}
 use Rattle.opening.specs.Opening.{Rest}
 use Rattle.line.specs.Line.{done, advanced}
-use Rattle.calls.specs.Call.{Call, make, add, openLine, startDay, endDay, take, read, protected, convertLen, convert, tryOrder, numberOf, letterOf, Answer, answerOf}
+use Rattle.calls.specs.Call.{Call, make, add, openLine, startDay, endDay, take, read, protected, convertLen, convert, snapshotLen, snapshot, tryOrder, numberOf, letterOf, Answer, answerOf}
 use Rattle.work.specs.Work.{Listed, isListed, lotOf, primaryOf, flagsOf}
 use Rattle.told.specs.declared.Told.{Told}
 use Rattle.review.specs.Runs.{latest}
@@ -197,6 +197,8 @@ restAfter r (read s room) = r
 restAfter r (protected s m x) = r
 restAfter r (convertLen v) = r
 restAfter r (convert v room) = r
+restAfter r (snapshotLen s) = r
+restAfter r (snapshot s room) = r
 restAfter r (tryOrder s m w room) = r
 
 unfoldable pub symbolsAfter : List Listed → Call → List Listed
@@ -210,6 +212,8 @@ symbolsAfter ls (read s room) = ls
 symbolsAfter ls (protected s m x) = ls
 symbolsAfter ls (convertLen v) = ls
 symbolsAfter ls (convert v room) = ls
+symbolsAfter ls (snapshotLen s) = ls
+symbolsAfter ls (snapshot s room) = ls
 symbolsAfter ls (tryOrder s m w room) = ls
 
 -- "make and Start of Day with 0 empty the history"; "Nothing else alters the history"
@@ -224,6 +228,8 @@ historyAfter r ls h (read s room) = h
 historyAfter r ls h (protected s m x) = h
 historyAfter r ls h (convertLen v) = h
 historyAfter r ls h (convert v room) = h
+historyAfter r ls h (snapshotLen s) = h
+historyAfter r ls h (snapshot s room) = h
 historyAfter r ls h (tryOrder s m w room) = h
 
 -- "a refused call alters nothing"
@@ -239,7 +245,7 @@ reviewCall v c =
 
 unfoldable pub reviewAnswer : Review → Call → Answer
 reviewAnswer v c =
-    answerOf (v .rest) (v .symbols) (toldR (v .symbols) (v .history)) (reviewed (v .history)) (candidatesR (v .history)) (numberOf (v .rest) (v .symbols) c) c
+    answerOf (v .rest) (v .symbols) (toldR (v .symbols) (v .history)) (reviewed (v .history)) (candidatesR (v .history)) (quoteOf (parts (v .history))) (numberOf (v .rest) (v .symbols) c) c
 
 -- "It starts with the make that gave the fresh book"
 abbrev pub freshReview : ℕ → Review
