@@ -30,6 +30,7 @@ enum {
     QB_SYMBOL_LEN = 11,
     QB_BLOCK_MAX = 1000,     /* no block is longer */
     QB_RUN_MAX = 3600,       /* no run of blocks that a venue's block is converted to is longer */
+    QB_SNAPSHOT_MAX = 1706,  /* enough for any symbol's snapshot: 24 letters, two blocks */
     QB_ANSWER_LEN = 180,     /* at least: 4 bytes for each of up to 45 messages */
     QB_PUBLICATION_LEN = 96, /* at least: six entries */
     QB_ENTRY_LEN = 16,
@@ -49,7 +50,7 @@ enum {
     QB_LINE_OR_LETTER = 7,      /* open: the line is above 63, or the letter is not A to Z without S */
     QB_LINE_OPEN = 8,           /* open: the line is already open */
     QB_BUFFER_SHORT = 9,        /* block: the answer buffer is under 180 bytes; read: the publication buffer under 96 */
-    QB_SYMBOL_UNKNOWN = 10,     /* read, is protected, try: the symbol is malformed or not listed */
+    QB_SYMBOL_UNKNOWN = 10,     /* read, is protected, snapshot, try: the symbol is malformed or not listed */
     QB_DAY_OPEN = 11,           /* start: the day is already open */
     QB_DAY_NOT_OPEN = 12,       /* end: the day is not open */
     QB_BLOCK_WHILE_CLOSED = 20, /* block: the day is not open */
@@ -69,6 +70,7 @@ enum {
     QB_VENUE_BLOCK = 78,        /* convert: the block breaks a rule of the venues' form */
     QB_VENUE_UNPLACED = 79,     /* convert: a type, letter or condition without a place here, or a message too long for one block */
     QB_CONVERT_SHORT = 80,      /* convert: the output is shorter than the run */
+    QB_SNAPSHOT_SHORT = 81,     /* snapshot: the output is shorter than the snapshot */
     QB_LOTS = 82,               /* try: the lots are not 1 to 1,000,000 */
     QB_STEPS_SHORT = 83         /* try: the output is under 325 bytes */
 };
@@ -123,6 +125,13 @@ enum {
     QB_PROTECTED_YES = 1,    /* 1 for yes, 0 for no */
     QB_PROTECTED_LOOKED = 2, /* letters looked at: the place of the first that answers yes, A being 1, or 26 for no */
     QB_PROTECTED_LEN = 3
+};
+
+/* Places in the size of a snapshot. */
+enum {
+    QB_SIZE_BLOCKS = 0,
+    QB_SIZE_BYTES = 1,
+    QB_SIZE_LEN = 2
 };
 
 /* Places in the report of an order that is tried. */
@@ -193,6 +202,18 @@ uint8_t qb_convert_len(const uint8_t *book, size_t len, const uint8_t *block, si
  * report: number, bytes written (0 after a refusal); always filled. */
 uint8_t qb_convert(const uint8_t *book, size_t len, const uint8_t *block, size_t block_len,
                    uint8_t *output, size_t output_len, uint64_t report[2]);
+
+/* Tells how many blocks and bytes a symbol's snapshot has now, without writing it. Answers 0, 1, 10.
+ * size: blocks, bytes; always filled, with 0 and 0 after a refusal. The book isn't changed; no day need be open. */
+uint8_t qb_snapshot_len(const uint8_t *book, size_t len, const uint8_t *symbol, size_t symbol_len, uint64_t size[2]);
+
+/* Writes a symbol's snapshot for subscribers that recover from a failure: its national and FINRA best and each letter's latest quote, as
+ * blocks of the CQS Pillar Snapshot Specification (source document 002), end to end; a block's length is in its bytes 1 and 2. Answers 0, 1,
+ * 10, 81.
+ * output: QB_SNAPSHOT_MAX bytes always suffice; the bytes behind those written stay.
+ * size: blocks, bytes written; always filled, with 0 and 0 after a refusal. The book isn't changed; no day need be open. */
+uint8_t qb_snapshot(const uint8_t *book, size_t len, const uint8_t *symbol, size_t symbol_len,
+                    uint8_t *output, size_t output_len, uint64_t size[2]);
 
 /* Plays an order of 1 to 1,000,000 round lots: side B buys at the offers, S sells at the bids. Each step takes from the best exchange not
  * yet used, in the order of the national best, as many lots as are wanted and shown; D stands with its FINRA best. A halted symbol

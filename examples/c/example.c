@@ -1,5 +1,6 @@
 /* One quote of the New York Stock Exchange becomes a block, the block goes into a book, and the best prices come out; then a desk asks
- * whether prices are protected, a router tries an order, and the exchange halts the symbol. `tests/c-example` builds and runs it. */
+ * whether prices are protected, a router tries an order, a snapshot is written for subscribers, and the exchange halts the symbol.
+ * `tests/c-example` builds and runs it. */
 #include <stdio.h>
 #include <stdlib.h>
 #include <string.h>
@@ -39,8 +40,9 @@ static void status_message(uint8_t message[32], char status) {
 int main(void) {
     static const uint8_t zt[] = "ZT         ";
     uint8_t quote[60], status[32], block[QB_BLOCK_MAX], answer[QB_ANSWER_LEN], publication[QB_PUBLICATION_LEN], steps[QB_STEPS_LEN];
+    uint8_t snapshot[QB_SNAPSHOT_MAX];
     const uint32_t lengths[] = {sizeof quote}, halt[] = {sizeof status};    /* one for each message */
-    uint64_t written[2], report[QB_REPORT_LEN], told[QB_PROTECTED_LEN], tried[QB_TRIED_LEN];
+    uint64_t written[2], report[QB_REPORT_LEN], told[QB_PROTECTED_LEN], tried[QB_TRIED_LEN], size[QB_SIZE_LEN];
     size_t len = (size_t)qb_book_len(1);
     uint8_t *book = (uint8_t *)malloc(len);
     if (!book || qb_make(book, len, 1) || qb_add_symbol(book, len, zt, QB_SYMBOL_LEN, 100, 'N') /* N may halt it */
@@ -68,6 +70,10 @@ int main(void) {
     for (const uint8_t *step = steps; step < steps + QB_STEP_LEN * tried[QB_TRIED_STEPS]; step += QB_STEP_LEN)
         printf("buy: %c %.2f for %d\n", step[QB_STEP_LETTER], (double)get(step + QB_STEP_PRICE, 8) / 1e6, (int)get(step + QB_STEP_LOTS, 4));
     printf("lots not found: %d\n", (int)tried[QB_TRIED_UNFILLED]);
+
+    if (qb_snapshot(book, len, zt, QB_SYMBOL_LEN, snapshot, sizeof snapshot, size)) return 1; /* ZT as it stands, for subscribers */
+    for (const uint8_t *sent = snapshot; sent < snapshot + size[QB_SIZE_BYTES]; sent += get(sent + 1, 2))
+        printf("snapshot: a block of %d bytes, messages %d\n", (int)get(sent + 1, 2), sent[7]);
 
     status_message(status, 'H');                                            /* its primary exchange halts ZT */
     if (qb_write_block(status, sizeof status, halt, 1, 2, block, sizeof block, written)

@@ -1,7 +1,7 @@
 //! The proved library on lent memory, under the calls that all books here have.
 
 use quotebook::lent;
-use second::{Converted, Protected, QuoteBook, Report, Tried};
+use second::{Converted, Protected, QuoteBook, Report, SnapshotSize, Tried};
 
 /// A book of the library and the memory that is lent to its calls.
 pub struct Library {
@@ -62,6 +62,26 @@ impl QuoteBook for Library {
 
     fn read(&self, symbol: &[u8], publication: &mut [u8]) -> u8 {
         lent::read(&self.memory, symbol, publication).into()
+    }
+
+    #[inline]
+    fn snapshot_len(&self, symbol: &[u8]) -> SnapshotSize {
+        let told = lent::snapshot_len(&self.memory, symbol);
+        SnapshotSize {
+            number: told.number.into(),
+            blocks: told.blocks,
+            bytes: told.bytes,
+        }
+    }
+
+    #[inline]
+    fn snapshot(&self, symbol: &[u8], output: &mut [u8]) -> SnapshotSize {
+        let told = lent::snapshot(&self.memory, symbol, output);
+        SnapshotSize {
+            number: told.number.into(),
+            blocks: told.blocks,
+            bytes: told.bytes,
+        }
     }
 
     #[inline]

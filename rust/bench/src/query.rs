@@ -1,11 +1,12 @@
 //! What a query about a protected price costs, by the letter that answers, and an order, by its steps,
-//! beside a read.
+//! beside a read and a snapshot.
 
 use std::hint::black_box;
 use std::time::Instant;
 
 use crate::library::Library;
 use second::build::{self, Odd, Round};
+use second::terms::SNAPSHOT_MAX;
 use second::{Engine, QuoteBook};
 
 /// What is asked: a name, the price in cents above 10.00, and the letters that are looked at.
@@ -134,8 +135,25 @@ pub fn print(rounds: usize) {
                 assert_eq!(book.read(&symbols[call], black_box(&mut publication)), 0);
             })
         };
-        let (library, engine) = (read(&library), read(&engine));
-        println!("| a read, 96 bytes | {n} | {library:.0} | | {engine:.0} |");
+        let (of_library, of_engine) = (read(&library), read(&engine));
+        println!("| a read, 96 bytes | {n} | {of_library:.0} | | {of_engine:.0} |");
+        let size = |book: &dyn QuoteBook| {
+            fastest(rounds, |call| {
+                let told = black_box(book.snapshot_len(&symbols[call]));
+                assert_eq!((told.blocks, told.bytes), (2, SNAPSHOT_MAX));
+            })
+        };
+        let (of_library, of_engine) = (size(&library), size(&engine));
+        println!("| a snapshot's length | {n} | {of_library:.0} | | {of_engine:.0} |");
+        let mut output = [0; SNAPSHOT_MAX];
+        let mut write = |book: &dyn QuoteBook| {
+            fastest(rounds, |call| {
+                let told = book.snapshot(&symbols[call], black_box(&mut output));
+                assert_eq!(told.bytes, SNAPSHOT_MAX);
+            })
+        };
+        let (of_library, of_engine) = (write(&library), write(&engine));
+        println!("| a snapshot, {SNAPSHOT_MAX} bytes | {n} | {of_library:.0} | | {of_engine:.0} |");
     }
 }
 

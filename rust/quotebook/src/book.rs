@@ -11,6 +11,7 @@ use crate::protection::{Protection, Side};
 use crate::publication::Publication;
 use crate::report::Taken;
 use crate::run::Run;
+use crate::snapshot::SNAPSHOT_MAX;
 
 /// A quote book for up to 64 symbols.
 ///
@@ -109,6 +110,17 @@ impl Book {
         Ok(Run {
             bytes: output[..converted.len].to_vec(),
         })
+    }
+
+    /// Writes a symbol's snapshot for subscribers: its national and FINRA best and each letter's latest
+    /// quote, in one or two blocks that [`snapshot::blocks`](crate::snapshot::blocks) cuts apart. A day
+    /// need not be open.
+    pub fn snapshot(&self, symbol: impl AsRef<[u8]>) -> Result<Vec<u8>, Refusal> {
+        let mut output = vec![0; SNAPSHOT_MAX];
+        let size = lent::snapshot(&self.memory, &symbol_bytes(symbol), &mut output);
+        size.number.result()?;
+        output.truncate(size.bytes);
+        Ok(output)
     }
 
     /// Tries an order of 1 to 1,000,000 round lots: what it would take, step by step, at the offers or at

@@ -48,6 +48,22 @@ mod c {
             block_len: usize,
             report: *mut u64,
         ) -> u8;
+        pub fn qb_snapshot_len(
+            book: *const u8,
+            len: usize,
+            symbol: *const u8,
+            symbol_len: usize,
+            size: *mut u64,
+        ) -> u8;
+        pub fn qb_snapshot(
+            book: *const u8,
+            len: usize,
+            symbol: *const u8,
+            symbol_len: usize,
+            output: *mut u8,
+            output_len: usize,
+            size: *mut u64,
+        ) -> u8;
         pub fn qb_is_protected(
             book: *const u8,
             len: usize,
@@ -233,6 +249,36 @@ pub fn convert(book: &[u8], block: &[u8], output: &mut [u8], report: &mut [u64; 
             output.as_mut_ptr(),
             output.len(),
             report.as_mut_ptr(),
+        )
+    }
+}
+
+pub fn snapshot_len(book: &[u8], symbol: &[u8], size: &mut [u64; 2]) -> u8 {
+    // SAFETY: each pointer and its length are one slice's; the size has its two numbers; book and
+    // symbol are only read.
+    unsafe {
+        c::qb_snapshot_len(
+            book.as_ptr(),
+            book.len(),
+            symbol.as_ptr(),
+            symbol.len(),
+            size.as_mut_ptr(),
+        )
+    }
+}
+
+pub fn snapshot(book: &[u8], symbol: &[u8], output: &mut [u8], size: &mut [u64; 2]) -> u8 {
+    // SAFETY: each pointer and its length are one slice's; the size has its two numbers; book and
+    // symbol are only read, and the output is lent to nobody else.
+    unsafe {
+        c::qb_snapshot(
+            book.as_ptr(),
+            book.len(),
+            symbol.as_ptr(),
+            symbol.len(),
+            output.as_mut_ptr(),
+            output.len(),
+            size.as_mut_ptr(),
         )
     }
 }

@@ -10,6 +10,7 @@ use crate::order::Tried;
 use crate::protection::Protected;
 use crate::report::Report;
 use crate::run::Converted;
+use crate::snapshot::SnapshotSize;
 use crate::writer::Written;
 
 /// The length of the longest block.
@@ -100,6 +101,21 @@ pub fn convert(book: &[u8], block: &[u8], output: &mut [u8]) -> Converted {
     let mut fields = [0; 2];
     let answered = ffi::convert(book, block, output, &mut fields);
     Converted::from_fields(number(answered), fields)
+}
+
+/// Tells how many blocks and bytes a symbol's snapshot has.
+pub fn snapshot_len(book: &[u8], symbol: &[u8]) -> SnapshotSize {
+    let mut fields = [0; 2];
+    let answered = ffi::snapshot_len(book, symbol, &mut fields);
+    SnapshotSize::from_fields(number(answered), fields)
+}
+
+/// Writes a symbol's snapshot at the output's front; [`SNAPSHOT_MAX`](crate::snapshot::SNAPSHOT_MAX)
+/// bytes always suffice.
+pub fn snapshot(book: &[u8], symbol: &[u8], output: &mut [u8]) -> SnapshotSize {
+    let mut fields = [0; 2];
+    let answered = ffi::snapshot(book, symbol, output, &mut fields);
+    SnapshotSize::from_fields(number(answered), fields)
 }
 
 /// Plays an order of so many round lots, which buys at the offers (side mark B) or sells at the bids
@@ -204,6 +220,36 @@ mod tests {
         }
         assert_eq!(filled(&book, &block, Some(71)), [80, 0]);
         assert_eq!(filled(&[], &[], Some(0)), [1, 0]);
+    }
+
+    /// The calls about a snapshot write both numbers, whatever they were.
+    #[test]
+    fn a_snapshots_size_is_filled() {
+        let mut book = vec![0; book_len(1).expect("one symbol")];
+        assert_eq!(make(&mut book, 1), Number::Done);
+        let zt = b"ZT         ";
+        assert_eq!(add_symbol(&mut book, zt, 100, b'N'), Number::Done);
+        let told = |book: &[u8], symbol: &[u8]| {
+            let mut fields = [u64::MAX; 2];
+            (ffi::snapshot_len(book, symbol, &mut fields), fields)
+        };
+        assert_eq!(told(&book, zt), (0, [1, 194]));
+        assert_eq!(told(&book, b"ZT"), (10, [0, 0]));
+        assert_eq!(told(&book[1..], zt), (1, [0, 0]));
+        assert_eq!(told(&[], &[]), (1, [0, 0]));
+        let written = |book: &[u8], symbol: &[u8], room| {
+            let mut fields = [u64::MAX; 2];
+            let mut output = vec![0; room];
+            (
+                ffi::snapshot(book, symbol, &mut output, &mut fields),
+                fields,
+            )
+        };
+        assert_eq!(written(&book, zt, 194), (0, [1, 194]));
+        assert_eq!(written(&book, zt, 193), (81, [0, 0]));
+        assert_eq!(written(&book, zt, 0), (81, [0, 0]));
+        assert_eq!(written(&book, b"ZT", 0), (10, [0, 0]));
+        assert_eq!(written(&[], &[], 0), (1, [0, 0]));
     }
 
     /// Trying an order writes its three numbers, whatever they were, and its result is the first.

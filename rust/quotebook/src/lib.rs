@@ -51,6 +51,7 @@ mod protection;
 mod publication;
 mod report;
 mod run;
+pub mod snapshot;
 mod table;
 mod writer;
 

@@ -38,6 +38,7 @@ table! {
     78 VenueBlock "The venue's block breaks a rule of its form.";
     79 VenueUnplaced "A message of the venue's block has no place here: its type, letter, condition or length.";
     80 ConvertShort "The output is shorter than the run to write.";
+    81 SnapshotShort "The output is shorter than the snapshot.";
     82 Lots "The lots are not 1 to 1,000,000.";
     83 StepsShort "The output is under 325 bytes.";
 }

@@ -85,7 +85,7 @@ impl Entry {
     /// None is four spaces and zeros.
     const NONE: [u8; ENTRY_LEN] = *b"    \0\0\0\0\0\0\0\0\0\0\0\0";
 
-    fn from_bytes(bytes: &[u8; ENTRY_LEN]) -> Option<Entry> {
+    pub(crate) fn from_bytes(bytes: &[u8; ENTRY_LEN]) -> Option<Entry> {
         if *bytes == Entry::NONE {
             return None;
         }
@@ -100,7 +100,7 @@ impl Entry {
     }
 
     /// A national name is the letter, the condition, what put it ahead and a space.
-    fn into_national(self) -> Entry {
+    pub(crate) fn into_national(self) -> Entry {
         let Name([letter, condition, reason, _]) = self.name;
         Entry {
             name: Name([letter, b' ', b' ', b' ']),

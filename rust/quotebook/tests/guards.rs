@@ -83,6 +83,17 @@ fn a_byte_at_a_conversion() {
 }
 
 #[test]
+fn a_byte_at_a_snapshot() {
+    let mut book = book();
+    let zt = build::symbol("ZT");
+    assert_eq!(book.snapshot_len(&zt).number, 0);
+    assert_eq!(book.snapshot(&zt, &mut [0; 2000]).number, 0);
+    book.plant(page(0).start + 12);
+    assert_eq!(book.snapshot_len(&zt).number, broken::BEYOND);
+    assert_eq!(book.snapshot(&zt, &mut [0; 2000]).number, broken::BEYOND);
+}
+
+#[test]
 fn a_byte_at_an_order() {
     let mut book = book();
     let zt = build::symbol("ZT");

@@ -29,6 +29,8 @@ mod operator;
 mod orders;
 #[path = "../../second/tests/hand/protection.rs"]
 mod protection;
+#[path = "../../second/tests/hand/snapshots.rs"]
+mod snapshots;
 #[path = "../../second/tests/hand/times.rs"]
 mod times;
 

@@ -8,7 +8,7 @@ mod support;
 use std::collections::BTreeMap;
 
 use second::generate::{self, Random};
-use second::{build, Call, Converted, Protected, QuoteBook, Report, Tried};
+use second::{build, Call, Converted, Protected, QuoteBook, Report, SnapshotSize, Tried};
 use support::damage::{damage, overwrite, Wrong};
 use support::foretold::{self, ensure, Left, NUMBERS};
 use support::guarded::{Fenced, Guarded};
@@ -91,7 +91,7 @@ fn used(seed: u64) -> (Vec<u8>, Vec<Call>) {
     let after = list.calls.split_off(USING);
     let mut book = Guarded::fresh(list.n);
     for call in &list.calls {
-        make_call(&mut book, call, &mut [0; 256]);
+        make_call(&mut book, call, &mut [0; 2048]);
     }
     (book.bytes().to_vec(), after)
 }
@@ -112,6 +112,8 @@ fn fit(random: &mut Random, call: &Call, memory: &[u8]) -> Call {
     match &mut call {
         Call::Read { symbol, .. }
         | Call::AddSymbol { symbol, .. }
+        | Call::SnapshotLen { symbol }
+        | Call::Snapshot { symbol, .. }
         | Call::TryOrder { symbol, .. } => {
             *symbol = memory[of_page].to_vec();
         }
@@ -143,6 +145,7 @@ struct Told {
     report: Report,
     asked: Option<Protected>,
     converted: Option<Converted>,
+    size: Option<SnapshotSize>,
     tried: Option<Tried>,
 }
 
@@ -182,6 +185,8 @@ fn make_call(book: &mut Guarded, call: &Call, buffer: &mut [u8]) -> Told {
             told.converted = Some(converted);
             converted.number
         }
+        Call::SnapshotLen { symbol } => told.size.insert(book.snapshot_len(symbol)).number,
+        Call::Snapshot { symbol, .. } => told.size.insert(book.snapshot(symbol, buffer)).number,
         Call::TryOrder {
             symbol, side, lots, ..
         } => {
@@ -211,6 +216,7 @@ fn check_call(memory: &mut Vec<u8>, call: &Call) -> Result<Checked, String> {
             publication_len, ..
         } => *publication_len,
         Call::Convert { output_len, .. } => *output_len,
+        Call::Snapshot { output_len, .. } => *output_len,
         Call::TryOrder { steps_len, .. } => *steps_len,
         _ => 0,
     };
@@ -221,6 +227,7 @@ fn check_call(memory: &mut Vec<u8>, call: &Call) -> Result<Checked, String> {
         report,
         asked,
         converted,
+        size,
         tried,
     } = make_call(&mut book, call, buffer.bytes_mut());
 
@@ -236,6 +243,8 @@ fn check_call(memory: &mut Vec<u8>, call: &Call) -> Result<Checked, String> {
     let expected = foretold::converted(memory, call).map(|(told, _)| told);
     let right = converted == expected;
     ensure(right, format!("{converted:?}, not {expected:?}"))?;
+    let expected = foretold::snapshot_size(memory, call, number);
+    ensure(size == expected, format!("{size:?}, not {expected:?}"))?;
     let expected = foretold::tried(memory, call, number).map(|(told, _)| told);
     ensure(tried == expected, format!("{tried:?}, not {expected:?}"))?;
     ensure(buffer.stands(), "a byte around the buffer was written")?;

@@ -4,6 +4,7 @@
 use std::collections::HashSet;
 
 use quotebook::lent::{self, PUBLICATION_LEN, RUN_MAX, STEPS_LEN};
+use quotebook::snapshot::SNAPSHOT_MAX;
 use quotebook::{
     Answer, Book, Code, Number, Order, Price, Protection, Publication, Reason, Refusal, Side, Step,
     Trial,
@@ -18,7 +19,7 @@ fn numbers_and_codes_are_those_of_the_documents() {
         .collect();
     let mut expected: Vec<u8> = (0..=12).collect();
     expected.extend([
-        20, 21, 30, 31, 32, 33, 34, 35, 70, 71, 72, 73, 74, 75, 78, 79, 80, 82, 83,
+        20, 21, 30, 31, 32, 33, 34, 35, 70, 71, 72, 73, 74, 75, 78, 79, 80, 81, 82, 83,
     ]);
     assert_eq!(numbers, expected);
     let codes: Vec<u8> = (0..=255)
@@ -418,6 +419,18 @@ fn a_book_and_lent_memory_agree() {
                         assert_eq!(read, Publication::from_bytes(&publication));
                     }
                     (read.map(|_| ()), lent)
+                }
+                // The length has no method of its own.
+                Call::SnapshotLen { symbol } | Call::Snapshot { symbol, .. } => {
+                    let symbol = filled_up(symbol);
+                    let mut output = [0; SNAPSHOT_MAX];
+                    let lent = lent::snapshot(&memory, &symbol, &mut output);
+                    assert_eq!(lent::snapshot_len(&memory, &symbol), lent);
+                    let written = book.snapshot(symbol);
+                    if let Ok(written) = &written {
+                        assert_eq!(written, &output[..lent.bytes]);
+                    }
+                    (written.map(|_| ()), lent.number)
                 }
                 // A mark that is none has no method.
                 Call::IsProtected { side, .. } if !b"BS".contains(side) => continue,

@@ -4,8 +4,8 @@
 //! usage: definitions FIRST_SEED LISTS CALLS SYMBOLS MESSAGES each|end
 //!
 //! Writes a line for each list: its seed, n, the calls, and their answers, with tabs between. An
-//! answer is the seven numbers of a report, the bytes that the call fills, and the two numbers of a
-//! query, left out where both are 0. Only lists of a book of
+//! answer is the seven numbers of a report, the two numbers of a query, an order or a snapshot, left
+//! out where both are 0, and the bytes that the call fills. Only lists of a book of
 //! at most SYMBOLS symbols and with at most MESSAGES messages in taken blocks are written. Behind
 //! each block that is taken, or behind the last call alone, every symbol that the list adds is read.
 //! What the lists reach is told on standard error.
@@ -13,7 +13,7 @@
 use second::compare::{lent_part, observe, Observed};
 use second::coverage::Coverage;
 use second::terms::{PUBLICATION_LEN, STEP_LEN};
-use second::{generate, Call, List, Protected, QuoteBook, Report, Reviewer, Tried};
+use second::{generate, Call, List, Protected, QuoteBook, Report, Reviewer, SnapshotSize, Tried};
 
 fn word(at: usize) -> String {
     let usage = "usage: definitions FIRST_SEED LISTS CALLS SYMBOLS MESSAGES each|end";
@@ -90,8 +90,8 @@ fn messages_of(observed: &Observed) -> usize {
     (report.accepted + report.partly + report.rejected) as usize
 }
 
-/// The seven numbers of an answer, then the answers or the publication that the call filled, the numbers of
-/// a query, and the steps of an order.
+/// The seven numbers of an answer, then the numbers of a query, an order or a snapshot, and the bytes that
+/// the call filled.
 fn told(observed: &Observed) -> Vec<u64> {
     let bare = Report {
         number: observed.number,
@@ -102,6 +102,10 @@ fn told(observed: &Observed) -> Vec<u64> {
         None if observed.tried.is_some() => {
             STEP_LEN * observed.tried.map_or(0, |told| told.steps.into())
         }
+        // The call that tells the length lends no buffer.
+        None if observed.snapshot.is_some() && !observed.buffer.is_empty() => {
+            observed.snapshot.map_or(0, |told| told.bytes)
+        }
         None if observed.number == 0 && !observed.buffer.is_empty() => PUBLICATION_LEN,
         None => 0,
     };
@@ -109,6 +113,11 @@ fn told(observed: &Observed) -> Vec<u64> {
     if let Some(Protected { yes, looked, .. }) = observed.protected {
         if yes || looked > 0 {
             told.extend([u64::from(yes), u64::from(looked)]);
+        }
+    }
+    if let Some(SnapshotSize { blocks, bytes, .. }) = observed.snapshot {
+        if blocks > 0 {
+            told.extend([blocks as u64, bytes as u64]);
         }
     }
     if let Some(Tried {
@@ -152,6 +161,10 @@ fn term(call: &Call) -> String {
             price,
         } => format!("protected {} {side} {price}", row(symbol)),
         Call::ConvertLen { .. } | Call::Convert { .. } => unreachable!("conversions are left out"),
+        Call::SnapshotLen { symbol } => format!("snapshotLen {}", row(symbol)),
+        Call::Snapshot { symbol, output_len } => {
+            format!("snapshot {} {output_len}", row(symbol))
+        }
         Call::TryOrder {
             symbol,
             side,

@@ -68,6 +68,18 @@ pub enum Call {
         /// The length of the output.
         output_len: usize,
     },
+    /// Tell the blocks and bytes of a symbol's snapshot.
+    SnapshotLen {
+        /// The symbol, of any length.
+        symbol: Vec<u8>,
+    },
+    /// Write a symbol's snapshot.
+    Snapshot {
+        /// The symbol, of any length.
+        symbol: Vec<u8>,
+        /// The length of the output.
+        output_len: usize,
+    },
     /// Try an order.
     TryOrder {
         /// The symbol, of any length.
@@ -132,6 +144,10 @@ impl Display for Call {
             Call::ConvertLen { block } => write!(f, "convert_len {}", Hex(block)),
             Call::Convert { block, output_len } => {
                 write!(f, "convert {} {output_len}", Hex(block))
+            }
+            Call::SnapshotLen { symbol } => write!(f, "snapshot-len {}", Hex(symbol)),
+            Call::Snapshot { symbol, output_len } => {
+                write!(f, "snapshot {} {output_len}", Hex(symbol))
             }
             Call::TryOrder {
                 symbol,
@@ -207,6 +223,13 @@ fn parse_call(words: &[&str]) -> Option<Call> {
         },
         ["convert", block, output_len] => Call::Convert {
             block: bytes(block)?,
+            output_len: output_len.parse().ok()?,
+        },
+        ["snapshot-len", symbol] => Call::SnapshotLen {
+            symbol: bytes(symbol)?,
+        },
+        ["snapshot", symbol, output_len] => Call::Snapshot {
+            symbol: bytes(symbol)?,
             output_len: output_len.parse().ok()?,
         },
         ["order", symbol, side, lots, steps_len] => Call::TryOrder {

@@ -3,7 +3,7 @@
 use std::fmt::{self, Display, Formatter};
 
 use crate::call::{Call, List};
-use crate::quote_book::{Protected, QuoteBook, Report, Tried};
+use crate::quote_book::{Protected, QuoteBook, Report, SnapshotSize, Tried};
 use crate::terms::{ANSWER_LEN, PUBLICATION_LEN};
 use crate::venue::Converted;
 
@@ -21,6 +21,8 @@ pub struct Observed {
     pub protected: Option<Protected>,
     /// What a conversion, or the question for its length, answers.
     pub converted: Option<Converted>,
+    /// What the calls of T-12 report.
+    pub snapshot: Option<SnapshotSize>,
     /// What trying an order reports.
     pub tried: Option<Tried>,
     /// Every byte of the buffer lent to the call, and of the guards around it.
@@ -82,6 +84,7 @@ fn observe_call(book: &mut dyn QuoteBook, call: &Call, watched: &Watched) -> Obs
     let mut report = None;
     let mut protected = None;
     let mut converted = None;
+    let mut snapshot = None;
     let mut tried = None;
     let mut buffer = Vec::new();
     let number = match call {
@@ -131,6 +134,17 @@ fn observe_call(book: &mut dyn QuoteBook, call: &Call, watched: &Watched) -> Obs
             converted = Some(told);
             told.number
         }
+        Call::SnapshotLen { symbol } => {
+            let size = book.snapshot_len(symbol);
+            snapshot = Some(size);
+            size.number
+        }
+        Call::Snapshot { symbol, output_len } => {
+            buffer = patterned(*output_len);
+            let size = book.snapshot(symbol, lent(&mut buffer));
+            snapshot = Some(size);
+            size.number
+        }
         Call::TryOrder {
             symbol,
             side,
@@ -158,6 +172,7 @@ fn observe_call(book: &mut dyn QuoteBook, call: &Call, watched: &Watched) -> Obs
         report,
         protected,
         converted,
+        snapshot,
         tried,
         buffer,
         publications,
@@ -231,6 +246,10 @@ impl Display for Difference {
                 f,
                 "the conversion answers {answer:?}, expected {expected:?}"
             )?;
+        }
+        if observed.snapshot != expected.snapshot {
+            let (size, expected) = (observed.snapshot, expected.snapshot);
+            writeln!(f, "the snapshot is {size:?}, expected {expected:?}")?;
         }
         if observed.tried != expected.tried {
             let (told, expected) = (observed.tried, expected.tried);

@@ -1,5 +1,5 @@
 //! Counting which numbers, codes, flags, answers to queries, orders, cases of resent quotes, of closed
-//! venues, of leaders and of halts a run of lists has reached.
+//! venues, of leaders, of halts and of snapshots a run of lists has reached.
 
 mod closed;
 mod finra;
@@ -7,6 +7,7 @@ mod halts;
 mod leading;
 mod prices;
 mod resent;
+mod snapshots;
 
 use std::collections::BTreeMap;
 use std::fmt::{self, Display, Formatter};
@@ -22,9 +23,10 @@ use finra::Finra;
 use halts::Halts;
 use leading::Leading;
 use resent::Resent;
+use snapshots::Snapshots;
 
 /// The numbers that each call can answer in a list.
-const NUMBERS: [(&str, &[u8]); 11] = [
+const NUMBERS: [(&str, &[u8]); 13] = [
     ("make", &[0, 2]),
     ("add", &[0, 3, 4, 5, 6, 75]),
     ("open", &[0, 7, 8]),
@@ -35,22 +37,32 @@ const NUMBERS: [(&str, &[u8]); 11] = [
     ("protected", &[0, 10, 74]),
     ("convert_len", &[0, 78, 79]),
     ("convert", &[0, 78, 79, 80]),
+    ("snapshot-len", &[0, 10]),
+    ("snapshot", &[0, 10, 81]),
     ("order", &[0, 10, 74, 82, 83]),
 ];
 
-/// How many letters a query can look at before it answers yes: the positions of the letters that
-/// the lists' lines have, D among them.
+/// How many letters a query must have looked at before it answered yes: the positions of the letters
+/// that the lines of most lists have, D among them.
 const LOOKED: &[u8] = &[1, 2, 3, 4, 5, 14, 16, 17, 26];
 
-/// What queries can answer: how many letters are looked at; about a price of 0, yes or no.
-const ANSWERS: [(&str, &[u8]); 6] = [
-    ("bids, yes", LOOKED),
-    ("bids, no", &[26]),
-    ("offers, yes", LOOKED),
-    ("offers, no", &[26]),
-    ("bids at 0", &[0, 1]),
-    ("offers at 0", &[0]),
+/// How many letters a query can look at before it answers yes: S, the nineteenth, has nothing.
+const ANY_LOOKED: &[u8] = &[
+    1, 2, 3, 4, 5, 6, 7, 8, 9, 10, 11, 12, 13, 14, 15, 16, 17, 18, 20, 21, 22, 23, 24, 25, 26,
 ];
+
+/// What queries must have answered, or can answer: how many letters are looked at; about a price of
+/// 0, yes or no.
+const fn answers(looked: &'static [u8]) -> [(&'static str, &'static [u8]); 6] {
+    [
+        ("bids, yes", looked),
+        ("bids, no", &[26]),
+        ("offers, yes", looked),
+        ("offers, no", &[26]),
+        ("bids at 0", &[0, 1]),
+        ("offers at 0", &[0]),
+    ]
+}
 
 /// How many blocks runs have in lists. Four are rare there; the worked cases have them.
 const RUNS: [(&str, &[u8]); 1] = [("convert", &[1, 2, 3])];
@@ -103,6 +115,7 @@ pub struct Coverage {
     orders: Counts,
     resent: Resent,
     closed: Closed,
+    snapshots: Snapshots,
     finra: Finra,
     leading: Leading,
     halts: Halts,
@@ -163,6 +176,10 @@ impl Coverage {
             let run = &lent_part(&observed.buffer)[..len];
             let blocks = venue::blocks(run).count() as u8;
             *self.runs.entry((name, blocks)).or_default() += 1;
+        }
+        if let (Call::Snapshot { .. }, Some(size)) = (call, observed.snapshot) {
+            self.snapshots
+                .note(&lent_part(&observed.buffer)[..size.bytes]);
         }
         let asked = (call, observed.protected);
         if let (
@@ -245,8 +262,9 @@ impl Coverage {
         missing.extend(missing_in("flag", &FLAGS, &self.flags));
         missing.extend(self.resent.missing());
         missing.extend(self.halts.missing());
-        missing.extend(missing_in("answer", &ANSWERS, &self.answers));
+        missing.extend(missing_in("answer", &answers(LOOKED), &self.answers));
         missing.extend(self.closed.missing());
+        missing.extend(self.snapshots.missing());
         missing.extend(self.finra.missing());
         missing.extend(self.leading.missing());
         missing.extend(missing_in("blocks in a run", &RUNS, &self.runs));
@@ -259,7 +277,7 @@ impl Coverage {
         let mut unforeseen = unforeseen_in("number", &NUMBERS, &self.numbers);
         unforeseen.extend(unforeseen_in("code", &CODES, &self.codes));
         unforeseen.extend(unforeseen_in("flag", &FLAGS, &self.flags));
-        unforeseen.extend(unforeseen_in("answer", &ANSWERS, &self.answers));
+        unforeseen.extend(unforeseen_in("answer", &answers(ANY_LOOKED), &self.answers));
         unforeseen
     }
 }
@@ -301,6 +319,8 @@ fn call_name(call: &Call) -> &'static str {
         Call::IsProtected { .. } => "protected",
         Call::ConvertLen { .. } => "convert_len",
         Call::Convert { .. } => "convert",
+        Call::SnapshotLen { .. } => "snapshot-len",
+        Call::Snapshot { .. } => "snapshot",
         Call::TryOrder { .. } => "order",
     }
 }
@@ -344,6 +364,7 @@ impl Display for Coverage {
             }
         }
         write!(f, "{}{}", self.resent, self.closed)?;
-        writeln!(f, "{}{}{}", self.finra, self.leading, self.halts)
+        write!(f, "{}{}", self.finra, self.leading)?;
+        writeln!(f, "{}{}", self.halts, self.snapshots)
     }
 }

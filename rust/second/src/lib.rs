@@ -6,6 +6,7 @@
 //! - [`Reviewer`] holds a history of accepted messages and works out every answer anew from it.
 //! - [`writer`] makes a block of messages.
 //! - [`venue`] makes a run of blocks of a venue's own block (source document 000).
+//! - [`snapshot`] is a subscriber of the snapshot feed: it reads back what the books write.
 //! - [`generate`] makes random lists of calls, [`compare`] runs a list on several books, [`shrink`]
 //!   makes a list short on which they differ, and [`coverage`] counts what the lists reach.
 //! - [`mixing`] gives the blocks of several lines to books in different orders (T-09).
@@ -26,12 +27,13 @@ pub mod mixing;
 pub mod quote_book;
 pub mod reviewer;
 pub mod shrink;
+pub mod snapshot;
 pub mod terms;
 pub mod venue;
 pub mod writer;
 
 pub use call::{Call, List};
 pub use engine::{Engine, Incremental};
-pub use quote_book::{Protected, QuoteBook, Report, Tried};
+pub use quote_book::{Protected, QuoteBook, Report, SnapshotSize, Tried};
 pub use reviewer::Reviewer;
 pub use venue::Converted;

@@ -102,6 +102,8 @@ pub fn make_calls(book: &mut dyn QuoteBook, calls: &[Call]) {
             | Call::IsProtected { .. }
             | Call::ConvertLen { .. }
             | Call::Convert { .. }
+            | Call::SnapshotLen { .. }
+            | Call::Snapshot { .. }
             | Call::TryOrder { .. } => {}
         }
     }

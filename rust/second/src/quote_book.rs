@@ -57,6 +57,28 @@ impl Protected {
     }
 }
 
+/// What the calls of T-12 report: how many blocks and bytes a symbol's snapshot has. A refusal
+/// carries its number, 0 and 0.
+#[derive(Clone, Copy, PartialEq, Eq, Debug, Default)]
+pub struct SnapshotSize {
+    /// 0, or the refusal.
+    pub number: u8,
+    /// The blocks.
+    pub blocks: usize,
+    /// The bytes of all blocks.
+    pub bytes: usize,
+}
+
+impl SnapshotSize {
+    /// A refused call.
+    pub fn refused(number: u8) -> SnapshotSize {
+        SnapshotSize {
+            number,
+            ..SnapshotSize::default()
+        }
+    }
+}
+
 /// What trying an order reports (T-13). A refusal carries its number, no steps and 0.
 #[derive(Clone, Copy, PartialEq, Eq, Debug, Default)]
 pub struct Tried {
@@ -115,6 +137,12 @@ pub trait QuoteBook {
 
     /// Writes a venue's block as a run of blocks, end to end.
     fn convert(&self, block: &[u8], output: &mut [u8]) -> Converted;
+
+    /// Tells how many blocks and bytes a symbol's snapshot has.
+    fn snapshot_len(&self, symbol: &[u8]) -> SnapshotSize;
+
+    /// Writes a symbol's snapshot at the output's front.
+    fn snapshot(&self, symbol: &[u8], output: &mut [u8]) -> SnapshotSize;
 
     /// Plays an order of round lots, buying at the offers (side mark B) or selling at the bids (S), and
     /// lists its steps, 13 bytes each.

@@ -62,6 +62,8 @@ pub mod number {
     pub const VENUE_UNPLACED: u8 = 79;
     /// The output is too short for the run.
     pub const CONVERT_SHORT: u8 = 80;
+    /// The output is too short for the snapshot.
+    pub const SNAPSHOT_SHORT: u8 = 81;
     /// The lots of an order are not 1 to 1,000,000.
     pub const LOTS: u8 = 82;
     /// The output of an order is under 325 bytes.
@@ -114,6 +116,8 @@ pub const SYMBOLS_MAX: u32 = 64;
 pub const LINES: usize = 64;
 /// The length of a symbol.
 pub const SYMBOL_LEN: usize = 11;
+/// The longest snapshot of a symbol: 24 letters, two blocks.
+pub const SNAPSHOT_MAX: usize = 1706;
 /// The round lots that a symbol may have.
 pub const ROUND_LOTS: [u32; 5] = [1, 10, 25, 50, 100];
 /// The letters A to Z, S among them.

@@ -27,9 +27,9 @@ fn a_printed_list_is_read_back() {
         let list = generate::list(seed, 150);
         assert_eq!(list.to_string().parse(), Ok(list));
     }
-    let form = "fresh 2\nmake 2\nadd 5a54 100 78\nopen 5 78\nstart\nend\ntake 5 - 180\nread - 96\nprotected 5a54 66 0\nconvert_len -\nconvert 00 72\norder 5a54 83 1000000 325\n";
+    let form = "fresh 2\nmake 2\nadd 5a54 100 78\nopen 5 78\nstart\nend\ntake 5 - 180\nread - 96\nprotected 5a54 66 0\nconvert_len -\nconvert 00 72\nsnapshot-len 5a54\nsnapshot - 1706\norder 5a54 83 1000000 325\n";
     let list: List = form.parse().expect("a list of every call");
-    assert_eq!(list.calls.len(), 11);
+    assert_eq!(list.calls.len(), 13);
     assert_eq!(list.to_string(), form);
     for wrong in [
         "",
@@ -50,13 +50,15 @@ fn gap_refused(n: u32) -> Box<dyn QuoteBook> {
 #[test]
 fn a_failing_list_is_made_short() {
     let fails = |list: &List| compare(reviewer, gap_refused, list).is_some();
-    let long = (0..)
-        .map(|seed| generate::list(seed, 200))
-        .find(fails)
+    let long = (0..).map(|seed| generate::list(seed, 200)).filter(fails);
+    // A gap of half the numbers needs a block before it; not all of these are so wide.
+    let short = long
+        .take(5)
+        .map(|list| shrink(&list, fails))
+        .min_by_key(|list| list.calls.len())
         .expect("a list with a gap");
-    let short = shrink(&long, fails);
     // A line, a day, and one block of one message behind a gap.
-    assert_eq!(short.calls.len(), 3);
+    assert_eq!(short.calls.len(), 3, "{short}");
     let Some(Call::TakeBlock { block, .. }) = short.calls.last() else {
         panic!("{short}");
     };

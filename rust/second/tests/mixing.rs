@@ -9,7 +9,7 @@ use second::engine::{mistake, Book, FollowLeader, Recompute};
 use second::generate::{self, Random};
 use second::mixing::{compare, make_calls, one_line_each, run};
 use second::mixing::{Received, Shown, Streams, ToldByLine};
-use second::{Call, Converted, Engine, Protected, QuoteBook, Report, Tried};
+use second::{Call, Converted, Engine, Protected, QuoteBook, Report, SnapshotSize, Tried};
 
 const LISTS: u64 = 400;
 /// The calls that use a book before its blocks are mixed, and those that the blocks are taken from.
@@ -179,6 +179,14 @@ impl QuoteBook for Sharing {
 
     fn convert(&self, block: &[u8], output: &mut [u8]) -> Converted {
         self.engine.convert(block, output)
+    }
+
+    fn snapshot_len(&self, symbol: &[u8]) -> SnapshotSize {
+        self.engine.snapshot_len(symbol)
+    }
+
+    fn snapshot(&self, symbol: &[u8], output: &mut [u8]) -> SnapshotSize {
+        self.engine.snapshot(symbol, output)
     }
 
     fn try_order(&self, symbol: &[u8], side: u8, lots: u32, steps: &mut [u8]) -> Tried {

@@ -1,8 +1,9 @@
 //! What document 01 and docs/LAYOUT.md say of a call on memory of any bytes.
 
 use quotebook::Code;
+use second::snapshot::{decode, Snapshot};
 use second::venue::{self, mistake};
-use second::{build, Call, Converted, Protected, Report, Tried};
+use second::{build, Call, Converted, Protected, Report, SnapshotSize, Tried};
 
 use super::guarded::Guarded;
 use super::layout::{
@@ -12,7 +13,7 @@ use super::layout::{
 use super::reading::Reading;
 
 /// The numbers that each call can answer.
-pub const NUMBERS: [(&str, &[u8]); 11] = [
+pub const NUMBERS: [(&str, &[u8]); 13] = [
     ("make", &[0, 2]),
     ("add", &[0, 1, 3, 4, 5, 6, 75]),
     ("open", &[0, 1, 7, 8]),
@@ -23,6 +24,8 @@ pub const NUMBERS: [(&str, &[u8]); 11] = [
     ("protected", &[0, 1, 10, 74]),
     ("convert_len", &[0, 1, 78, 79]),
     ("convert", &[0, 1, 78, 79, 80]),
+    ("snapshot-len", &[0, 1, 10]),
+    ("snapshot", &[0, 1, 10, 81]),
     ("order", &[0, 1, 10, 74, 82, 83]),
 ];
 
@@ -39,7 +42,9 @@ pub fn row(call: &Call) -> usize {
         Call::IsProtected { .. } => 7,
         Call::ConvertLen { .. } => 8,
         Call::Convert { .. } => 9,
-        Call::TryOrder { .. } => 10,
+        Call::SnapshotLen { .. } => 10,
+        Call::Snapshot { .. } => 11,
+        Call::TryOrder { .. } => 12,
     }
 }
 
@@ -105,6 +110,15 @@ pub fn number(memory: &[u8], call: &Call) -> Option<u8> {
         ],
         // 78 to 80 are the converter's: foretold beside its length.
         Call::ConvertLen { .. } | Call::Convert { .. } => return None,
+        Call::SnapshotLen { symbol } => vec![(!is_symbol(symbol) || !listed(symbol), 10)],
+        Call::Snapshot { symbol, output_len } => vec![
+            (!is_symbol(symbol) || !listed(symbol), 10),
+            (
+                snapshot(memory, symbol)
+                    .is_some_and(|snapshot| *output_len < size(snapshot.letters.len()).1),
+                81,
+            ),
+        ],
         Call::TryOrder {
             symbol,
             side,
@@ -172,6 +186,50 @@ pub fn converted(memory: &[u8], call: &Call) -> Option<(Converted, Vec<u8>)> {
     Some((told, run))
 }
 
+/// What a snapshot of a page of any bytes tells: the entries that it keeps, without the third and
+/// fourth byte of a national name, and the quote of each letter but D and S whose condition is not 0.
+fn snapshot(memory: &[u8], symbol: &[u8]) -> Option<Snapshot> {
+    let page = &memory[page(listed_page(memory, symbol)?)];
+    let mut entries = page[ENTRIES].chunks_exact(16).map(|entry| {
+        let mut bytes = [0; 16];
+        bytes.copy_from_slice(entry);
+        bytes
+    });
+    let mut entry = || entries.next().unwrap_or_default();
+    let national = [entry(), entry()].map(|mut entry| {
+        entry[2..4].copy_from_slice(b"  ");
+        entry
+    });
+    Some(Snapshot {
+        symbol: symbol.try_into().ok()?,
+        national,
+        finra: [entry(), entry()],
+        letters: Reading::of(page).latest(),
+    })
+}
+
+/// Blocks and bytes of a snapshot with so many letters.
+fn size(letters: usize) -> (usize, usize) {
+    let blocks = if letters > 13 { 2 } else { 1 };
+    (blocks, 24 * blocks + 102 + 62 * letters + 68)
+}
+
+/// What a call about a snapshot tells on memory of any bytes.
+pub fn snapshot_size(memory: &[u8], call: &Call, number: u8) -> Option<SnapshotSize> {
+    let (Call::SnapshotLen { symbol } | Call::Snapshot { symbol, .. }) = call else {
+        return None;
+    };
+    if number != 0 {
+        return Some(SnapshotSize::refused(number));
+    }
+    let (blocks, bytes) = size(snapshot(memory, symbol)?.letters.len());
+    Some(SnapshotSize {
+        number,
+        blocks,
+        bytes,
+    })
+}
+
 /// What an order on memory of any bytes reports, and its steps: by the quotes of the page too.
 pub fn tried(memory: &[u8], call: &Call, number: u8) -> Option<(Tried, Vec<u8>)> {
     let Call::TryOrder {
@@ -220,10 +278,11 @@ impl Left<'_> {
             Call::EndDay => ensure(self.after[DAY] == 0, "the day is open"),
             Call::TakeBlock { line, block, .. } => self.check_taken(*line as usize, block, report),
             Call::Read { symbol, .. } => self.check_read(symbol),
-            Call::IsProtected { .. } | Call::ConvertLen { .. } => {
+            Call::IsProtected { .. } | Call::ConvertLen { .. } | Call::SnapshotLen { .. } => {
                 ensure(self.before == self.after, "a query wrote")
             }
             Call::Convert { .. } => self.check_converted(call),
+            Call::Snapshot { symbol, .. } => self.check_snapshot(symbol),
             Call::TryOrder { .. } => self.check_order(call),
         }
     }
@@ -297,6 +356,17 @@ impl Left<'_> {
         ensure(written == run, "another run")?;
         let behind_kept = behind == &self.buffer_before[run.len()..];
         ensure(behind_kept, "a byte behind the run was written")
+    }
+
+    /// The snapshot of what the page keeps and says, and nothing behind it.
+    fn check_snapshot(&self, symbol: &[u8]) -> Result<(), String> {
+        ensure(self.before == self.after, "a snapshot wrote into the book")?;
+        let expected = snapshot(self.before, symbol).ok_or("no such page")?;
+        let (_, bytes) = size(expected.letters.len());
+        let told = decode(&self.buffer[..bytes]);
+        ensure(told == Ok(expected), format!("{told:?} is not the page's"))?;
+        let behind_kept = self.buffer[bytes..] == self.buffer_before[bytes..];
+        ensure(behind_kept, "a byte behind the snapshot was written")
     }
 
     /// The report, the line's record, every answer, and each page as its reading follows the messages.

@@ -5,7 +5,7 @@
 use std::ops::{BitXorAssign, Range};
 
 use quotebook::{lent, Number};
-use second::{build, Converted, Protected, QuoteBook, Report, Tried};
+use second::{build, Converted, Protected, QuoteBook, Report, SnapshotSize, Tried};
 
 use super::layout::{self, byte, in_page, line, moved, page, CONTENTS, COUNT, DAY, LINES, N};
 
@@ -228,6 +228,26 @@ impl QuoteBook for Guarded {
         let argument = Fenced::new(symbol);
         let number = lent::read(self.memory.bytes(), argument.bytes(), publication);
         self.settle_read(number, argument.keeps(symbol))
+    }
+
+    fn snapshot_len(&self, symbol: &[u8]) -> SnapshotSize {
+        let argument = Fenced::new(symbol);
+        let told = lent::snapshot_len(self.memory.bytes(), argument.bytes());
+        SnapshotSize {
+            number: self.settle_read(told.number, argument.keeps(symbol)),
+            blocks: told.blocks,
+            bytes: told.bytes,
+        }
+    }
+
+    fn snapshot(&self, symbol: &[u8], output: &mut [u8]) -> SnapshotSize {
+        let argument = Fenced::new(symbol);
+        let told = lent::snapshot(self.memory.bytes(), argument.bytes(), output);
+        SnapshotSize {
+            number: self.settle_read(told.number, argument.keeps(symbol)),
+            blocks: told.blocks,
+            bytes: told.bytes,
+        }
     }
 
     fn is_protected(&self, symbol: &[u8], side: u8, price: u64) -> Protected {

@@ -3,6 +3,8 @@
 
 use std::cmp::Reverse;
 
+use second::snapshot::Latest;
+
 use super::layout::{
     low, number, CELLS, CELL_LEN, LEVELS, LEVEL_LEN, LOT, PRIMARY, SLOTS, SLOT_LEN, STATUS,
 };
@@ -107,6 +109,23 @@ impl Reading {
             && self.makers.iter().all(Option::is_none)
             && self.letters.iter().all(nothing)
             && self.entries().chunks_exact(16).all(|entry| entry == NONE)
+    }
+
+    /// The letters' quotes that a snapshot shows: of all but D and S, those whose condition is not 0.
+    pub fn latest(&self) -> Vec<Latest> {
+        let letters = (b'A'..=b'Z').zip(&self.letters);
+        let shown =
+            letters.filter(|(letter, (quote, _))| !b"DS".contains(letter) && quote.condition != 0);
+        let latest = |(letter, (quote, _)): (u8, &(Quote, [Vec<Shown>; 2]))| {
+            let [bid, offer] = quote.sides.map(|side| (side.price, side.size));
+            Latest {
+                letter,
+                condition: quote.condition,
+                bid,
+                offer,
+            }
+        };
+        shown.map(latest).collect()
     }
 
     /// Equal but for the positions of cells.

@@ -13,12 +13,13 @@ mod page;
 mod page_side;
 mod quote;
 mod ranking;
+mod snapshot;
 mod take;
 mod update;
 
 use std::marker::PhantomData;
 
-use crate::quote_book::{Protected, QuoteBook, Report, Tried};
+use crate::quote_book::{Protected, QuoteBook, Report, SnapshotSize, Tried};
 use crate::terms::{
     number, FINRA, LINES, LOTS_MAX, PROCESSOR, PUBLICATION_LEN, ROUND_LOTS, STEPS_LEN, STEP_LEN,
     SYMBOLS_MAX,
@@ -205,6 +206,14 @@ impl<U: Update, const M: u8> QuoteBook for Book<U, M> {
         };
         publication[..PUBLICATION_LEN].copy_from_slice(&self.pages[page].publication());
         number::DONE
+    }
+
+    fn snapshot_len(&self, symbol: &[u8]) -> SnapshotSize {
+        self.tell_snapshot(symbol)
+    }
+
+    fn snapshot(&self, symbol: &[u8], output: &mut [u8]) -> SnapshotSize {
+        self.write_snapshot(symbol, output)
     }
 
     /// Checks 10, 74.

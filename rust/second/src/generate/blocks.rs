@@ -1,7 +1,7 @@
 //! Block calls: which line, which sequence number, which messages.
 
 use super::damage::{arbitrary_block, damage_block, damage_message};
-use super::{Generator, OpenLine};
+use super::{Generator, OpenLine, Theme};
 use crate::build;
 use crate::call::Call;
 use crate::terms::{ANSWER_LEN, BLOCK_MAX, FINRA, MESSAGES_MAX, MESSAGE_MIN};
@@ -27,6 +27,11 @@ impl Generator {
                 expected: 1,
             };
         }
+        if self.theme == Theme::Letters && self.random.percent(80) {
+            if let Some(line) = self.silent_line() {
+                return line;
+            }
+        }
         let finra = self.random.percent(self.theme.finra_blocks());
         let wanted: Vec<OpenLine> = self
             .lines
@@ -39,6 +44,12 @@ impl Generator {
         } else {
             self.random.pick(&wanted)
         }
+    }
+
+    /// A line whose letter has sent no quote.
+    fn silent_line(&self) -> Option<OpenLine> {
+        let is_silent = |line: &&OpenLine| self.quoted.keys().all(|key| key.0 .0 != line.letter);
+        self.lines.iter().find(is_silent).copied()
     }
 
     fn draw_block(&mut self, line: &OpenLine) -> Vec<u8> {

@@ -18,7 +18,7 @@ use crate::build::Shown;
 use crate::call::{Call, List};
 use crate::engine::Engine;
 use crate::quote_book::QuoteBook;
-use crate::terms::{number, ANSWER_LEN, PUBLICATION_LEN, ROUND_LOTS, STEPS_LEN};
+use crate::terms::{number, ANSWER_LEN, PUBLICATION_LEN, ROUND_LOTS, SNAPSHOT_MAX, STEPS_LEN};
 use crate::venue::Converting;
 use pools::{Pools, Symbol, Theme};
 pub use random::{from_environment, Random};
@@ -113,10 +113,12 @@ impl Generator {
         call
     }
 
-    /// Symbols, lines and the day of a made book, seldom one of them left out.
+    /// Symbols, lines and the day of a made book, seldom one of them left out; a symbol more often, which
+    /// is then added while others have quotes.
     fn set_up(&mut self) {
         let symbols = match self.theme {
             Theme::Wide => self.pools.symbols.len(),
+            _ if self.n > 1 && self.random.percent(15) => self.n as usize - 1,
             _ => self.n as usize,
         };
         for at in 0..symbols {
@@ -126,11 +128,12 @@ impl Generator {
                 primary: self.random.pick(&self.pools.letters),
             });
         }
-        for letter in self.pools.letters.clone() {
-            self.setup.push_back(Call::OpenLine {
-                line: self.random.below(64) as u32,
-                letter,
-            });
+        for (at, letter) in (0..).zip(self.pools.letters.clone()) {
+            let line = match self.theme {
+                Theme::Letters => at,
+                _ => self.random.below(64) as u32,
+            };
+            self.setup.push_back(Call::OpenLine { line, letter });
         }
         self.setup.push_back(Call::StartDay);
         if self.random.percent(10) {
@@ -153,6 +156,10 @@ impl Generator {
             6 => self.make_call(),
             7 => self.protected_call(),
             8 => self.convert_call(),
+            9 => Call::SnapshotLen {
+                symbol: self.draw_asked_symbol(),
+            },
+            10 => self.snapshot_call(),
             _ => self.order_call(),
         }
     }
@@ -197,6 +204,18 @@ impl Generator {
         Call::Convert {
             block,
             output_len: room,
+        }
+    }
+
+    /// An output of the length that the snapshot has, one byte less or more, or of another length.
+    fn snapshot_call(&mut self) -> Call {
+        let symbol = self.draw_asked_symbol();
+        let bytes = self.book.snapshot_len(&symbol).bytes;
+        let near = [bytes, bytes, bytes.saturating_sub(1), bytes + 1];
+        let lengths = [0, 24, 193, 194, 1000, 1705, SNAPSHOT_MAX, 2000];
+        Call::Snapshot {
+            symbol,
+            output_len: self.random.usually(70, &near, &lengths),
         }
     }
 
@@ -315,6 +334,8 @@ impl Generator {
             | Call::IsProtected { .. }
             | Call::ConvertLen { .. }
             | Call::Convert { .. }
+            | Call::SnapshotLen { .. }
+            | Call::Snapshot { .. }
             | Call::TryOrder { .. } => {}
         }
     }

@@ -19,6 +19,8 @@ pub enum Theme {
     Operator,
     /// A book of 64 symbols.
     Wide,
+    /// Lines of most letters, so that a snapshot shows many of them.
+    Letters,
 }
 
 impl Theme {
@@ -30,26 +32,30 @@ impl Theme {
             Theme::Lines,
             Theme::Operator,
             Theme::Wide,
+            Theme::Letters,
         ];
-        themes[random.weighted(&[30, 20, 26, 14, 8, 2])]
+        themes[random.weighted(&[29, 19, 25, 13, 8, 2, 4])]
     }
 
     /// The n of the list's book.
     pub fn draw_n(self, random: &mut Random) -> u32 {
         match self {
             Theme::Wide => 64,
+            Theme::Letters => 1,
             Theme::Makers | Theme::Levels => random.pick(&[1, 2]),
             Theme::Mixed | Theme::Lines | Theme::Operator => random.pick(&[1, 2, 3, 4]),
         }
     }
 
-    /// Weights of the calls: take, read, add, open, Start, End, make, is protected, convert, try an order.
-    pub fn calls(self) -> [usize; 10] {
+    /// Weights of the calls: take, read, add, open, Start, End, make, is protected, convert, snapshot's
+    /// length, snapshot, try an order.
+    pub fn calls(self) -> [usize; 12] {
         match self {
-            Theme::Operator => [36, 12, 20, 16, 6, 7, 3, 10, 8, 10],
-            Theme::Lines => [83, 2, 2, 4, 4, 4, 1, 1, 2, 1],
-            Theme::Wide => [80, 10, 6, 2, 1, 1, 0, 5, 5, 5],
-            Theme::Mixed | Theme::Makers | Theme::Levels => [90, 3, 2, 2, 1, 2, 0, 6, 3, 6],
+            Theme::Operator => [36, 12, 20, 16, 6, 7, 3, 10, 8, 3, 6, 10],
+            Theme::Lines => [83, 2, 2, 4, 4, 4, 1, 1, 2, 1, 1, 1],
+            Theme::Wide => [80, 10, 6, 2, 1, 1, 0, 5, 5, 1, 3, 5],
+            Theme::Mixed | Theme::Makers | Theme::Levels => [90, 3, 2, 2, 1, 2, 0, 6, 3, 1, 4, 6],
+            Theme::Letters => [90, 1, 0, 1, 1, 1, 0, 2, 1, 4, 16, 4],
         }
     }
 
@@ -129,7 +135,7 @@ impl Pools {
         }
         Pools {
             symbols: draw_distinct(n as usize + 2, || draw_symbol(random)),
-            letters: draw_letters(random),
+            letters: draw_letters(random, theme),
             makers: draw_distinct(makers, || draw_maker(random)),
             prices,
             sizes,
@@ -159,10 +165,18 @@ fn draw_symbol(random: &mut Random) -> Symbol {
     symbol
 }
 
-/// Two to four letters, mostly D among them.
-fn draw_letters(random: &mut Random) -> Vec<u8> {
-    let count = 2 + random.below(2);
-    let mut letters = draw_distinct(count, || random.pick(b"ABCENPQZ"));
+/// Two to four letters, mostly D among them; or twelve to all.
+fn draw_letters(random: &mut Random, theme: Theme) -> Vec<u8> {
+    let mut letters = match theme {
+        Theme::Letters => {
+            let count = random.pick(&[12, 13, 14, 15, 18, 24, 24, 24]);
+            draw_distinct(count, || random.pick(b"ABCEFGHIJKLMNOPQRTUVWXYZ"))
+        }
+        _ => {
+            let count = 2 + random.below(2);
+            draw_distinct(count, || random.pick(b"ABCENPQZ"))
+        }
+    };
     if random.percent(85) {
         letters.push(b'D');
     }

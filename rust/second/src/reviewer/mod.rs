@@ -9,8 +9,9 @@ mod best;
 mod block;
 mod fields;
 mod judge;
+mod snapshot;
 
-use crate::quote_book::{Protected, QuoteBook, Report, Tried};
+use crate::quote_book::{Protected, QuoteBook, Report, SnapshotSize, Tried};
 use crate::terms::{number, ANSWER_LEN, ENTRY_LEN, LINES, PUBLICATION_LEN, ROUND_LOTS, SYMBOL_LEN};
 use crate::venue::{self, Converted};
 use account::Account;
@@ -250,6 +251,31 @@ impl QuoteBook for Reviewer {
         }
         publication[..PUBLICATION_LEN].copy_from_slice(&self.publication(symbol));
         number::DONE
+    }
+
+    fn snapshot_len(&self, symbol: &[u8]) -> SnapshotSize {
+        if !is_symbol(symbol) || self.listed(symbol).is_none() {
+            return SnapshotSize::refused(number::SYMBOL_UNKNOWN);
+        }
+        let blocks = snapshot::blocks(&Account::of(&self.history, symbol), symbol);
+        SnapshotSize {
+            number: number::DONE,
+            blocks: blocks.len(),
+            bytes: blocks.iter().map(Vec::len).sum(),
+        }
+    }
+
+    fn snapshot(&self, symbol: &[u8], output: &mut [u8]) -> SnapshotSize {
+        let size = self.snapshot_len(symbol);
+        if size.number != number::DONE {
+            return size;
+        }
+        if output.len() < size.bytes {
+            return SnapshotSize::refused(number::SNAPSHOT_SHORT);
+        }
+        let blocks = snapshot::blocks(&Account::of(&self.history, symbol), symbol);
+        output[..size.bytes].copy_from_slice(&blocks.concat());
+        size
     }
 
     fn is_protected(&self, symbol: &[u8], side: u8, price: u64) -> Protected {

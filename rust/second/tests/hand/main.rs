@@ -18,6 +18,7 @@ mod messages;
 mod operator;
 mod orders;
 mod protection;
+mod snapshots;
 mod times;
 
 use common::BOOKS;
