@@ -4,14 +4,18 @@
  * nothing of the system but memset. A book is bytes that the caller lends to every call.
  *
  * Duties of the caller, which no call can check:
- *   - every pointer is valid for the length passed with it, also for length 0: never a null pointer;
+ *   - every pointer is valid for the length passed with it. With length 0 nothing is read or written: null will do;
  *   - the buffers of one call do not overlap: book, symbol, messages, lengths, block, answer, report, publication, output and
  *     steps lie apart;
  *   - nobody else reads or writes the book during a call that changes it. Several readers at once are fine.
  * Everything else is checked: any bytes of any length may be lent as book, symbol, block or messages, and any numbers as lengths. A
  * refused call changes no byte of the book and fills no buffer, but for the report, which says why.
  *
- * The result of a call is a number, QB_DONE (0) or the first check that refused. docs/CHECKS.md says what to do about each.
+ * The result of a call is a number, QB_CHECK_DONE (0) or the first check that refused; of a block also QB_CHECK_GAP (70), which is taken.
+ * qb_taken tells, qb_sentence says what a number means, and docs/CHECKS.md what to do about it. docs/WIRE.md has the bytes of blocks,
+ * messages and publications.
+ *
+ * Threads: a book is for one thread at a time while it is fed. examples/c/readers.c shows how others read what it publishes.
  */
 #ifndef QUOTEBOOK_H
 #define QUOTEBOOK_H
@@ -22,6 +26,10 @@
 #ifdef __cplusplus
 extern "C" {
 #endif
+
+/* The version of this header, 10000 * major + 100 * minor + patch. That of the linked library is qb_version(): compare the two where they
+ * are installed apart. What may change from version to version is in docs/CHANGES.md. */
+#define QB_LIBRARY_VERSION 10000
 
 /* Sizes in bytes. A book for n symbols has QB_OPENING_LEN + n * QB_PAGE_LEN. */
 enum {
@@ -38,41 +46,41 @@ enum {
     QB_STEP_LEN = 13
 };
 
-/* Numbers that calls answer. */
+/* Numbers that calls answer: the check that refused, or 0, or 70. */
 enum {
-    QB_DONE = 0,
-    QB_NO_BOOK = 1,             /* every call on a book but make: the bytes or their length are not a book's */
-    QB_MAKE = 2,                /* make: n is not 1 to 64, or the length is not that of a book for n */
-    QB_SYMBOL_MALFORMED = 3,    /* add: the symbol is malformed */
-    QB_SYMBOL_LISTED = 4,       /* add: the symbol is already listed */
-    QB_BOOK_FULL = 5,           /* add: n symbols stand */
-    QB_ROUND_LOT = 6,           /* add: the round lot is not 1, 10, 25, 50 or 100 */
-    QB_LINE_OR_LETTER = 7,      /* open: the line is above 63, or the letter is not A to Z without S */
-    QB_LINE_OPEN = 8,           /* open: the line is already open */
-    QB_BUFFER_SHORT = 9,        /* block: the answer buffer is under 180 bytes; read: the publication buffer under 96 */
-    QB_SYMBOL_UNKNOWN = 10,     /* read, is protected, snapshot, try: the symbol is malformed or not listed */
-    QB_DAY_OPEN = 11,           /* start: the day is already open */
-    QB_DAY_NOT_OPEN = 12,       /* end: the day is not open */
-    QB_BLOCK_WHILE_CLOSED = 20, /* block: the day is not open */
-    QB_LINE_NOT_OPEN = 21,      /* block: the line is above 63 or not open */
-    QB_BLOCK_LENGTH = 30,       /* block: the length is under 32, over 1,000 or not what the block's field says */
-    QB_VERSION = 31,            /* block: the version is not 1 */
-    QB_CHECKSUM = 32,           /* block: the checksum is wrong */
-    QB_OFFSETS = 33,            /* block: the message count is not 1 to 45, or an offset rule is broken */
-    QB_CONTROL_NOT_ALONE = 34,  /* block: a control message is not alone */
-    QB_DUPLICATE = 35,          /* block: its sequence number lies behind the expected one */
-    QB_GAP = 70,                /* block: a warning; it was taken, and sequence numbers before it are missing */
-    QB_WRITE_MESSAGES = 71,     /* write: no messages, over 45, one under 20 bytes, lengths that do not add up, or a block over 1,000 */
-    QB_WRITE_CONTROL = 72,      /* write: a control message among others */
-    QB_WRITE_SHORT = 73,        /* write: the output is shorter than the block */
-    QB_SIDE = 74,               /* is protected, try: the side mark is not B or S */
-    QB_PRIMARY = 75,            /* add: the primary letter is not A to Z without S */
-    QB_VENUE_BLOCK = 78,        /* convert: the block breaks a rule of the venues' form */
-    QB_VENUE_UNPLACED = 79,     /* convert: a type, letter or condition without a place here, or a message too long for one block */
-    QB_CONVERT_SHORT = 80,      /* convert: the output is shorter than the run */
-    QB_SNAPSHOT_SHORT = 81,     /* snapshot: the output is shorter than the snapshot */
-    QB_LOTS = 82,               /* try: the lots are not 1 to 1,000,000 */
-    QB_STEPS_SHORT = 83         /* try: the output is under 325 bytes */
+    QB_CHECK_DONE = 0,
+    QB_CHECK_NO_BOOK = 1,             /* every call on a book but make: the bytes or their length are not a book's */
+    QB_CHECK_MAKE = 2,                /* make: n is not 1 to 64, or the length is not that of a book for n */
+    QB_CHECK_SYMBOL_MALFORMED = 3,    /* add: the symbol is malformed */
+    QB_CHECK_SYMBOL_LISTED = 4,       /* add: the symbol is already listed */
+    QB_CHECK_BOOK_FULL = 5,           /* add: n symbols stand */
+    QB_CHECK_ROUND_LOT = 6,           /* add: the round lot is not 1, 10, 25, 50 or 100 */
+    QB_CHECK_LINE_OR_LETTER = 7,      /* open: the line is above 63, or the letter is not A to Z without S */
+    QB_CHECK_LINE_OPEN = 8,           /* open: the line is already open */
+    QB_CHECK_BUFFER_SHORT = 9,        /* block: the answer buffer is under 180 bytes; read: the publication buffer under 96 */
+    QB_CHECK_SYMBOL_UNKNOWN = 10,     /* read, is protected, snapshot, try: the symbol is malformed or not listed */
+    QB_CHECK_DAY_OPEN = 11,           /* start: the day is already open */
+    QB_CHECK_DAY_NOT_OPEN = 12,       /* end: the day is not open */
+    QB_CHECK_BLOCK_WHILE_CLOSED = 20, /* block: the day is not open */
+    QB_CHECK_LINE_NOT_OPEN = 21,      /* block: the line is above 63 or not open */
+    QB_CHECK_BLOCK_LENGTH = 30,       /* block: the length is under 32, over 1,000 or not what the block's field says */
+    QB_CHECK_VERSION = 31,            /* block: the version is not 1 */
+    QB_CHECK_CHECKSUM = 32,           /* block: the checksum is wrong */
+    QB_CHECK_OFFSETS = 33,            /* block: the message count is not 1 to 45, or an offset rule is broken */
+    QB_CHECK_CONTROL_NOT_ALONE = 34,  /* block: a control message is not alone */
+    QB_CHECK_DUPLICATE = 35,          /* block: its sequence number lies behind the expected one */
+    QB_CHECK_GAP = 70,                /* block: a warning; it was taken, and sequence numbers before it are missing */
+    QB_CHECK_WRITE_MESSAGES = 71,     /* write: no messages, over 45, one under 20 bytes, lengths that do not add up, or a block over 1,000 */
+    QB_CHECK_WRITE_CONTROL = 72,      /* write: a control message among others */
+    QB_CHECK_WRITE_SHORT = 73,        /* write: the output is shorter than the block */
+    QB_CHECK_SIDE = 74,               /* is protected, try: the side mark is not B or S */
+    QB_CHECK_PRIMARY = 75,            /* add: the primary letter is not A to Z without S */
+    QB_CHECK_VENUE_BLOCK = 78,        /* convert: the block breaks a rule of the venues' form */
+    QB_CHECK_VENUE_UNPLACED = 79,     /* convert: a type, letter or condition without a place here, or a message too long for one block */
+    QB_CHECK_CONVERT_SHORT = 80,      /* convert: the output is shorter than the run */
+    QB_CHECK_SNAPSHOT_SHORT = 81,     /* snapshot: the output is shorter than the snapshot */
+    QB_CHECK_LOTS = 82,               /* try: the lots are not 1 to 1,000,000 */
+    QB_CHECK_STEPS_SHORT = 83         /* try: the output is under 325 bytes */
 };
 
 /* Codes of messages, in the answer buffer. A Q K with 60 to 64 is partly accepted: its quote is in force, its odd lots did nothing. */
@@ -97,14 +105,35 @@ enum {
     QB_CODE_STATUS = 77              /* T S: the status is not H or T */
 };
 
-/* Change flags of a message, in the answer buffer: the entries that it changed. */
+/* Change flags of a message, in the answer buffer: the entries of its symbol that it changed. FINRA Open and Close (C O, C C) name no symbol:
+ * a flag of theirs says that the entry of some symbol changed, so read them all. */
 enum {
-    QB_NATIONAL_BID = 1,
-    QB_NATIONAL_OFFER = 2,
-    QB_FINRA_BID = 4,
-    QB_FINRA_OFFER = 8,
-    QB_ODD_BID = 16,
-    QB_ODD_OFFER = 32
+    QB_FLAG_NATIONAL_BID = 1,
+    QB_FLAG_NATIONAL_OFFER = 2,
+    QB_FLAG_FINRA_BID = 4,
+    QB_FLAG_FINRA_OFFER = 8,
+    QB_FLAG_ODD_BID = 16,
+    QB_FLAG_ODD_OFFER = 32
+};
+
+/* Entries of a publication: entry k stands at k * QB_ENTRY_LEN, and its flag is 1 << k. */
+enum {
+    QB_ENTRY_NATIONAL_BID = 0,
+    QB_ENTRY_NATIONAL_OFFER = 1,
+    QB_ENTRY_FINRA_BID = 2,
+    QB_ENTRY_FINRA_OFFER = 3,
+    QB_ENTRY_ODD_BID = 4,
+    QB_ENTRY_ODD_OFFER = 5,
+    QB_ENTRIES = 6
+};
+
+/* Places in an entry. Numbers are big-endian. */
+enum {
+    QB_ENTRY_AT_NAME = 0,      /* 4 bytes: a maker; or a letter and what stands behind it */
+    QB_ENTRY_AT_CONDITION = 1, /* of a national entry */
+    QB_ENTRY_AT_REASON = 2,    /* of a national entry: P, S, T, L or a space */
+    QB_ENTRY_AT_PRICE = 4,     /* 8 bytes, six implied decimals */
+    QB_ENTRY_AT_SIZE = 12      /* 4 bytes: round lots, of odd lots shares */
 };
 
 /* Places in the report of a block. */
@@ -149,10 +178,14 @@ enum {
     QB_STEP_LOTS = 9    /* 4 bytes, the round lots taken */
 };
 
+/* The library's version, as QB_LIBRARY_VERSION is the header's. */
+uint32_t qb_version(void);
+
 /* Bytes of a book for n symbols; 0 if n is not 1 to 64. */
 uint64_t qb_book_len(uint32_t n);
 
-/* Makes a book for n symbols in len bytes of any contents: no symbols, no lines, a closed day. Answers 0, 2. */
+/* Makes a book for n symbols in len bytes of any contents: no symbols, no lines, a closed day. Answers 0, 2.
+ * A book that is in use is no exception: with its own n it is made anew, whether its day is open or not, and all that it held is gone. */
 uint8_t qb_make(uint8_t *book, size_t len, uint32_t n);
 
 /* Lists a symbol of 11 bytes (A to Z, then printable bytes, then spaces) with its round lot in shares and its primary letter, A to Z
@@ -230,6 +263,125 @@ uint8_t qb_try_order(const uint8_t *book, size_t len, const uint8_t *symbol, siz
  * report: number, bytes written (0 after a refusal); always filled. */
 uint8_t qb_write_block(const uint8_t *messages, size_t messages_len, const uint32_t *lengths, size_t count,
                        uint32_t sequence, uint8_t *block, size_t block_len, uint64_t report[2]);
+
+/* Whether a call did what it was asked: 0, or the warning 70 of a block that was taken behind a gap. */
+static inline int qb_taken(uint8_t number) {
+    return number == QB_CHECK_DONE || number == QB_CHECK_GAP;
+}
+
+/* How many messages a reported block had: 0 if it was refused. So many answers of four bytes stand in the answer buffer. */
+static inline size_t qb_report_messages(const uint64_t report[7]) {
+    return report[QB_REPORT_ACCEPTED] + report[QB_REPORT_PARTLY] + report[QB_REPORT_REJECTED];
+}
+
+/* A big-endian number of len bytes, 8 at most. */
+static inline uint64_t qb_number(const uint8_t *at, int len) {
+    uint64_t number = 0;
+    while (len-- > 0) number = number << 8 | *at++;
+    return number;
+}
+
+/* The 11 bytes of the symbol that message i, from 0, of a block names; null if it names none (category C, an unknown type, a message that is
+ * too short). Whatever its code is. Only for a block that qb_take_block has taken: then its length and offsets are right. */
+static inline const uint8_t *qb_message_symbol(const uint8_t *block, size_t i) {
+    size_t count = block[1], at, end;
+    uint8_t category, type;
+    if (i >= count) return 0;
+    at = qb_number(block + 10 + 2 * i, 2);
+    end = qb_number(i + 1 < count ? block + 12 + 2 * i : block + 2, 2);
+    if (end - at < 20 + QB_SYMBOL_LEN) return 0;
+    category = block[at];
+    type = block[at + 1];
+    if (category == 'T' && type == 'S') return block + at + 20;
+    if (category == 'Q' && (type == 'K' || type == 'M' || type == 'T' || type == 'U')) return block + at + 20;
+    return 0;
+}
+
+/* Entry k of a publication, QB_ENTRY_NATIONAL_BID to QB_ENTRY_ODD_OFFER: its bytes, whether it is none, its price and its size. */
+static inline const uint8_t *qb_entry(const uint8_t *publication, int k) {
+    return publication + k * QB_ENTRY_LEN;
+}
+
+static inline int qb_entry_is_none(const uint8_t *publication, int k) {
+    return qb_entry(publication, k)[QB_ENTRY_AT_NAME] == ' ';
+}
+
+static inline uint64_t qb_entry_price(const uint8_t *publication, int k) {
+    return qb_number(qb_entry(publication, k) + QB_ENTRY_AT_PRICE, 8);
+}
+
+static inline uint32_t qb_entry_size(const uint8_t *publication, int k) {
+    const uint8_t *at = qb_entry(publication, k) + QB_ENTRY_AT_SIZE;
+    uint32_t size = 0;
+    int i;
+    for (i = 0; i < 4; i++) size = size << 8 | at[i];
+    return size;
+}
+
+/* One plain sentence for a number that a call answers. */
+static inline const char *qb_sentence(uint8_t number) {
+    switch (number) {
+    case QB_CHECK_DONE: return "The call was done.";
+    case QB_CHECK_NO_BOOK: return "The memory is not a book: its opening or its length is wrong.";
+    case QB_CHECK_MAKE: return "A book has room for 1 to 64 symbols, in memory of exactly that length.";
+    case QB_CHECK_SYMBOL_MALFORMED: return "The symbol is not A to Z, then printable bytes, then spaces, eleven bytes in all.";
+    case QB_CHECK_SYMBOL_LISTED: return "The symbol is already listed.";
+    case QB_CHECK_BOOK_FULL: return "As many symbols are listed as the book has room for.";
+    case QB_CHECK_ROUND_LOT: return "The round lot is not 1, 10, 25, 50 or 100 shares.";
+    case QB_CHECK_LINE_OR_LETTER: return "The line is above 63, or its letter is not A to Z without S.";
+    case QB_CHECK_LINE_OPEN: return "The line is already open.";
+    case QB_CHECK_BUFFER_SHORT: return "The answer buffer is under 180 bytes, or the publication buffer under 96.";
+    case QB_CHECK_SYMBOL_UNKNOWN: return "The symbol is malformed or not listed.";
+    case QB_CHECK_DAY_OPEN: return "The day is already open.";
+    case QB_CHECK_DAY_NOT_OPEN: return "The day is not open.";
+    case QB_CHECK_BLOCK_WHILE_CLOSED: return "The block came while the day was not open.";
+    case QB_CHECK_LINE_NOT_OPEN: return "The block's line is above 63 or not open.";
+    case QB_CHECK_BLOCK_LENGTH: return "The block's length is under 32, over 1,000 or not what its length field says.";
+    case QB_CHECK_VERSION: return "The block's version is not 1.";
+    case QB_CHECK_CHECKSUM: return "The block's checksum is wrong.";
+    case QB_CHECK_OFFSETS: return "The block's message count is not 1 to 45, or its offsets break a rule.";
+    case QB_CHECK_CONTROL_NOT_ALONE: return "A control message is not alone in its block.";
+    case QB_CHECK_DUPLICATE: return "The block is a duplicate: its sequence number lies behind the expected one.";
+    case QB_CHECK_GAP: return "The block was taken, and sequence numbers before it are missing.";
+    case QB_CHECK_WRITE_MESSAGES: return "No messages, over 45, one under 20 bytes, lengths that do not add up, or a block over 1,000.";
+    case QB_CHECK_WRITE_CONTROL: return "A control message among others: it has to be alone in its block.";
+    case QB_CHECK_WRITE_SHORT: return "The output is shorter than the block to write.";
+    case QB_CHECK_SIDE: return "The side mark is not B or S.";
+    case QB_CHECK_PRIMARY: return "The primary letter is not A to Z, or it is S.";
+    case QB_CHECK_VENUE_BLOCK: return "The venue's block breaks a rule of its form.";
+    case QB_CHECK_VENUE_UNPLACED: return "A message of the venue's block has no place here: its type, letter, condition or length.";
+    case QB_CHECK_CONVERT_SHORT: return "The output is shorter than the run to write.";
+    case QB_CHECK_SNAPSHOT_SHORT: return "The output is shorter than the snapshot.";
+    case QB_CHECK_LOTS: return "The lots are not 1 to 1,000,000.";
+    case QB_CHECK_STEPS_SHORT: return "The output is under 325 bytes.";
+    default: return "No number of a call.";
+    }
+}
+
+/* One plain sentence for the code of a message. */
+static inline const char *qb_code_sentence(uint8_t code) {
+    switch (code) {
+    case QB_CODE_ACCEPTED: return "The message was accepted.";
+    case QB_CODE_UNKNOWN_TYPE: return "The category and type are unknown.";
+    case QB_CODE_LETTER: return "The letter is not the line's.";
+    case QB_CODE_LENGTH: return "The length is not its type's.";
+    case QB_CODE_FIXED_BYTE: return "A byte that must be zero is not, or a test byte is wrong.";
+    case QB_CODE_WRONG_LINE: return "Close, Open, makers and odd lots of FINRA go on D's line only, other quotes on any other.";
+    case QB_CODE_SYMBOL: return "The symbol is malformed or not listed.";
+    case QB_CODE_CONDITION: return "The condition is not one that the type takes.";
+    case QB_CODE_SIZE_WITHOUT_PRICE: return "A side has a size and no price.";
+    case QB_CODE_MAKER: return "The maker's name is not one to four letters A to Z, then spaces.";
+    case QB_CODE_MAKERS_FULL: return "Sixteen makers stand already, and this is another.";
+    case QB_CODE_CLEAR_MARK: return "The clear mark is not a space, B, S or X.";
+    case QB_CODE_ITEM_COUNT: return "There are more than four odd bids or more than four odd offers.";
+    case QB_CODE_ITEM_PRICE: return "An odd item has price 0.";
+    case QB_CODE_ITEM_SHARES: return "An odd item has a round lot of shares or more.";
+    case QB_CODE_FIFTH_LEVEL: return "An odd item would make a fifth level.";
+    case QB_CODE_NOT_PRIMARY: return "The line's letter is not the symbol's primary letter, which alone may halt it.";
+    case QB_CODE_STATUS: return "The trading status is not H (halted) or T (trading).";
+    default: return "No code of a message.";
+    }
+}
 
 #ifdef __cplusplus
 }

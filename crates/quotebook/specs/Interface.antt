@@ -10,6 +10,10 @@ use Rattle.calls.specs.Buffers.{TakenBlock, taken, FeedOut, feedOut, OrderOut, 
 use Rattle.calls.specs.Call.{Answer, call, protected, convertLen, snapshotLen}
 use Rattle.opening.specs.Layout.{bookLength, symbolsMost}
 
+-- 10000 * major + 100 * minor + patch; QB_LIBRARY_VERSION in the header
+abbrev pub libraryVersion : ℕ
+libraryVersion = 10000
+
 -- 0 where n is not 1 to 64
 unfoldable pub bookLen : ℕ → ℕ
 bookLen n = cond (leb 1 n && leb n symbolsMost) (bookLength n) 0

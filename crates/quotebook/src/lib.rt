@@ -3,12 +3,23 @@ ghost use mathlib.Core.Path.{_≡_};
 ghost use mathlib.Core.Bool.{cond};
 ghost use Rattle.calls.specs.Call.{bare, call, make, add, openLine, startDay, endDay};
 ghost use Rattle.calls.specs.Buffers.{readOut};
-ghost use Rattle.quotebook.specs.Interface.{bookLen, takenNumbers, protectedNumbers, triedNumbers, writtenNumbers, lengthNumbers, convertedNumbers, sizeNumbers, feedNumbers};
+ghost use Rattle.quotebook.specs.Interface.{bookLen, libraryVersion, takenNumbers, protectedNumbers, triedNumbers, writtenNumbers, lengthNumbers, convertedNumbers, sizeNumbers, feedNumbers};
 use opening::Book;
 
 const OPENING: u64 = Book::OPENING_LEN as u64;
 
 const PAGE: u64 = Book::PAGE_LEN as u64;
+
+// 10000 * major + 100 * minor + patch
+const VERSION: u32 = 10000;
+
+/// The library's version; the header's is QB_LIBRARY_VERSION.
+#[no_mangle]
+pub extern "C" fn qb_version() -> u32
+    ensures { λ r. ⌜ r ≡ libraryVersion ⌝ }
+{
+    VERSION
+}
 
 /// Bytes of a book for n symbols; 0 if n is not 1 to 64.
 #[no_mangle]
