@@ -209,9 +209,13 @@ fn read_behind(input: &mut [u8], to: usize) -> usize
     read_part(&mut input[to..])
 }
 
+// A read that fails is told on standard error, and is an end of the input otherwise.
 fn read_part(part: &mut [u8]) -> usize
     ensures { λ r. ⌜ r ≤ length (now (part .entry)) ⌝ }
 {
     let got = libc::read(STDIN_FILENO, part);
+    if got < 0 {
+        output::warn(b"tape: the input could not be read\n");
+    }
     io::count(got, part)
 }

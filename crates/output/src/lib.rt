@@ -1,6 +1,8 @@
-// Standard output through a buffer: `filled` is how many of its bytes wait.
+// Standard output through a buffer: `filled` is how many of its bytes wait. What could not be written is told on standard error: a program has
+// no exit status.
 ghost use Prim.Native.Nat.{_≤_};
 ghost use Rattle.output.specs.Output.{outputLength};
+use libc::STDERR_FILENO;
 use libc::STDOUT_FILENO;
 
 /// The output buffer.
@@ -16,7 +18,20 @@ pub fn flush(out: &Output, filled: usize)
     requires { ⌜ filled ≤ outputLength ⌝ }
 {
     let bytes: &[u8] = out;
-    io::write_all(STDOUT_FILENO, &bytes[0..filled]);
+    write(&bytes[0..filled]);
+}
+
+// Writes all of it, or says that it could not.
+fn write(bytes: &[u8]) {
+    let done = io::write_all(STDOUT_FILENO, bytes);
+    if !done {
+        warn(b"tape: the output could not be written\n");
+    }
+}
+
+/// A line on standard error.
+pub fn warn(line: &[u8]) {
+    io::write_all(STDERR_FILENO, line);
 }
 
 /// One byte more. A full buffer is written first.
@@ -27,7 +42,7 @@ pub fn put(out: &mut Output, filled: usize, b: u8) -> usize
         out[filled] = b;
         return filled + 1;
     }
-    io::write_all(STDOUT_FILENO, out);
+    write(out);
     out[0] = b;
     1
 }

@@ -12,13 +12,18 @@ use tape::{program, Tape};
 /// The proved program.
 const PROGRAM: &str = concat!(env!("CARGO_MANIFEST_DIR"), "/../../target/bin/tape");
 
-/// Starts the proved program with pipes for its input and output.
-pub fn start() -> Child {
+/// The proved program, to be started.
+pub fn command() -> Command {
     assert!(
         Path::new(PROGRAM).exists(),
         "target/bin/tape is missing: `rt check tape` or `make demo` builds it"
     );
     Command::new(PROGRAM)
+}
+
+/// Starts the proved program with pipes for its input and output.
+pub fn start() -> Child {
+    command()
         .stdin(Stdio::piped())
         .stdout(Stdio::piped())
         .stderr(Stdio::piped())
