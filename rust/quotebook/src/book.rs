@@ -3,8 +3,9 @@
 use std::fmt::{self, Debug, Formatter};
 
 use crate::lent::{self, ANSWER_LEN, PUBLICATION_LEN, RUN_MAX, STEPS_LEN, SYMBOL_LEN};
+use crate::line::LineRecord;
 use crate::message::filled_up;
-use crate::number::Refusal;
+use crate::number::{Number, Refusal};
 use crate::order::{Order, Trial};
 use crate::price::Price;
 use crate::protection::{Protection, Side};
@@ -31,7 +32,18 @@ impl Book {
         Ok(Book { memory })
     }
 
-    /// Makes the book anew. The memory keeps its length, so n has to be the same.
+    /// The book whose bytes [`as_bytes`](Book::as_bytes) gave. Bytes that are no book are refused
+    /// ([`Number::NoBook`]). A copy is for the version that made it (docs/CHANGES.md).
+    pub fn from_bytes(bytes: impl Into<Box<[u8]>>) -> Result<Book, Refusal> {
+        let memory = bytes.into();
+        if !lent::is_book(&memory) {
+            Number::NoBook.result()?;
+        }
+        Ok(Book { memory })
+    }
+
+    /// Makes the book anew, also while its day is open: symbols, lines and quotes are forgotten. The
+    /// memory keeps its length, so n has to be the same.
     pub fn make(&mut self, n: u32) -> Result<(), Refusal> {
         lent::make(&mut self.memory, n).result()
     }
@@ -72,6 +84,12 @@ impl Book {
             None => Ok(Taken { report, bytes }),
             Some(refusal) => Err(refusal),
         }
+    }
+
+    /// The record of a line: its letter, its next expected number and its count of messages. None if
+    /// the line is above 63 or not open.
+    pub fn line(&self, line: u32) -> Option<LineRecord> {
+        lent::line(&self.memory, line)
     }
 
     /// Reads a symbol's publication.

@@ -7,6 +7,7 @@
 
 mod c {
     extern "C" {
+        pub fn qb_version() -> u32;
         pub fn qb_book_len(n: u32) -> u64;
         pub fn qb_make(book: *mut u8, len: usize, n: u32) -> u8;
         pub fn qb_add_symbol(
@@ -101,6 +102,11 @@ mod c {
             report: *mut u64,
         ) -> u8;
     }
+}
+
+pub fn version() -> u32 {
+    // SAFETY: no memory is lent.
+    unsafe { c::qb_version() }
 }
 
 pub fn book_len(n: u32) -> u64 {

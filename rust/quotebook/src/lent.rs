@@ -5,6 +5,7 @@
 //! behind those that a call fills keep their contents.
 
 use crate::ffi;
+use crate::line::LineRecord;
 use crate::number::Number;
 use crate::order::Tried;
 use crate::protection::Protected;
@@ -32,6 +33,11 @@ pub const STEPS_LEN: usize = 325;
 
 fn number(byte: u8) -> Number {
     Number::try_from(byte).expect("the library answers numbers of document 01")
+}
+
+/// The library's version, 10000 * major + 100 * minor + patch; this crate's is `CARGO_PKG_VERSION`.
+pub fn version() -> u32 {
+    ffi::version()
 }
 
 /// The bytes of a book for n symbols; none if n is not 1 to 64.
@@ -72,6 +78,18 @@ pub fn take_block(book: &mut [u8], line: u32, block: &[u8], answer: &mut [u8]) -
     let mut fields = [0; 7];
     let answered = ffi::take_block(book, line, block, answer, &mut fields);
     Report::from_fields(number(answered), fields)
+}
+
+/// Whether these bytes are a book: any call on others answers 1.
+pub fn is_book(book: &[u8]) -> bool {
+    read(book, &[], &mut []) != Number::NoBook
+}
+
+/// The record of an open line; none if the bytes are no book, or the line is above 63 or not open.
+pub fn line(book: &[u8], line: u32) -> Option<LineRecord> {
+    is_book(book)
+        .then(|| LineRecord::in_book(book, line))
+        .flatten()
 }
 
 /// Reads a symbol's publication into the first 96 bytes of the buffer.

@@ -105,7 +105,8 @@ impl Display for Answer {
     }
 }
 
-/// The change flags of one message: each is set exactly if that published entry changed.
+/// The change flags of one message: each is set exactly if that published entry of its symbol changed.
+/// FINRA Open and Close name no symbol: a flag of theirs says that the entry of some symbol changed.
 #[derive(Clone, Copy, PartialEq, Eq, Debug, Default)]
 pub struct Changes(u8);
 
