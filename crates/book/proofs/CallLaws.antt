@@ -25,7 +25,7 @@ use Rattle.opening.specs.declared.LineState.{LineState}
 use Rattle.opening.specs.declared.LineState.the-variants.{Open, Closed}
 use Rattle.opening.specs.Opening.{symbolsOf, countOf, sound, lineBytes, linesIn, restIn, pagesIn, pagePlace, eachPage, freshBytes, restartLines, opened}
 use Rattle.line.specs.Line.{done}
-use Rattle.calls.specs.Call.{Call, make, add, openLine, startDay, endDay, read, protected, convertLen, convert, snapshotLen, snapshot, tryOrder, lots, numberOf, bare, answerOf, afterCall, makeGood, numberOn, answerOn, call}
+use Rattle.calls.specs.Call.{Call, make, add, openLine, startDay, endDay, read, protected, convertLen, convert, snapshotLen, snapshot, tryOrder, setAllowance, tick, lots, numberOf, bare, answerOf, afterCall, makeGood, numberOn, answerOn, call}
 use Rattle.work.specs.Work.{isListed, listedOf}
 use Rattle.calls.specs.Call as calls
 use Rattle.book.specs.code.Day.{dayNumber}
@@ -52,6 +52,8 @@ bareCall (convert v room) = false
 bareCall (snapshotLen s) = false
 bareCall (snapshot s room) = false
 bareCall (tryOrder s m w room) = false
+bareCall (setAllowance n ss) = true
+bareCall tick = true
 
 either : (t : Bool) (x : ℕ) → cond t (bare (cond t x 1)) (bare 1) ≡ bare (cond t x 1)
 either true x = refl
@@ -81,6 +83,8 @@ module _ (b : List ℕ) where
   bare-answer (snapshotLen s) p = clash (sym p)
   bare-answer (snapshot s room) p = clash (sym p)
   bare-answer (tryOrder s m w room) p = clash (sym p)
+  bare-answer (setAllowance n ss) p = either (sound b) (numberOf (restIn b) (listedOf (pagesIn b)) (setAllowance n ss))
+  bare-answer tick p = either (sound b) (numberOf (restIn b) (listedOf (pagesIn b)) tick)
 
   module _ (c : Call) (plain : bareCall c ≡ true) where
     -- a refused call changes no byte

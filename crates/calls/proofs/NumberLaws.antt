@@ -4,14 +4,14 @@ use Prim.Native.Nat.{ℕ, zero, suc, _<_}
 use mathlib.Core.Path.{_≡_, refl, sym, ap, _∙_}
 use mathlib.Core.Bool.{Bool, true, false, not, _&&_, cond}
 use mathlib.Core.List.{List, [], _∷_}
-use mathlib.Core.Option.{none}
+use mathlib.Core.Option.{none, some}
 use native.Mathlib.Omega.{arith}
 use lib.Dec.{ltb, leb, eqb, lit<}
 use lib.ListN.{length, length-map}
 use borrow.Author.Tests.{ltb-true, leb-true, le-leb, eqb-true, eq-eqb, ne-eqb}
 use Rattle.field.specs.Field.{Bytes, be, beBytes}
 use Rattle.field.proofs.Laws.{beBytes-be}
-use Rattle.lists.specs.Lists.{at, member, isSome, between, upper, every}
+use Rattle.lists.specs.Lists.{at, member, isSome, between, upper, every, sum}
 use Rattle.lists.proofs.Tests.{clash, and-true, upper-low, Cut, equal, apart, cut}
 use Rattle.field.specs.Ascii.{S}
 use Rattle.text.specs.Form.{isSpace, padded, symbolGood, letterGood, symbolLength}
@@ -19,9 +19,17 @@ use Rattle.update.specs.Parts.{readingOf}
 use Rattle.update.proofs.TableLaws.{length-range}
 use Rattle.update.proofs.CellLaws.{member-below}
 use Rattle.opening.specs.Opening.{symbolsOf, countOf, sound, Rest, restIn, pageAt, pagesIn}
-use Rattle.line.specs.Line.{done}
-use Rattle.calls.specs.Call.{Call, make, add, openLine, startDay, endDay, take, read, protected, convertLen, convert, snapshotLen, snapshot, tryOrder, lots, sideMarks, lotsGood, numberOf, makeGood, isMake, numberOn}
-use Rattle.block.specs.Block.{answerLength}
+use Rattle.line.specs.Line.{arrivalNumberOf, blockNumber, checkedNumberOf, done, lineNumber}
+use Rattle.calls.specs.Call.{Call, make, add, openLine, startDay, endDay, take, read, protected, convertLen, convert, snapshotLen, snapshot, tryOrder, setAllowance, tick, lots, sideMarks, lotsGood, numberOf, makeGood, isMake, numberOn}
+use Rattle.block.specs.Block.{answerLength, checked, countIn, idleBlock, sequenceIn}
+use Rattle.block.specs.Sequence.{arrivalOf}
+use Rattle.block.specs.declared.Arrival.{Arrival}
+use Rattle.block.specs.declared.Arrival.the-variants.{Taken, Duplicate}
+use Rattle.block.specs.declared.Checked.{Checked}
+use Rattle.block.specs.declared.Checked.the-variants as checks
+use Rattle.allowance.specs.Allowance.{blocksMost, isUsedUp, settingNumber, shareCount}
+use Rattle.opening.specs.declared.Line.{Line}
+use Rattle.line.proofs.GateLaws.{refused-done}
 use Rattle.work.specs.Work.{Listed, isListed, listing, listedOf}
 use Rattle.opening.proofs.OpeningLaws.{Sound, sound-is}
 use Rattle.entries.specs.Publication.{publicationLength}
@@ -77,6 +85,8 @@ module _ (n : ℕ) (b : List ℕ) (sd : Sound n b) where
   number-same (snapshotLen x) = rw (sound-is n b sd)
   number-same (snapshot x room) = rw (sound-is n b sd)
   number-same (tryOrder x m w k) = rw (sound-is n b sd)
+  number-same (setAllowance k ss) = rw (sound-is n b sd)
+  number-same tick = rw (sound-is n b sd)
 
   rest-n : restIn b .n ≡ n
   unfolding restIn
@@ -103,6 +113,21 @@ unfolding numberOn done
 unsound b c e m = rw (m, e)
 
 -- ---- what a call that is done was
+
+-- with share and spare used, only a free block is taken
+used-refused : (A : Type 0) (x : Line) (day : Bool) (b : List ℕ) (t : Bool) → idleBlock b ≡ false → done (cond t 9 (blockNumber x day true b)) ≡ true → A
+unfolding done blockNumber lineNumber
+used-refused A x day b true f h = clash (sym h)
+used-refused A x day b false f h = go (checked b) refl h
+  where
+    arrived : (d : Bool) (a : Arrival) → done (cond d (arrivalNumberOf true a) 20) ≡ true → true ≡ false
+    arrived true (Taken g n) h = sym h
+    arrived true Duplicate h = sym h
+    arrived false a h = sym h
+
+    go : (y : Checked) → checked b ≡ y → done (checkedNumberOf x day true b y) ≡ true → A
+    go (checks.Pass c) e h = clash (arrived day (arrivalOf (sequenceIn b) (x .expected) (countIn b)) (rw f at h))
+    go (checks.Refused n) e h = clash (sym h ∙ refused-done b n e)
 
 module _ (r : Rest) (ls : List Listed) where
   pub record AddDone (s : List ℕ) (k l : ℕ) : Type 0 where
@@ -143,6 +168,24 @@ module _ (r : Rest) (ls : List Listed) where
       go : (t : Bool) → done (cond t 9 21) ≡ true → ⊥
       go true d = clash (sym d)
       go false d = clash (sym d)
+
+  -- a block that is taken and not free had share or spare left
+  pub take-left : (i : ℕ) (b : List ℕ) (k : ℕ) (x : Line) → done (numberOf r ls (take i b k)) ≡ true → r .lines i ≡ some x → idleBlock b ≡ false → isUsedUp (r .allowance) i ≡ false
+  unfolding numberOf
+  take-left i b k x d e f = go (isUsedUp (r .allowance) i) (ltb k answerLength) (rw e at d)
+    where
+      go : (u t : Bool) → done (cond t 9 (blockNumber x (r .day) u b)) ≡ true → u ≡ false
+      go false t h = refl
+      go true t h = used-refused (true ≡ false) x (r .day) b t f h
+
+  pub setting-done : (n : ℕ) (ss : List ℕ) → done (numberOf r ls (setAllowance n ss)) ≡ true → settingNumber n ss ≡ 0
+  unfolding done numberOf settingNumber
+  setting-done n ss = go (leb 1 n && leb n blocksMost) (eqb (length ss) shareCount && leb (sum ss) n)
+    where
+      go : (a b : Bool) → done (cond a (cond b 0 85) 84) ≡ true → _≡_ {A = ℕ} (cond a (cond b 0 85) 84) 0
+      go true true e = refl
+      go true false e = clash (sym e)
+      go false b e = clash (sym e)
 
   pub read-done : (s : List ℕ) (k : ℕ) → done (numberOf r ls (read s k)) ≡ true → (symbolGood s ≡ true) × (isListed (be s) ls ≡ true)
   unfolding done numberOf

@@ -8,14 +8,20 @@ use mathlib.Core.Option.{Option, none, some}
 use lib.Dec.{leb, eqb, lit≤}
 use lib.ListN.{length}
 use borrow.Author.Tests.{eqb-true}
-use Rattle.field.specs.Field.{Bytes}
-use Rattle.block.specs.Block.{messagesOf}
+use native.Mathlib.Omega.{arith}
+use Rattle.field.specs.Field.{Bytes, part, splice}
+use Rattle.field.proofs.Laws.{bytes-part}
+use Rattle.allowance.specs.Allowance.{allowanceLength, chargedBytes, settingBytes, tickedBytes}
+use Rattle.allowance.proofs.ByteLaws.{length-charged, bytes-charged, length-ticked, bytes-ticked, length-setting}
+use Rattle.allowance.proofs.ClaimLaws.{Settable, settable, bytes-setting}
+use Rattle.opening.proofs.AllowanceLaws.{length-allowance, allowed-sound, allowed-bytes}
+use Rattle.block.specs.Block.{messagesOf, idleBlock}
 use Rattle.update.specs.Parts.{emptied}
 use Rattle.update.proofs.BlankLaws.{emptied-kept}
 use Rattle.opening.specs.declared.Line.{Line}
-use Rattle.opening.specs.Opening.{symbolsOf, countOf, sound, linesIn, restIn, pagesIn, eachPage, freshBytes, restartLines}
-use Rattle.line.specs.Line.{done, advanced}
-use Rattle.calls.specs.Call.{Call, make, add, openLine, startDay, endDay, take, read, protected, convertLen, convert, snapshotLen, snapshot, tryOrder, letterOf, advanceOn, afterCall, makeGood, isMake, numberOn, call}
+use Rattle.opening.specs.Opening.{symbolsOf, countOf, sound, linesIn, restIn, pagesIn, eachPage, freshBytes, restartLines, lineBytes, onAllowance}
+use Rattle.line.specs.Line.{done, advanced, settled}
+use Rattle.calls.specs.Call.{Call, make, add, openLine, startDay, endDay, take, read, protected, convertLen, convert, snapshotLen, snapshot, tryOrder, setAllowance, tick, letterOf, advanceOn, afterCall, makeGood, isMake, numberOn, call}
 use Rattle.work.specs.Work.{listedOf, messagesOn}
 use Rattle.opening.proofs.OpeningLaws.{Sound, sound-of}
 use Rattle.opening.proofs.PageLaws.{OpeningKept, kept-sound, each-kept}
@@ -23,9 +29,9 @@ use Rattle.opening.proofs.LineLaws.{line-upper, line-open, lined-sound, lined-b
 use Rattle.opening.proofs.DayLaws.{dayed-sound, dayed-bytes, relined-sound, relined-bytes}
 use Rattle.opening.proofs.FreshLaws.{fresh-sound, fresh-bytes, fresh-length}
 use Rattle.opening.proofs.AddLaws.{added-sound, added-bytes}
-use Rattle.calls.proofs.NumberLaws.{number-same, make-done, page-free, unsound, AddDone, add-done, open-done, take-done, lot-fits, letter-fits, symbol-eleven, symbol-bytes}
+use Rattle.calls.proofs.NumberLaws.{number-same, make-done, page-free, unsound, AddDone, add-done, open-done, take-done, setting-done, lot-fits, letter-fits, symbol-eleven, symbol-bytes}
 use Rattle.work.proofs.KeptLaws.{messages-kept}
-use Rattle.opening.specs.Layout.{lineCount, bookLength, symbolsMost}
+use Rattle.opening.specs.Layout.{allowanceAt, lineAt, lineCount, bookLength, symbolsMost}
 use Rattle.text.specs.Form.{symbolLength}
 
 -- sound, and bytes if it was bytes
@@ -33,20 +39,33 @@ pub record Stays (n : ℕ) (b b′ : List ℕ) : Type 0 where
   pub sound : Sound n b′
   pub bytes : Bytes b → Bytes b′
 
+settled-stays : {n : ℕ} {b x y : List ℕ} (t : Bool) → Stays n b x → Stays n b y → Stays n b (cond t x y)
+settled-stays true s u = s
+settled-stays false s u = u
+
 module _ (n : ℕ) (b : List ℕ) (sd : Sound n b) where
   take-stays : (i : ℕ) (x : List ℕ) (k : ℕ) → done (numberOn b (take i x k)) ≡ true → (o : Option Line) → linesIn b i ≡ o
       → Stays n b (advanceOn i x o (messagesOn (letterOf o) (messagesOf x) b))
-  unfolding restIn
+  unfolding restIn settled onAllowance
   take-stays i x k d none e = absurd (take-done (restIn b) (listedOf (pagesIn b)) i x k (rw (number-same n b sd (take i x k)) at d) e)
   take-stays i x k d (some r) e =
       let g = line-open b i r e in
       let b₁ : List ℕ = messagesOn (r .letter) (messagesOf x) b in
       let c : OpeningKept b b₁ = messages-kept n (r .letter) (line-upper r (g .1)) (messagesOf x) b sd in
       let s : Sound n b₁ = kept-sound b b₁ c n sd in
-      record { sound = lined-sound n b₁ s i (g .0) (advanced r x); bytes = λ y. lined-bytes n b₁ s i (g .0) (advanced r x) (c .bytes y) }
+      let b₂ : List ℕ = splice b₁ (lineAt i) (lineBytes (advanced r x)) in
+      let t : Sound n b₂ = lined-sound n b₁ s i (g .0) (advanced r x) in
+      let a : List ℕ = part b₂ allowanceAt allowanceLength in
+      let l : length (part b₂ allowanceAt allowanceLength) ≡ allowanceLength = length-allowance b₂ (omega (arith, t .size)) in
+      settled-stays (idleBlock x)
+      (record { sound = t; bytes = λ y. lined-bytes n b₁ s i (g .0) (advanced r x) (c .bytes y) })
+      (record {
+        sound = allowed-sound n b₂ t (chargedBytes a i) (length-charged a l i (g .0));
+        bytes = λ y. let z : Bytes b₂ = lined-bytes n b₁ s i (g .0) (advanced r x) (c .bytes y) in allowed-bytes n b₂ t (chargedBytes a i) (length-charged a l i (g .0)) z (bytes-charged a l i (g .0) (bytes-part b₂ allowanceAt allowanceLength z));
+      })
 
   after-stays : (c : Call) → done (numberOn b c) ≡ true → Stays n b (afterCall b c)
-  unfolding afterCall
+  unfolding afterCall onAllowance
   after-stays (make k) d =
       let e : k ≡ n = make-done n b sd k (rw (number-same n b sd (make k)) at d) in
       rw e (record { sound = fresh-sound n (sd .low) (sd .up); bytes = λ y. fresh-bytes n (sd .up) })
@@ -77,6 +96,17 @@ module _ (n : ℕ) (b : List ℕ) (sd : Sound n b) where
   after-stays (snapshotLen x) d = record { sound = sd; bytes = λ y. y }
   after-stays (snapshot x room) d = record { sound = sd; bytes = λ y. y }
   after-stays (tryOrder x m w k) d = record { sound = sd; bytes = λ y. y }
+  after-stays (setAllowance k ss) d =
+      let s : Settable k ss = settable k ss (setting-done (restIn b) (listedOf (pagesIn b)) k ss (rw (number-same n b sd (setAllowance k ss)) at d)) in
+      let w : length (settingBytes k ss) ≡ allowanceLength = length-setting k ss (s .whole) in
+      record { sound = allowed-sound n b sd (settingBytes k ss) w; bytes = λ y. allowed-bytes n b sd (settingBytes k ss) w y (bytes-setting k ss s) }
+  after-stays tick d =
+      let a : List ℕ = part b allowanceAt allowanceLength in
+      let l : length (part b allowanceAt allowanceLength) ≡ allowanceLength = length-allowance b (omega (arith, sd .size)) in
+      record {
+        sound = allowed-sound n b sd (tickedBytes a) (length-ticked a l);
+        bytes = λ y. allowed-bytes n b sd (tickedBytes a) (length-ticked a l) y (bytes-ticked a l (bytes-part b allowanceAt allowanceLength y));
+      }
 
   -- a sound book stays sound, and bytes stay bytes
   pub call-stays : (c : Call) → Stays n b (call b c .bytes)
@@ -122,3 +152,5 @@ call-length b (convert x k) = other-length b (convert x k) refl
 call-length b (snapshotLen s) = other-length b (snapshotLen s) refl
 call-length b (snapshot s room) = other-length b (snapshot s room) refl
 call-length b (tryOrder s m w k) = other-length b (tryOrder s m w k) refl
+call-length b (setAllowance n ss) = other-length b (setAllowance n ss) refl
+call-length b tick = other-length b tick refl

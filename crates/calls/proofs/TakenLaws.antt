@@ -14,8 +14,9 @@ use Rattle.block.specs.Block.{messagesOf, countIn, idleBlock, checked, answerLe
 use Rattle.opening.specs.declared.Line.{Line}
 use Rattle.line.specs.declared.Gate.{Gate}
 use Rattle.line.specs.declared.Gate.the-variants as gate
-use Rattle.opening.specs.Opening.{sound, lineBytes, linesIn, restIn, lineAfter}
-use Rattle.line.specs.Line.{onLine, blockNumber, done, gapTold, advanced, checkedNumberOf}
+use Rattle.opening.specs.Opening.{sound, linesIn, restIn, lineAfter}
+use Rattle.line.specs.Line.{onLine, blockNumber, done, gapTold, advanced, settled, checkedNumberOf}
+use Rattle.allowance.specs.Allowance.{isUsedUp}
 use Rattle.calls.specs.Call.{Answer, bare, numberOf, letterOf, lineAnswer, answerOf, report, advanceOn, afterCall, numberOn, call}
 use Rattle.told.specs.Told.{quads, tally}
 use Rattle.work.specs.Work.{messagesOn, toldOn}
@@ -31,16 +32,16 @@ use Rattle.block.specs.declared.Checked.the-variants as checks
 use Rattle.block.proofs.CheckLaws.{passed}
 use Rattle.opening.proofs.LineLaws.{line-upper, line-open}
 use Rattle.line.proofs.GateLaws.{block-nine, refused-done}
-use Rattle.opening.specs.Layout.{lineCount, lineAt}
+use Rattle.opening.specs.Layout.{lineCount}
 
 -- the book, the report and the answer buffer by what the checks give
 abbrev pub takenBy : List ℕ → ℕ → List ℕ → List ℕ → Gate → TakenBlock
 takenBy b i k a (gate.Bare n) = record { bytes = b; report = record { number = n; gap = 0; expected = 0; count = 0; accepted = 0; partly = 0; rejected = 0 }; answer = a }
 takenBy b i k a (gate.Refused n r) =
     record { bytes = b; report = record { number = n; gap = 0; expected = r .expected; count = r .count; accepted = 0; partly = 0; rejected = 0 }; answer = a }
-takenBy b i k a (gate.Taken n g c x) =
+takenBy b i k a (gate.Taken n g c x f) =
     record {
-      bytes = splice (ran (x .letter) k b a .book) (lineAt i) (lineBytes x);
+      bytes = settled i x f (ran (x .letter) k b a .book);
       report =
           record {
             number = n;
@@ -68,9 +69,9 @@ letter-stays r k = go _ (idleBlock k)
     go n true = refl
     go n false = refl
 
-module _ (b : List ℕ) (i : ℕ) (k a : List ℕ) (day : Bool) where
+module _ (b : List ℕ) (i : ℕ) (k a : List ℕ) (day used : Bool) where
   abbrev numbered : Bool → Bool → Option Line → ℕ
-  numbered s t o = cond s (cond t 9 (onLine day k o)) 1
+  numbered s t o = cond s (cond t 9 (onLine day used k o)) 1
 
   abbrev answered : Bool → Bool → Option Line → Answer
   answered s t o = cond s (cond (eqb (numbered s t o) 9) (bare (numbered s t o)) (lineAnswer (numbered s t o) k (toldOn b (letterOf o) (messagesOf k)) o)) (bare 1)
@@ -81,8 +82,8 @@ module _ (b : List ℕ) (i : ℕ) (k a : List ℕ) (day : Bool) where
 
   line-is : (r : Line) (n : ℕ) (d : Bool)
       → _≡_ {A = TakenBlock}
-      (record { bytes = cond d (splice (messagesOn (r .letter) (messagesOf k) b) (lineAt i) (lineBytes (advanced r k))) b; report = reportOf (lined r n d); answer = splice a 0 (lined r n d .answers) })
-      (takenBy b i k a (cond d (gate.Taken n (gapTold r k) (countIn k) (advanced r k)) (gate.Refused n r)))
+      (record { bytes = cond d (settled i (advanced r k) (idleBlock k) (messagesOn (r .letter) (messagesOf k) b)) b; report = reportOf (lined r n d); answer = splice a 0 (lined r n d .answers) })
+      (takenBy b i k a (cond d (gate.Taken n (gapTold r k) (countIn k) (advanced r k) (idleBlock k)) (gate.Refused n r)))
   unfolding ran tally quads
   line-is r n true = rw (letter-stays r k)
   line-is r n false = λ j. record { bytes = b; report = reportOf (report n 0 r []); answer = nothing a j }
@@ -90,16 +91,16 @@ module _ (b : List ℕ) (i : ℕ) (k a : List ℕ) (day : Bool) where
   by : (s t : Bool) (o : Option Line)
       → _≡_ {A = TakenBlock}
       (record { bytes = cond (done (numbered s t o)) (advanceOn i k o (messagesOn (letterOf o) (messagesOf k) b)) b; report = reportOf (answered s t o); answer = splice a 0 (answered s t o .answers) })
-      (takenBy b i k a (cond s (cond t (gate.Bare 9) (gateOn day k o)) (gate.Bare 1)))
+      (takenBy b i k a (cond s (cond t (gate.Bare 9) (gateOn day used k o)) (gate.Bare 1)))
   unfolding done
   by false t o = λ j. record { bytes = b; report = reportOf (bare 1); answer = nothing a j }
   by true true o = λ j. record { bytes = b; report = reportOf (bare 9); answer = nothing a j }
   by true false none = λ j. record { bytes = b; report = reportOf (bare 21); answer = nothing a j }
-  by true false (some r) = rw (block-nine r day k) (line-is r (blockNumber r day k) (done (blockNumber r day k)))
+  by true false (some r) = rw (block-nine r day used k) (line-is r (blockNumber r day used k) (done (blockNumber r day used k)))
 
 pub taken-is : (b : List ℕ) (i : ℕ) (k a : List ℕ) → taken b i k a ≡ takenBy b i k a (gateOf b i k (length a))
 unfolding taken call numberOn numberOf answerOf afterCall gateOf restIn
-taken-is b i k a = by b i k a (restIn b .day) (sound b) (ltb (length a) answerLength) (linesIn b i)
+taken-is b i k a = by b i k a (restIn b .day) (isUsedUp (restIn b .allowance) i) (sound b) (ltb (length a) answerLength) (linesIn b i)
 
 -- ---- what a block has behind the checks
 
@@ -111,20 +112,20 @@ pub record Entered (b : List ℕ) (i : ℕ) (k : List ℕ) (room c : ℕ) (x : L
   pub letter : upper (x .letter) ≡ true
 
 -- a block that is taken has passed its own checks
-pub taken-passes : (r : Line) (day : Bool) (k : List ℕ) → done (blockNumber r day k) ≡ true → checked k ≡ checks.Pass (countIn k)
+pub taken-passes : (r : Line) (day used : Bool) (k : List ℕ) → done (blockNumber r day used k) ≡ true → checked k ≡ checks.Pass (countIn k)
 unfolding blockNumber
-taken-passes r day k = go (checked k) refl
+taken-passes r day used k = go (checked k) refl
   where
-    go : (x : Checked) → checked k ≡ x → done (checkedNumberOf r day k x) ≡ true → x ≡ checks.Pass (countIn k)
+    go : (x : Checked) → checked k ≡ x → done (checkedNumberOf r day used k x) ≡ true → x ≡ checks.Pass (countIn k)
     go (checks.Pass c) e h = ap checks.Pass (passed k c e .counted)
     go (checks.Refused n) e h = clash (sym h ∙ refused-done k n e)
 
-pub entered : (b : List ℕ) (i : ℕ) (k : List ℕ) (room : ℕ) (n g c : ℕ) (x : Line) → gateOf b i k room ≡ gate.Taken n g c x → Entered b i k room c x
+pub entered : (b : List ℕ) (i : ℕ) (k : List ℕ) (room : ℕ) (n g c : ℕ) (x : Line) (f : Bool) → gateOf b i k room ≡ gate.Taken n g c x f → Entered b i k room c x
 unfolding gateOf
-entered b i k room n g c x = go (sound b) refl (ltb room answerLength) refl (linesIn b i) refl
+entered b i k room n g c x f = go (sound b) refl (ltb room answerLength) refl (linesIn b i) refl
   where
-    line : (r : Line) → linesIn b i ≡ some r → sound b ≡ true → answerLength ≤ room → (d : Bool) → done (blockNumber r (restIn b .day) k) ≡ d
-        → cond d (gate.Taken (blockNumber r (restIn b .day) k) (gapTold r k) (countIn k) (advanced r k)) (gate.Refused (blockNumber r (restIn b .day) k) r) ≡ gate.Taken n g c x
+    line : (r : Line) → linesIn b i ≡ some r → sound b ≡ true → answerLength ≤ room → (d : Bool) → done (blockNumber r (restIn b .day) (isUsedUp (restIn b .allowance) i) k) ≡ d
+        → cond d (gate.Taken (blockNumber r (restIn b .day) (isUsedUp (restIn b .allowance) i) k) (gapTold r k) (countIn k) (advanced r k) (idleBlock k)) (gate.Refused (blockNumber r (restIn b .day) (isUsedUp (restIn b .allowance) i) k) r) ≡ gate.Taken n g c x f
         → Entered b i k room c x
     line r eo es h true ed e =
         let ec : countIn k ≡ c = cc in
@@ -133,17 +134,17 @@ entered b i k room n g c x = go (sound b) refl (ltb room answerLength) refl (lin
           good = es;
           wide = h;
           low = line-open b i r eo .0;
-          passes = taken-passes r (restIn b .day) k ed ∙ ap checks.Pass ec;
+          passes = taken-passes r (restIn b .day) (isUsedUp (restIn b .allowance) i) k ed ∙ ap checks.Pass ec;
           letter = sym (ap (λ (l : Line). upper (l .letter)) ex) ∙ ap upper (letter-stays r k) ∙ line-upper r (line-open b i r eo .1);
         }
     line r eo es h false ed e = clash (cc)
 
     go : (s : Bool) → sound b ≡ s → (t : Bool) → ltb room answerLength ≡ t → (o : Option Line) → linesIn b i ≡ o
-        → cond s (cond t (gate.Bare 9) (gateOn (restIn b .day) k o)) (gate.Bare 1) ≡ gate.Taken n g c x → Entered b i k room c x
+        → cond s (cond t (gate.Bare 9) (gateOn (restIn b .day) (isUsedUp (restIn b .allowance) i) k o)) (gate.Bare 1) ≡ gate.Taken n g c x f → Entered b i k room c x
     go false es t et o eo e = clash (cc)
     go true es true et o eo e = clash (cc)
     go true es false et none eo e = clash (cc)
-    go true es false et (some r) eo e = line r eo es (ltb-false room answerLength et) (done (blockNumber r (restIn b .day) k)) refl e
+    go true es false et (some r) eo e = line r eo es (ltb-false room answerLength et) (done (blockNumber r (restIn b .day) (isUsedUp (restIn b .allowance) i) k)) refl e
 
 -- ---- the call, by the arm that the checks gave
 
@@ -151,13 +152,13 @@ module _ (b : List ℕ) (i : ℕ) (k a : List ℕ) where
   pub taken-by : (g h : Gate) → g ≡ gateOf b i k (length a) → g ≡ h → takenBy b i k a h ≡ taken b i k a
   taken-by g h e f = sym (taken-is b i k a ∙ ap (takenBy b i k a) (sym e ∙ f))
 
-  -- b₁, a₁, t: what the run leaves; b₂: the book with the line written
-  pub taken-run : (w : Gate) (n g c : ℕ) (x : Line) (b₁ a₁ : List ℕ) (t : Tally) (b₂ : List ℕ) → w ≡ gateOf b i k (length a) → w ≡ gate.Taken n g c x
-      → _≡_ {A = Ran} (record { book = b₁; answer = a₁; tally = t }) (ran (x .letter) k b a) → b₂ ≡ splice b₁ (lineAt i) (lineBytes x)
+  -- b₁, a₁, t: what the run leaves; b₂: the book with the line written and the block charged
+  pub taken-run : (w : Gate) (n g c : ℕ) (x : Line) (f : Bool) (b₁ a₁ : List ℕ) (t : Tally) (b₂ : List ℕ) → w ≡ gateOf b i k (length a) → w ≡ gate.Taken n g c x f
+      → _≡_ {A = Ran} (record { book = b₁; answer = a₁; tally = t }) (ran (x .letter) k b a) → b₂ ≡ settled i x f b₁
       → _≡_ {A = TakenBlock}
       (record { bytes = b₂; report = record { number = n; gap = g; expected = x .expected; count = x .count; accepted = t .accepted; partly = t .partly; rejected = t .rejected }; answer = a₁ })
       (taken b i k a)
-  taken-run w n g c x b₁ a₁ t b₂ e f r p =
+  taken-run w n g c x f b₁ a₁ t b₂ e h r p =
       rw p
-      (ap (λ (y : Ran). record { bytes = splice (y .book) (lineAt i) (lineBytes x); report = record { number = n; gap = g; expected = x .expected; count = x .count; accepted = y .tally .accepted; partly = y .tally .partly; rejected = y .tally .rejected }; answer = y .answer }) r
-      ∙ taken-by w (gate.Taken n g c x) e f)
+      (ap (λ (y : Ran). record { bytes = settled i x f (y .book); report = record { number = n; gap = g; expected = x .expected; count = x .count; accepted = y .tally .accepted; partly = y .tally .partly; rejected = y .tally .rejected }; answer = y .answer }) r
+      ∙ taken-by w (gate.Taken n g c x f) e h)

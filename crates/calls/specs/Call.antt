@@ -9,7 +9,7 @@ use lib.ListN.{length}
 use Rattle.field.specs.Field.{be, splice, beBytes}
 use Rattle.field.specs.Ascii.{B, S}
 use Rattle.lists.specs.Lists.{member, isSome}
-use Rattle.block.specs.Block.{messagesOf, answerLength}
+use Rattle.block.specs.Block.{messagesOf, answerLength, idleBlock}
 use Rattle.block.specs.declared.Checked.the-variants as checks
 use Rattle.text.specs.Form.{symbolGood, letterGood}
 use Rattle.ranking.specs.declared.Side.{Side}
@@ -29,13 +29,14 @@ use Rattle.venuerun.specs.Run.{neededOf, convertNumber, venueRun}
 use Rattle.sweep.specs.Sweep.{Step, swept, filled, stepsBytes, stepsLength}
 use Rattle.update.specs.Parts.{Reading, blankPage, emptied}
 use Rattle.opening.specs.declared.Line.{Line}
-use Rattle.opening.specs.Opening.{Rest, symbolsOf, countOf, sound, lineBytes, linesIn, restIn, pagesIn, setPage, eachPage, freshBytes, restartLines}
+use Rattle.opening.specs.Opening.{Rest, symbolsOf, countOf, sound, lineBytes, linesIn, restIn, pagesIn, setPage, eachPage, freshBytes, restartLines, onAllowance}
 use Rattle.told.specs.Told.{isAccepted, isPartly, isRejected, quads, tally}
 use Rattle.work.specs.Work.{Listed, findReading, isListed, lotOf, listedOf, messagesOn, toldOn}
 use Rattle.told.specs.declared.Told.{Told}
 use Rattle.entries.specs.Publication.{publicationLength}
-use Rattle.opening.specs.Layout.{bookLength, lineAt, countAt, dayAt, lineCount, symbolsMost}
-use Rattle.line.specs.Line.{onLine, done, gapTold, advanced}
+use Rattle.opening.specs.Layout.{allowanceAt, bookLength, lineAt, countAt, dayAt, lineCount, symbolsMost}
+use Rattle.line.specs.Line.{onLine, done, gapTold, advanced, settled}
+use Rattle.allowance.specs.Allowance.{isUsedUp, settingNumber, settingBytes, tickedBytes}
 
 -- the raw arguments of each call
 pub data Call : Type 0 where
@@ -60,6 +61,9 @@ pub data Call : Type 0 where
   snapshot : List ℕ → ℕ → Call
   -- T-13: the symbol's bytes, the side mark, the lots, the output's length
   tryOrder : List ℕ → ℕ → ℕ → ℕ → Call
+  -- T-14: the blocks for each tick, the shares
+  setAllowance : ℕ → List ℕ → Call
+  tick : Call
 
 -- ---- the number of a call, in checking order, from n, lines, day and the listed symbols
 
@@ -91,7 +95,7 @@ numberOf r ls (add s k l) =
 numberOf r ls (openLine i l) = cond (ltb i lineCount && letterGood l) (cond (isSome (r .lines i)) 8 0) 7
 numberOf r ls startDay = cond (r .day) 11 0
 numberOf r ls endDay = cond (r .day) 0 12
-numberOf r ls (take i b room) = cond (ltb room answerLength) 9 (onLine (r .day) b (r .lines i))
+numberOf r ls (take i b room) = cond (ltb room answerLength) 9 (onLine (r .day) (isUsedUp (r .allowance) i) b (r .lines i))
 numberOf r ls (read s room) = cond (ltb room publicationLength) 9 (cond (isKnown ls s) 0 10)
 numberOf r ls (protected s m x) = cond (isKnown ls s) (cond (member sideMarks m) 0 74) 10
 numberOf r ls (convertLen v) = venueNumber v
@@ -100,6 +104,8 @@ numberOf r ls (convert v room) = convertNumber v room
 numberOf r ls (snapshotLen s) = cond (isKnown ls s) 0 10
 numberOf r ls (snapshot s room) = cond (isKnown ls s) 0 10
 numberOf r ls (tryOrder s m w room) = cond (isKnown ls s) (cond (member sideMarks m) (cond (lotsGood w) (cond (ltb room stepsLength) 83 0) 82) 74) 10
+numberOf r ls (setAllowance n ss) = settingNumber n ss
+numberOf r ls tick = 0
 
 -- ---- answers
 
@@ -232,6 +238,8 @@ answerOf r ls ts p cs qs k (convert v room) = cond (done k) (runTold k (neededOf
 answerOf r ls ts p cs qs k (snapshotLen s) = cond (done k) (sizeTold k (snapshotOf s (p (be s)) (qs (be s)))) (bare k)
 answerOf r ls ts p cs qs k (snapshot s room) = cond (done k) (snapshotTold k room (snapshotOf s (p (be s)) (qs (be s)))) (bare k)
 answerOf r ls ts p cs qs k (tryOrder s m w room) = cond (done k) (stepsTold k w (swept (orderSide m) w (cs (be s) (orderSide m)))) (bare k)
+answerOf r ls ts p cs qs k (setAllowance n ss) = bare k
+answerOf r ls ts p cs qs k tick = bare k
 
 -- ---- the book's bytes
 
@@ -258,10 +266,10 @@ quotesFor (some r) = r .quotes
 abbrev pub quotesOn : List ℕ → ℕ → ℕ → Quote
 quotesOn b s = quotesFor (findReading s (pagesIn b))
 
--- the line's record after a block
+-- the line's record after a block, and its charge
 abbrev pub advanceOn : ℕ → List ℕ → Option Line → List ℕ → List ℕ
 advanceOn i k none b = b
-advanceOn i k (some r) b = splice b (lineAt i) (lineBytes (advanced r k))
+advanceOn i k (some r) b = settled i (advanced r k) (idleBlock k) b
 
 -- the bytes after a call that is done
 unfoldable pub afterCall : List ℕ → Call → List ℕ
@@ -279,6 +287,8 @@ afterCall b (convert v room) = b
 afterCall b (snapshotLen s) = b
 afterCall b (snapshot s room) = b
 afterCall b (tryOrder s m w room) = b
+afterCall b (setAllowance n ss) = splice b allowanceAt (settingBytes n ss)
+afterCall b tick = onAllowance tickedBytes b
 
 -- 2: "n not 1 to 64 or wrong length"
 unfoldable pub makeGood : List ℕ → ℕ → Bool
@@ -299,6 +309,8 @@ isMake (convert v room) = false
 isMake (snapshotLen s) = false
 isMake (snapshot s room) = false
 isMake (tryOrder s m w room) = false
+isMake (setAllowance n ss) = false
+isMake tick = false
 
 abbrev pub madeNumber : List ℕ → Call → ℕ
 madeNumber b (make n) = cond (makeGood b n) 0 2
@@ -314,6 +326,8 @@ madeNumber b (convert v room) = 0
 madeNumber b (snapshotLen s) = 0
 madeNumber b (snapshot s room) = 0
 madeNumber b (tryOrder s m w room) = 0
+madeNumber b (setAllowance n ss) = 0
+madeNumber b tick = 0
 
 unfoldable pub numberOn : List ℕ → Call → ℕ
 numberOn b c = cond (isMake c) (madeNumber b c) (cond (sound b) (numberOf (restIn b) (listedOf (pagesIn b)) c) 1)

@@ -33,9 +33,10 @@ pub fn take_block(book: &mut [u8], line: u32, block: &[u8], answer: &mut [u8]) -
             gap,
             count,
             next,
+            free,
         } => {
             let tally = work::run(book, next.letter, block, count, answer);
-            opening::put_line(book, line, next);
+            line::settle(book, line, next, free);
             Report {
                 number,
                 gap,

@@ -3,7 +3,12 @@ ghost use mathlib.Core.Path.{_≡_};
 ghost use mathlib.Core.Bool.{cond};
 ghost use lib.Dec.{eqb};
 ghost use Rattle.block.specs.Block.{checked};
-ghost use Rattle.line.specs.Line.{blockNumber};
+ghost use Prim.Native.Nat.{_≤_, _<_};
+ghost use lib.ListN.{length};
+ghost use Rattle.allowance.specs.Allowance.{isUsedUp};
+ghost use Rattle.opening.specs.Opening.{allowanceOn};
+ghost use Rattle.opening.specs.Layout.{lineCount, openingLength};
+ghost use Rattle.line.specs.Line.{blockNumber, settled};
 ghost use Rattle.line.specs.code.Gate.{gateBy, gateOf};
 use block::Arrival;
 use block::Block;
@@ -18,16 +23,17 @@ pub enum Gate {
     Bare(u8),
     /// Refused, with the line as it stands.
     Refused(u8, Line),
-    /// Taken, with 0 or 70: the gap, the count of messages, and the line's record after the block.
+    /// Taken, with 0 or 70: the gap, the count of messages, the line's record after the block, and whether it is free (C I, C T, C 5).
     Taken {
         number: u8,
         gap: u32,
         count: usize,
         next: Line,
+        free: bool,
     },
 }
 
-/// The checks of a block call, in their order: 1, 9, 21, those of the block, 20, 35.
+/// The checks of a block call, in their order: 1, 9, 21, those of the block, 20, 35, 86.
 pub fn judge(book: &[u8], line: u32, block: &[u8], room: usize) -> Gate
     ensures { λ r. ⌜ r ≡ gateOf (now (book .entry)) line (now (block .entry)) room ⌝ }
 {
@@ -43,15 +49,15 @@ pub fn judge(book: &[u8], line: u32, block: &[u8], room: usize) -> Gate
         let Checked::Pass(c) = checked else {
             return Gate::Refused(block::number(checked), old);
         };
-        return admit(old, field::get8(book, Book::DAY) == 1, block, c);
+        return admit(book, line, old, field::get8(book, Book::DAY) == 1, block, c);
     }
     Gate::Bare(1)
 }
 
-// Checks 20 and 35 of a block that passed its own, and the line's record after it.
-fn admit(old: Line, day: bool, block: &[u8], c: usize) -> Gate
-    requires { ⌜ checked (now block) ≡ Checked.Pass c ⌝ }
-    ensures { λ r. ⌜ r ≡ gateBy old (blockNumber old day (now (block .entry))) (now (block .entry)) ⌝ }
+// Checks 20, 35 and 86 of a block that passed its own, and the line's record after it.
+fn admit(book: &[u8], line: u32, old: Line, day: bool, block: &[u8], c: usize) -> Gate
+    requires { ⌜ (checked (now block) ≡ Checked.Pass c) × ((openingLength ≤ length (now book)) × (line < lineCount)) ⌝ }
+    ensures { λ r. ⌜ r ≡ gateBy old (blockNumber old day (isUsedUp (allowanceOn (now (book .entry))) line) (now (block .entry))) (now (block .entry)) ⌝ }
 {
     if block::is_idle(block, c) {
         return Gate::Taken {
@@ -59,6 +65,7 @@ fn admit(old: Line, day: bool, block: &[u8], c: usize) -> Gate
             gap: 0,
             count: c,
             next: old,
+            free: true,
         };
     }
     if day {
@@ -67,11 +74,15 @@ fn admit(old: Line, day: bool, block: &[u8], c: usize) -> Gate
         let Arrival::Taken { gap, next: _ } = arrival else {
             return Gate::Refused(35, old);
         };
+        if opening::is_used_up(book, line) {
+            return Gate::Refused(86, old);
+        }
         return Gate::Taken {
             number: warning(gap),
             gap,
             count: c,
             next: opening::advance(old, sequence, c as u32),
+            free: false,
         };
     }
     Gate::Refused(20, old)
@@ -85,4 +96,16 @@ fn warning(gap: u32) -> u8
         return 0;
     }
     70
+}
+
+/// Writes the line's record after a taken block, and charges the block to its line unless it is free.
+pub fn settle(book: &mut [u8], line: u32, next: Line, free: bool)
+    requires { ⌜ (openingLength ≤ length (now book)) × (line < lineCount) ⌝ }
+    ensures { λ _. ⌜ now (book .exit) ≡ settled line next free (now (book .entry)) ⌝ }
+{
+    opening::put_line(book, line, next);
+    if free {
+        return;
+    }
+    opening::charge(book, line);
 }

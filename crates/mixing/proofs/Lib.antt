@@ -1,4 +1,6 @@
+pub mod AllowanceSwaps
 pub mod PartSwaps
+pub mod PassLaws
 pub mod MessageSwaps
 pub mod LineSwaps
 pub mod StepLaws

@@ -2,18 +2,23 @@
 -- Assumes nothing.
 use Prim.Native.Nat.{ℕ}
 use mathlib.Core.Path.{_≡_, refl, sym, ap, _∙_}
-use mathlib.Core.Bool.{Bool, true, false, cond}
+use mathlib.Core.Bool.{Bool, true, false, not, _&&_, cond}
 use mathlib.Core.List.{List, [], _∷_, map}
 use native.Mathlib.Omega.{arith}
 use lib.Dec.{eqb}
-use Rattle.lists.proofs.Tests.{Cut, equal, apart, cut}
+use borrow.Author.Tests.{eq-eqb, ne-eqb}
+use Rattle.field.specs.Field.{Bytes}
+use Rattle.lists.proofs.Tests.{clash, and-true, Cut, equal, apart, cut}
 use Rattle.opening.specs.Opening.{sound}
 use Rattle.opening.proofs.OpeningLaws.{Sound}
 use Rattle.calls.specs.Call.{Answer, bare, call, bytesAfter, answers}
 use Rattle.calls.proofs.NumberLaws.{unsound}
-use Rattle.mixing.specs.Mixing.{Received, callOf, calls, ofLine, withoutFlags, heard, Same}
-use Rattle.mixing.proofs.StepLaws.{Alone}
-use Rattle.mixing.proofs.BlockSwaps.{after-sound, after-alone, block-swap, told-swap}
+use Rattle.review.proofs.ReportLaws.{number-told}
+use Rattle.mixing.specs.Mixing.{Received, callOf, calls, ofLine, withoutFlags, heard, noneUsedUp, NoneRefused, Same}
+use Rattle.mixing.proofs.StepLaws.{Passes, Alone}
+use Rattle.mixing.proofs.BlockSwaps.{after-sound, after-bytes, after-alone, block-swap, told-swap}
+use Rattle.mixing.proofs.PassLaws.{passes-by, unset-left, after-unset, pass-first, pass-second}
+use Rattle.mixing.proofs.LineSwaps.{unset}
 
 -- ---- the first block of a line taken out
 
@@ -68,30 +73,56 @@ own-line x xs = go (cut (x .line) (x .line))
 abbrev toldTo : ℕ → List ℕ → List Received → List Answer
 toldTo i b xs = heard i xs (answers b (calls xs))
 
+-- a block passes if its answer is not 86, and only then
+passes-of : (b : List ℕ) (x : Received) → not (eqb (call b (callOf x) .answer .number) 86) ≡ true → Passes b (x .line) (x .block) (x .room)
+passes-of b x e z = clash (sym e ∙ ap not (eq-eqb (call b (callOf x) .answer .number) 86 (number-told b (callOf x) refl ∙ z)))
+
+of-passes : (b : List ℕ) (x : Received) → Passes b (x .line) (x .block) (x .room) → not (eqb (call b (callOf x) .answer .number) 86) ≡ true
+of-passes b x p = ap not (ne-eqb (call b (callOf x) .answer .number) 86 (λ z. p (sym (number-told b (callOf x) refl) ∙ z)))
+
+-- two lists leave the same, and in the second none is refused with 86
+pub record Moved (b : List ℕ) (xs ys : List Received) : Type 0 where
+  pub same : Same b xs ys
+  pub none : NoneRefused b ys
+
 -- a block taken out of its place goes first
 module _ (n : ℕ) where
-  move : (x : Received) {ys zs : List Received} → Lifted x ys zs → (b : List ℕ) → Sound n b → Alone b → Same b ys (x ∷ zs)
-  move x (here y zs e) b g a =
-      record { book = λ k. bytesAfter b (calls (e k ∷ zs)); told = λ i k. toldTo i b (e k ∷ zs) }
-  move x (there u ys zs d t) b g a =
+  move : (x : Received) {ys zs : List Received} → Lifted x ys zs → (b : List ℕ) → Sound n b → Bytes b → Alone b → NoneRefused b ys → Moved b ys (x ∷ zs)
+  move x (here y zs e) b g v a w =
+      let r : noneUsedUp (answers b (calls (y ∷ zs))) ≡ noneUsedUp (answers b (calls (x ∷ zs))) = λ k. noneUsedUp (answers b (calls (e k ∷ zs))) in
+      record { same = record { book = λ k. bytesAfter b (calls (e k ∷ zs)); told = λ i k. toldTo i b (e k ∷ zs) }; none = sym r ∙ w }
+  move x (there u ys zs d t) b g v a w =
       let bu : List ℕ = call b (callOf u) .bytes in
       let bx : List ℕ = call b (callOf x) .bytes in
-      let r : Same bu ys (x ∷ zs) = move x t bu (after-sound n b g (u .line) (u .block) (u .room)) (after-alone n b g (u .line) (u .block) (u .room) a) in
-      let s : call bu (callOf x) .bytes ≡ call bx (callOf u) .bytes = block-swap n b g a (u .line) (x .line) d (u .block) (x .block) (u .room) (x .room) in
-      let tx : withoutFlags (call bu (callOf x) .answer) ≡ withoutFlags (call b (callOf x) .answer) = told-swap n b g a (u .line) (x .line) d (u .block) (x .block) (u .room) (x .room) in
+      let hu = and-true (not (eqb (call b (callOf u) .answer .number) 86)) (noneUsedUp (answers (call b (callOf u) .bytes) (calls ys))) w in
+      let pu : Passes b (u .line) (u .block) (u .room) = passes-of b u (hu .0) in
+      let r : Moved bu ys (x ∷ zs) =
+      move x t bu (after-sound n b g (u .line) (u .block) (u .room)) (after-bytes n b g (u .line) (u .block) (u .room) v) (after-alone n b g (u .line) (u .block) (u .room) pu a) (hu .1) in
+      let hx = and-true (not (eqb (call bu (callOf x) .answer .number) 86)) (noneUsedUp (answers (call bu (callOf x) .bytes) (calls zs))) (r .none) in
+      let qx : Passes bu (x .line) (x .block) (x .room) = passes-of bu x (hx .0) in
+      let px : Passes b (x .line) (x .block) (x .room) = pass-first n b g v (u .line) (x .line) d (u .block) (x .block) (u .room) (x .room) pu qx in
+      let qu : Passes bx (u .line) (u .block) (u .room) = pass-second n b g v (u .line) (x .line) d (u .block) (x .block) (u .room) (x .room) pu qx in
+      let s : call bu (callOf x) .bytes ≡ call bx (callOf u) .bytes = block-swap n b g a (u .line) (x .line) d (u .block) (x .block) (u .room) (x .room) pu qx px qu in
+      let tx : withoutFlags (call bu (callOf x) .answer) ≡ withoutFlags (call b (callOf x) .answer) =
+      told-swap n b g a (u .line) (x .line) d (u .block) (x .block) (u .room) (x .room) pu qx px in
       let tu : withoutFlags (call bx (callOf u) .answer) ≡ withoutFlags (call b (callOf u) .answer) =
-      told-swap n b g a (x .line) (u .line) (λ e. d (sym e)) (x .block) (u .block) (x .room) (u .room) in
+      told-swap n b g a (x .line) (u .line) (λ e. d (sym e)) (x .block) (u .block) (x .room) (u .room) px qu pu in
+      let l : noneUsedUp (answers (call bx (callOf u) .bytes) (calls zs)) ≡ true = sym (ap (λ (c : List ℕ). noneUsedUp (answers c (calls zs))) s) ∙ hx .1 in
       record {
-        book = r .book ∙ ap (λ (c : List ℕ). bytesAfter c (calls zs)) s;
-        told = λ i.
-            ap (λ (l : List Answer). cond (eqb (u .line) i) (withoutFlags (call b (callOf u) .answer) ∷ l) l) (r .told i)
-            ∙ (λ k. cond (eqb (u .line) i)
-            (withoutFlags (call b (callOf u) .answer) ∷ cond (eqb (x .line) i) (tx k ∷ toldTo i (s k) zs) (toldTo i (s k) zs))
-            (cond (eqb (x .line) i) (tx k ∷ toldTo i (s k) zs) (toldTo i (s k) zs)))
-            ∙ go i (withoutFlags (call b (callOf u) .answer)) (withoutFlags (call b (callOf x) .answer)) (toldTo i (call bx (callOf u) .bytes) zs) (cut (u .line) i) (cut (x .line) i)
-            ∙ (λ k. cond (eqb (x .line) i)
-            (withoutFlags (call b (callOf x) .answer) ∷ cond (eqb (u .line) i) (sym tu k ∷ toldTo i (call bx (callOf u) .bytes) zs) (toldTo i (call bx (callOf u) .bytes) zs))
-            (cond (eqb (u .line) i) (sym tu k ∷ toldTo i (call bx (callOf u) .bytes) zs) (toldTo i (call bx (callOf u) .bytes) zs)));
+        same =
+            record {
+              book = r .same .book ∙ ap (λ (c : List ℕ). bytesAfter c (calls zs)) s;
+              told = λ i.
+                  ap (λ (l : List Answer). cond (eqb (u .line) i) (withoutFlags (call b (callOf u) .answer) ∷ l) l) (r .same .told i)
+                  ∙ (λ k. cond (eqb (u .line) i)
+                  (withoutFlags (call b (callOf u) .answer) ∷ cond (eqb (x .line) i) (tx k ∷ toldTo i (s k) zs) (toldTo i (s k) zs))
+                  (cond (eqb (x .line) i) (tx k ∷ toldTo i (s k) zs) (toldTo i (s k) zs)))
+                  ∙ go i (withoutFlags (call b (callOf u) .answer)) (withoutFlags (call b (callOf x) .answer)) (toldTo i (call bx (callOf u) .bytes) zs) (cut (u .line) i) (cut (x .line) i)
+                  ∙ (λ k. cond (eqb (x .line) i)
+                  (withoutFlags (call b (callOf x) .answer) ∷ cond (eqb (u .line) i) (sym tu k ∷ toldTo i (call bx (callOf u) .bytes) zs) (toldTo i (call bx (callOf u) .bytes) zs))
+                  (cond (eqb (u .line) i) (sym tu k ∷ toldTo i (call bx (callOf u) .bytes) zs) (toldTo i (call bx (callOf u) .bytes) zs)));
+            };
+        none = λ k. of-passes b x px k && (of-passes bx u qu k && l k);
       }
     where
       go : (i : ℕ) (p q : Answer) (l : List Answer) → Cut (u .line) i → Cut (x .line) i
@@ -102,23 +133,39 @@ module _ (n : ℕ) where
       go i p q l (apart s e) (equal t f) = rw (s, t)
       go i p q l (apart s e) (apart t f) = rw (s, t)
 
-  pub sound-mixings : (xs ys : List Received) → ((i : ℕ) → ofLine i xs ≡ ofLine i ys) → (b : List ℕ) → Sound n b → Alone b → Same b xs ys
-  sound-mixings [] [] m b g a = record { book = refl; told = λ i. refl }
-  sound-mixings [] (y ∷ ys) m b g a =
+  -- ys, in which none is refused with 86, and any other mixing xs of its blocks
+  pub sound-mixings : (xs ys : List Received) → ((i : ℕ) → ofLine i xs ≡ ofLine i ys) → (b : List ℕ) → Sound n b → Bytes b → Alone b → NoneRefused b ys → Moved b ys xs
+  sound-mixings [] [] m b g v a w = record { same = record { book = refl; told = λ i. refl }; none = refl }
+  sound-mixings [] (y ∷ ys) m b g v a w =
       let e : [] ≡ y ∷ ofLine (y .line) ys = m (y .line) ∙ own-line y ys in
       absurd (let z : _≡_ {A = ℕ} 0 1 = cc in omega arith)
-  sound-mixings (x ∷ xs) ys m b g a =
+  sound-mixings (x ∷ xs) ys m b g v a w =
       let r = lifted x ys (ofLine (x .line) xs) (sym (m (x .line)) ∙ own-line x xs) in
       let zs : List Received = r .0 in
       let t : Lifted x ys zs = r .1 in
-      let f : Same b ys (x ∷ zs) = move x t b g a in
-      let h : Same (call b (callOf x) .bytes) xs zs =
+      let f : Moved b ys (x ∷ zs) = move x t b g v a w in
+      let hx = and-true (not (eqb (call b (callOf x) .answer .number) 86)) (noneUsedUp (answers (call b (callOf x) .bytes) (calls zs))) (f .none) in
+      let h : Moved (call b (callOf x) .bytes) zs xs =
       sound-mixings xs zs (λ i. same-rest i x xs zs (m i ∙ lifted-of i x t)) (call b (callOf x) .bytes)
-      (after-sound n b g (x .line) (x .block) (x .room)) (after-alone n b g (x .line) (x .block) (x .room) a) in
+      (after-sound n b g (x .line) (x .block) (x .room)) (after-bytes n b g (x .line) (x .block) (x .room) v)
+      (after-alone n b g (x .line) (x .block) (x .room) (passes-of b x (hx .0)) a) (hx .1) in
       record {
-        book = h .book ∙ sym (f .book);
-        told = λ i. ap (λ (l : List Answer). cond (eqb (x .line) i) (withoutFlags (call b (callOf x) .answer) ∷ l) l) (h .told i) ∙ sym (f .told i);
+        same =
+            record {
+              book = f .same .book ∙ h .same .book;
+              told = λ i. f .same .told i ∙ ap (λ (l : List Answer). cond (eqb (x .line) i) (withoutFlags (call b (callOf x) .answer) ∷ l) l) (h .same .told i);
+            };
+        none = λ k. hx .0 k && h .none k;
       }
+
+  -- without an allowance every block passes
+  pub unset-passes : (xs : List Received) (b : List ℕ) → Sound n b → unset b ≡ true → NoneRefused b xs
+  unset-passes [] b g u = refl
+  unset-passes (x ∷ xs) b g u =
+      let p : Passes b (x .line) (x .block) (x .room) = passes-by n b g (x .line) (x .block) (x .room) (λ c. unset-left b u (x .line)) in
+      let w : unset (call b (callOf x) .bytes) ≡ true = after-unset n b g (x .line) (x .block) (x .room) p ∙ u in
+      let h : NoneRefused (call b (callOf x) .bytes) xs = unset-passes xs (call b (callOf x) .bytes) (after-sound n b g (x .line) (x .block) (x .room)) w in
+      λ k. of-passes b x p k && h k
 
 -- ---- on a book that is none: every block is refused with 1
 
@@ -145,9 +192,17 @@ module _ (b : List ℕ) (e : sound b ≡ false) where
       go true = refl
       go false = refl
 
-  pub none-mixings : (xs ys : List Received) → ((i : ℕ) → ofLine i xs ≡ ofLine i ys) → Same b xs ys
+  pub none-used : (xs : List Received) → NoneRefused b xs
+  none-used [] = refl
+  none-used (x ∷ xs) = (λ k. not (eqb (one x k .number) 86) && noneUsedUp (answers (stays x k) (calls xs))) ∙ none-used xs
+
+  pub none-mixings : (xs ys : List Received) → ((i : ℕ) → ofLine i xs ≡ ofLine i ys) → Moved b ys xs
   none-mixings xs ys m =
       record {
-        book = none-book xs ∙ sym (none-book ys);
-        told = λ i. none-told i xs ∙ ap (λ (l : List Received). map (λ x. bare 1) l) (m i) ∙ sym (none-told i ys);
+        same =
+            record {
+              book = none-book ys ∙ sym (none-book xs);
+              told = λ i. none-told i ys ∙ ap (λ (l : List Received). map (λ x. bare 1) l) (sym (m i)) ∙ sym (none-told i xs);
+            };
+        none = none-used xs;
       }

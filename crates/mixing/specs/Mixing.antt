@@ -2,7 +2,7 @@
 -- Assumes nothing.
 use Prim.Native.Nat.{ℕ}
 use mathlib.Core.Path.{_≡_}
-use mathlib.Core.Bool.{cond}
+use mathlib.Core.Bool.{Bool, true, not, _&&_, cond}
 use mathlib.Core.List.{List, [], _∷_, map}
 use mathlib.Core.Option.{some}
 use lib.Dec.{eqb}
@@ -80,6 +80,16 @@ codesIn (i ∷ c ∷ f ∷ z ∷ rest) = c ∷ codesIn rest
 -- each message's code on line i, block by block
 abbrev pub codes : ℕ → List Received → List Answer → List (List ℕ)
 codes i xs told = map (λ (a : Answer). codesIn (a .answers)) (heard i xs told)
+
+-- ---- T-14: "T-09 then covers lists in which none was refused here"
+
+-- no answer is 86
+abbrev pub noneUsedUp : List Answer → Bool
+noneUsedUp [] = true
+noneUsedUp (a ∷ rest) = not (eqb (a .number) 86) && noneUsedUp rest
+
+abbrev pub NoneRefused : List ℕ → List Received → Type 0
+NoneRefused b xs = noneUsedUp (answers b (calls xs)) ≡ true
 
 -- ---- what two lists of blocks leave alike on a book
 

@@ -16,10 +16,11 @@ use Rattle.update.proofs.Model.{blankReading}
 use Rattle.update.proofs.TableLaws.{length-put, cell-same, cell-other, put-before, range-snoc}
 use Rattle.field.proofs.JoinLaws.{part-front, part-after, part-whole}
 use Rattle.update.proofs.BlankLaws.{length-blank, bytes-blank, blank-reads}
-use Rattle.opening.specs.Opening.{symbolsOf, countOf, linesIn, restIn, pageAt, setPage, pagesIn}
-use Rattle.opening.proofs.OpeningLaws.{Sound, lines-by, opening-page}
+use Rattle.opening.specs.Opening.{symbolsOf, countOf, linesIn, allowanceOn, restIn, pageAt, setPage, pagesIn}
+use Rattle.opening.proofs.OpeningLaws.{Sound, lines-by, allowance-by, opening-page}
 use Rattle.page.specs.Layout.{pageLength, symbolAt, lotAt, primaryAt, headLength}
-use Rattle.opening.specs.Layout.{countAt, dayAt, firstPageAt, lineLength, openingLength, bookLength, nAt, pageStart, lineAt}
+use Rattle.opening.specs.Layout.{countAt, dayAt, firstPageAt, lineLength, allowanceAt, openingLength, bookLength, nAt, pageStart, lineAt}
+use Rattle.allowance.specs.Allowance.{allowanceLength}
 use Rattle.text.specs.Form.{symbolLength}
 
 module _ (n : ℕ) (b : List ℕ) (sd : Sound n b) (s : List ℕ) (l m : ℕ) (eleven : length s ≡ symbolLength) (room : countOf b < n) where
@@ -108,7 +109,8 @@ module _ (n : ℕ) (b : List ℕ) (sd : Sound n b) (s : List ℕ) (l m : ℕ) (e
   unfolding restIn
   added-rest =
       let x : linesIn added ≡ linesIn b = lines-by b added (λ i h. behind (lineAt i) lineLength (omega arith) (omega arith)) in
-      λ i. record { n = added-symbols i; lines = x i; day = eqb (added-day i) 1 }
+      let a : allowanceOn added ≡ allowanceOn b = allowance-by b added (behind allowanceAt allowanceLength (omega arith) (omega arith)) in
+      λ i. record { n = added-symbols i; lines = x i; day = eqb (added-day i) 1; allowance = a i }
 
   -- the pages before it stay
   pub added-other : (j : ℕ) → (countOf b ≡ j → ⊥) → pageAt added j ≡ pageAt b j

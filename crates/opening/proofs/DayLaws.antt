@@ -16,10 +16,11 @@ use Rattle.text.specs.Form.{letterGood}
 use Rattle.update.proofs.TableLaws.{length-cell, eachCell, Each, each-cell}
 use Rattle.field.proofs.JoinLaws.{part-front, part-after, part-whole}
 use Rattle.opening.specs.declared.Line.{Line}
-use Rattle.opening.specs.Opening.{symbolsOf, countOf, lineIn, linesIn, restIn, pageAt, pagesIn, restarted, restartLines}
-use Rattle.opening.proofs.OpeningLaws.{Sound, Front, sound-by, count-by, lines-by, pages-by, opening-page}
+use Rattle.opening.specs.Opening.{symbolsOf, countOf, lineIn, linesIn, allowanceOn, restIn, pageAt, pagesIn, restarted, restartLines}
+use Rattle.opening.proofs.OpeningLaws.{Sound, Front, sound-by, count-by, lines-by, allowance-by, pages-by, opening-page}
+use Rattle.allowance.specs.Allowance.{allowanceLength}
 use Rattle.page.specs.Layout.{pageLength}
-use Rattle.opening.specs.Layout.{dayAt, firstPageAt, linesAt, lineLength, lineCount, nAt, countAt, pageStart, lineAt}
+use Rattle.opening.specs.Layout.{dayAt, firstPageAt, linesAt, lineLength, lineCount, nAt, countAt, allowanceAt, pageStart, lineAt}
 
 -- ---- the day opened or closed
 
@@ -78,11 +79,12 @@ module _ (n : ℕ) (b : List ℕ) (sd : Sound n b) (d : ℕ) (low : d ≤ 1) whe
   pub dayed-pages : pagesIn dayed ≡ pagesIn b
   dayed-pages = pages-by b dayed dayed-count (λ k h. dayed-page k)
 
-  pub dayed-rest : restIn dayed ≡ record { n = restIn b .n; lines = restIn b .lines; day = eqb d 1 }
+  pub dayed-rest : restIn dayed ≡ record { n = restIn b .n; lines = restIn b .lines; day = eqb d 1; allowance = restIn b .allowance }
   unfolding restIn
   dayed-rest =
       let l : linesIn dayed ≡ linesIn b = lines-by b dayed (λ i h. behind (lineAt i) lineLength (omega arith)) in
-      λ k. record { n = dayed-symbols k; lines = l k; day = eqb (day-is k) 1 }
+      let a : allowanceOn dayed ≡ allowanceOn b = allowance-by b dayed (behind allowanceAt allowanceLength (omega arith)) in
+      λ k. record { n = dayed-symbols k; lines = l k; day = eqb (day-is k) 1; allowance = a k }
 
 -- ---- every line restarted
 
@@ -183,9 +185,10 @@ module _ (n : ℕ) (b : List ℕ) (sd : Sound n b) where
           ∙ restarted-line (part b (lineAt i) lineLength) (length-cell b linesAt lineLength lineCount i re-room (ltb-true i lineCount e))
       go i false e = refl
 
-  pub relined-rest : restIn relined ≡ record { n = restIn b .n; lines = λ i. mapOption restartedLine (restIn b .lines i); day = restIn b .day }
+  pub relined-rest : restIn relined ≡ record { n = restIn b .n; lines = λ i. mapOption restartedLine (restIn b .lines i); day = restIn b .day; allowance = restIn b .allowance }
   unfolding restIn symbolsOf field
   relined-rest =
       let s : be (part relined nAt 1) ≡ be (part b nAt 1) = ap be (relined-head nAt 1 (omega arith)) in
       let d : eqb (be (part relined dayAt 1)) 1 ≡ eqb (be (part b dayAt 1)) 1 = ap (λ (l : List ℕ). eqb (be l) 1) (relined-head dayAt 1 (omega arith)) in
-      λ k. record { n = s k; lines = relined-lines k; day = d k }
+      let a : allowanceOn relined ≡ allowanceOn b = allowance-by b relined (all-lines .behind allowanceAt allowanceLength (omega arith)) in
+      λ k. record { n = s k; lines = relined-lines k; day = d k; allowance = a k }

@@ -18,10 +18,11 @@ use Rattle.update.proofs.EntryLaws.{bytes-every}
 use Rattle.field.proofs.ZeroLaws.{part-zeros, bytes-zeros}
 use Rattle.field.proofs.JoinLaws.{part-front, part-after, part-whole}
 use Rattle.update.proofs.BlankLaws.{length-blank, bytes-blank}
-use Rattle.opening.specs.Opening.{symbolsOf, countOf, lineIn, linesIn, restIn, pageAt, pagesIn, blankPages, freshBytes}
+use Rattle.opening.specs.Opening.{symbolsOf, countOf, lineIn, linesIn, allowanceOn, restIn, pageAt, pagesIn, blankPages, freshBytes}
 use Rattle.opening.proofs.OpeningLaws.{Sound}
+use Rattle.allowance.specs.Allowance.{allowanceLength, allowanceIn, noAllowance}
 use Rattle.page.specs.Layout.{pageLength, headLength}
-use Rattle.opening.specs.Layout.{dayAt, firstPageAt, linesAt, lineLength, linesLength, bookLength, nAt, lineCount, openingLength, pageStart, lineAt, symbolsMost, mark}
+use Rattle.opening.specs.Layout.{dayAt, firstPageAt, linesAt, lineLength, linesLength, bookLength, nAt, lineCount, allowanceAt, openingLength, pageStart, lineAt, symbolsMost, mark}
 
 -- ---- the blank pages
 
@@ -138,9 +139,24 @@ module _ (n : ℕ) where
       go i true e = ap lineIn (line-at i (ltb-true i lineCount e)) ∙ no-line
       go i false e = refl
 
-  pub fresh-rest : restIn (freshBytes n) ≡ record { n = n; lines = λ i. none; day = false }
+  allowance-zeros : part (freshBytes n) allowanceAt allowanceLength ≡ replicate allowanceLength 0
+  allowance-zeros =
+      behind (lineCount * lineLength) allowanceLength
+      ∙ part-front (replicate linesLength 0) (blankPages n) (lineCount * lineLength) allowanceLength (omega (arith, length-replicate {A = ℕ} linesLength 0))
+      ∙ part-zeros linesLength (lineCount * lineLength) allowanceLength (omega arith)
+
+  zeros-none : allowanceIn (replicate allowanceLength 0) ≡ noAllowance
+  unfolding allowanceIn field part be
+  zeros-none = refl
+
+  -- "A made book has no allowance"
+  fresh-allowance : allowanceOn (freshBytes n) ≡ noAllowance
+  unfolding allowanceOn
+  fresh-allowance = ap allowanceIn allowance-zeros ∙ zeros-none
+
+  pub fresh-rest : restIn (freshBytes n) ≡ record { n = n; lines = λ i. none; day = false; allowance = noAllowance }
   unfolding restIn
-  fresh-rest = λ k. record { n = fresh-symbols k; lines = fresh-lines k; day = eqb (fresh-day k) 1 }
+  fresh-rest = λ k. record { n = fresh-symbols k; lines = fresh-lines k; day = eqb (fresh-day k) 1; allowance = fresh-allowance k }
 
   pub fresh-pages : pagesIn (freshBytes n) ≡ []
   unfolding pagesIn

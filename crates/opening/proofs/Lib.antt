@@ -1,4 +1,5 @@
 pub mod AddLaws
+pub mod AllowanceLaws
 pub mod DayLaws
 pub mod FreshLaws
 pub mod LineLaws

@@ -10,15 +10,16 @@ use lib.Dec.{ltb, eqb}
 use lib.ListN.{length}
 use borrow.Author.Tests.{ltb-true, lt-ltb}
 use Rattle.field.specs.Field.{Bytes, be, part, field, splice, beBytes}
-use Rattle.field.proofs.Laws.{be-beBytes, bytes-beBytes, bytes-append, bytes-splice, length-splice, part-before}
+use Rattle.field.proofs.Laws.{be-beBytes, bytes-beBytes, bytes-append, bytes-splice, length-splice, part-before, part-behind}
 use Rattle.lists.specs.Lists.{upper}
 use Rattle.lists.proofs.Tests.{clash, and-true, Cut, equal, apart, cut, upper-low}
 use Rattle.text.specs.Form.{letterGood}
 use Rattle.update.proofs.TableLaws.{cell-same, cell-other}
 use Rattle.opening.specs.declared.Line.{Line}
-use Rattle.opening.specs.Opening.{symbolsOf, lineIn, lineBytes, linesIn, restIn, pageAt, pagesIn}
-use Rattle.opening.proofs.OpeningLaws.{Sound, Front, sound-by, count-by, pages-by, opening-page}
-use Rattle.opening.specs.Layout.{linesAt, lineLength, lineCount, nAt, dayAt, lineAt}
+use Rattle.opening.specs.Opening.{symbolsOf, lineIn, lineBytes, linesIn, allowanceOn, restIn, pageAt, pagesIn}
+use Rattle.opening.proofs.OpeningLaws.{Sound, Front, sound-by, count-by, allowance-by, pages-by, opening-page}
+use Rattle.allowance.specs.Allowance.{allowanceLength}
+use Rattle.opening.specs.Layout.{linesAt, lineLength, lineCount, nAt, dayAt, allowanceAt, lineAt}
 
 -- ---- a line's record
 
@@ -100,9 +101,11 @@ module _ (n : ℕ) (b : List ℕ) (sd : Sound n b) (i : ℕ) (low : i < lineCoun
       go j (apart y e) true h = rw y (ap lineIn (cell-other b linesAt lineLength lineCount i (lineBytes x) line-room low (length-line x) j (λ z. e (sym z))))
       go j (apart y e) false h = rw y
 
-  pub lined-rest : LineFits x → restIn lined ≡ record { n = restIn b .n; lines = λ j. cond (eqb j i) (some x) (restIn b .lines j); day = restIn b .day }
+  pub lined-rest : LineFits x → restIn lined ≡ record { n = restIn b .n; lines = λ j. cond (eqb j i) (some x) (restIn b .lines j); day = restIn b .day; allowance = restIn b .allowance }
   unfolding restIn symbolsOf field
   lined-rest f =
       let s : be (part lined nAt 1) ≡ be (part b nAt 1) = ap be (lined-head nAt 1 (omega arith)) in
       let d : eqb (be (part lined dayAt 1)) 1 ≡ eqb (be (part b dayAt 1)) 1 = ap (λ (l : List ℕ). eqb (be l) 1) (lined-head dayAt 1 (omega arith)) in
-      λ k. record { n = s k; lines = lined-lines f k; day = d k }
+      let a : allowanceOn lined ≡ allowanceOn b =
+      allowance-by b lined (part-behind b (lineAt i) (lineBytes x) allowanceAt allowanceLength (omega (arith, length-line x))) in
+      λ k. record { n = s k; lines = lined-lines f k; day = d k; allowance = a k }

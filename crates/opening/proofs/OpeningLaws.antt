@@ -1,4 +1,4 @@
--- A sound opening, and what the readings of a book depend on: its opening by the first 847 bytes, its pages by the rest.
+-- A sound opening, and what the readings of a book depend on: its opening by the bytes before the pages, its pages by the rest.
 -- Assumes nothing.
 use Prim.Native.Nat.{ℕ, _+_, _≤_, _<_}
 use mathlib.Core.Path.{_≡_, refl, sym, ap, _∙_, fun-ext}
@@ -16,9 +16,10 @@ use Rattle.lists.proofs.Ranges.{map-range}
 use Rattle.lists.proofs.Tests.{clash, and-true}
 use Rattle.update.specs.Parts.{readingOf}
 use Rattle.update.proofs.TableLaws.{cell-order}
-use Rattle.opening.specs.Opening.{symbolsOf, countOf, sound, lineIn, linesIn, restIn, pageAt, pagesIn}
+use Rattle.opening.specs.Opening.{symbolsOf, countOf, sound, lineIn, linesIn, allowanceOn, restIn, pageAt, pagesIn}
+use Rattle.allowance.specs.Allowance.{allowanceLength, allowanceIn}
 use Rattle.page.specs.Layout.{pageLength}
-use Rattle.opening.specs.Layout.{dayAt, firstPageAt, linesAt, lineLength, nAt, countAt, lineCount, openingLength, bookLength, pageStart, lineAt, symbolsMost, mark}
+use Rattle.opening.specs.Layout.{dayAt, firstPageAt, linesAt, lineLength, nAt, countAt, lineCount, allowanceAt, openingLength, bookLength, pageStart, lineAt, symbolsMost, mark}
 
 -- "mark, offset and length are right, n is 1 to 64, the count at most n and the day flag 0 or 1"
 pub record Sound (n : ℕ) (b : List ℕ) : Type 0 where
@@ -100,13 +101,18 @@ module _ (b b′ : List ℕ) where
       go i true e = ap lineIn (h i (ltb-true i lineCount e))
       go i false e = refl
 
+  pub allowance-by : part b′ allowanceAt allowanceLength ≡ part b allowanceAt allowanceLength → allowanceOn b′ ≡ allowanceOn b
+  unfolding allowanceOn
+  allowance-by h = ap allowanceIn h
+
   pub rest-by : Front openingLength → restIn b′ ≡ restIn b
   unfolding restIn symbolsOf field
   rest-by h =
       let n : be (part b′ nAt 1) ≡ be (part b nAt 1) = ap be (h nAt 1 (omega arith)) in
       let d : eqb (be (part b′ dayAt 1)) 1 ≡ eqb (be (part b dayAt 1)) 1 = ap (λ (l : List ℕ). eqb (be l) 1) (h dayAt 1 (omega arith)) in
       let l : linesIn b′ ≡ linesIn b = lines-by (λ i k. h (lineAt i) lineLength (omega arith)) in
-      λ i. record { n = n i; lines = l i; day = d i }
+      let a : allowanceOn b′ ≡ allowanceOn b = allowance-by (h allowanceAt allowanceLength (omega arith)) in
+      λ i. record { n = n i; lines = l i; day = d i; allowance = a i }
 
   -- ---- the pages' readings
 

@@ -4,6 +4,7 @@ use Prim.Native.Nat.{ℕ, _+_, _*_, _-_}
 use mathlib.Core.List.{List, [], _∷_}
 use Rattle.field.specs.Ascii.{B, E, K, O, Q, T, U}
 use Rattle.page.specs.Layout.{pageLength}
+use Rattle.allowance.specs.Allowance.{allowanceLength}
 
 -- QUOTEBK1
 abbrev pub mark : List ℕ
@@ -32,8 +33,12 @@ lineLength = 13
 abbrev pub lineCount : ℕ
 lineCount = 64
 
+-- behind the lines, T-14's allowance: B, a share for each line, the charges of each line
+abbrev pub allowanceAt : ℕ
+allowanceAt = linesAt + lineCount * lineLength
+
 abbrev pub openingLength : ℕ
-openingLength = linesAt + lineCount * lineLength
+openingLength = allowanceAt + allowanceLength
 
 -- from the lines to the end: zeros in a made book
 abbrev pub linesLength : ℕ

@@ -15,8 +15,9 @@ use Rattle.update.specs.Parts.{Reading, readingOf, blankPage}
 use Rattle.opening.specs.declared.Line.{Line}
 use Rattle.opening.specs.declared.LineState.{LineState}
 use Rattle.opening.specs.declared.LineState.the-variants.{Open, Closed}
+use Rattle.allowance.specs.Allowance.{Allowance, allowanceLength, allowanceIn}
 use Rattle.page.specs.Layout.{headLength, pageLength, pageSymbol}
-use Rattle.opening.specs.Layout.{nAt, countAt, dayAt, firstPageAt, lineLength, lineCount, linesLength, openingLength, bookLength, pageStart, lineAt, symbolsMost, mark}
+use Rattle.opening.specs.Layout.{nAt, countAt, dayAt, firstPageAt, lineLength, lineCount, linesLength, allowanceAt, openingLength, bookLength, pageStart, lineAt, symbolsMost, mark}
 
 unfoldable pub symbolsOf : List ℕ → ℕ
 symbolsOf b = field b nAt 1
@@ -45,14 +46,25 @@ lineBytes x = beBytes 1 (x .letter) ++ beBytes 4 (x .expected) ++ beBytes 8 (x .
 unfoldable pub linesIn : List ℕ → ℕ → Option Line
 linesIn b i = cond (ltb i lineCount) (lineIn (part b (lineAt i) lineLength)) none
 
--- n, the lines and the day
+-- ---- the allowance of T-14
+
+-- every byte pattern has this reading
+unfoldable pub allowanceOn : List ℕ → Allowance
+allowanceOn b = allowanceIn (part b allowanceAt allowanceLength)
+
+-- the book with the allowance's bytes changed
+unfoldable pub onAllowance : (List ℕ → List ℕ) → List ℕ → List ℕ
+onAllowance g b = splice b allowanceAt (g (part b allowanceAt allowanceLength))
+
+-- n, the lines, the day and the allowance
 pub record Rest : Type 0 where
   pub n : ℕ
   pub lines : ℕ → Option Line
   pub day : Bool
+  pub allowance : Allowance
 
 unfoldable pub restIn : List ℕ → Rest
-restIn b = record { n = symbolsOf b; lines = linesIn b; day = eqb (field b dayAt 1) 1 }
+restIn b = record { n = symbolsOf b; lines = linesIn b; day = eqb (field b dayAt 1) 1; allowance = allowanceOn b }
 
 -- "After a block is taken, expected becomes its number + c under that modulus, and the line's count rises by c modulo 2^64"; the letter stays
 abbrev pub lineAfter : Line → ℕ → ℕ → Line

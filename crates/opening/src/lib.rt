@@ -7,9 +7,11 @@ ghost use lib.ListN.{length};
 ghost use Rattle.field.specs.Field.{be, field, part, splice};
 ghost use Rattle.block.specs.Sequence.{nextOf};
 ghost use Rattle.update.specs.Parts.{emptied};
-ghost use Rattle.opening.specs.Opening.{lineBytes, placeIf, opened, eachPage, lineAfter, pagePlace, restartLines, restarted, sound, linesIn};
+ghost use Rattle.opening.specs.Opening.{lineBytes, placeIf, opened, eachPage, lineAfter, pagePlace, restartLines, restarted, sound, linesIn, allowanceOn, onAllowance};
+ghost use Rattle.allowance.specs.Allowance.{isUsedUp, chargedTo};
 ghost use Rattle.opening.specs.Layout.{openingLength, bookLength, countAt, lineCount, lineAt, symbolsMost, lineLength};
 ghost use Rattle.text.specs.Form.{symbolLength};
+use allowance::Allowance;
 use lists::Found;
 use page::Page;
 
@@ -17,7 +19,7 @@ use page::Page;
 pub struct Book {}
 
 impl Book {
-    pub const OPENING_LEN: usize = Book::LINES + Line::LINES * Line::LEN;
+    pub const OPENING_LEN: usize = Book::ALLOWANCE + Allowance::LEN;
 
     /// Where the first page starts, as the opening says it.
     pub const OFFSET: u32 = Book::OPENING_LEN as u32;
@@ -29,7 +31,7 @@ impl Book {
     pub const SYMBOLS_MAX: usize = Book::N_MAX as usize;
     /// QUOTEBK1, as one number.
     pub const MARK: u64 = 0x51554F5445424B31;
-    /// n, the count of symbols, the day flag, the offset of the first page, the lines.
+    /// n, the count of symbols, the day flag, the offset of the first page, the lines, the allowance.
     pub const N: usize = 8;
 
     pub const COUNT: usize = Book::N + 1;
@@ -39,6 +41,8 @@ impl Book {
     pub const FIRST_PAGE: usize = Book::DAY + 1;
 
     pub const LINES: usize = Book::FIRST_PAGE + 4;
+    /// Behind the lines: B, the shares and the charges.
+    pub const ALLOWANCE: usize = Book::LINES + Line::LINES * Line::LEN;
 
     pub const PUBLICATION_LEN: usize = Page::ENTRIES_LEN;
 }
@@ -187,6 +191,26 @@ pub fn put_line(book: &mut [u8], line: u32, x: Line)
     field::put8(book, at, x.letter);
     field::put32(book, at + Line::EXPECTED, x.expected);
     field::put64(book, at + Line::COUNT, x.count);
+}
+
+/// Check 86: the line's share of the allowance is used, and the spare is.
+pub fn is_used_up(book: &[u8], line: u32) -> bool
+    requires { ⌜ (openingLength ≤ length (now book)) × (line < lineCount) ⌝ }
+    ensures { λ r. ⌜ r ≡ isUsedUp (allowanceOn (now (book .entry))) line ⌝ }
+{
+    let a = Book::ALLOWANCE;
+    let e = Book::OPENING_LEN;
+    allowance::is_used_up(&book[a..e], line as usize)
+}
+
+/// Charges a block to its line, if an allowance is set.
+pub fn charge(book: &mut [u8], line: u32)
+    requires { ⌜ (openingLength ≤ length (now book)) × (line < lineCount) ⌝ }
+    ensures { λ _. ⌜ now (book .exit) ≡ onAllowance (chargedTo line) (now (book .entry)) ⌝ }
+{
+    let a = Book::ALLOWANCE;
+    let e = Book::OPENING_LEN;
+    allowance::charge(&mut book[a..e], line as usize);
 }
 
 // A block of c messages with that sequence number moves its line on, in place. Its proof is by hand, so this stays thin.

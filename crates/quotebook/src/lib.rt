@@ -1,7 +1,7 @@
 // The C interface: the calls on a book and the writer of blocks under the names of include/quotebook.h. A `&[u8]` is a pointer and a length there.
 ghost use mathlib.Core.Path.{_≡_};
 ghost use mathlib.Core.Bool.{cond};
-ghost use Rattle.calls.specs.Call.{bare, call, make, add, openLine, startDay, endDay};
+ghost use Rattle.calls.specs.Call.{bare, call, make, add, openLine, startDay, endDay, setAllowance, tick};
 ghost use Rattle.calls.specs.Buffers.{readOut};
 ghost use Rattle.quotebook.specs.Interface.{bookLen, libraryVersion, takenNumbers, protectedNumbers, triedNumbers, writtenNumbers, lengthNumbers, convertedNumbers, sizeNumbers, feedNumbers};
 use opening::Book;
@@ -11,7 +11,7 @@ const OPENING: u64 = Book::OPENING_LEN as u64;
 const PAGE: u64 = Book::PAGE_LEN as u64;
 
 // 10000 * major + 100 * minor + patch
-const VERSION: u32 = 10000;
+const VERSION: u32 = 10100;
 
 /// The library's version; the header's is QB_LIBRARY_VERSION.
 #[no_mangle]
@@ -68,6 +68,20 @@ pub extern "C" fn qb_end_day(book: &mut [u8]) -> u8
     ensures { λ r. ⌜ record { bytes = now (book .exit); answer = bare r } ≡ call (now (book .entry)) endDay ⌝ }
 {
     book::end_day(book)
+}
+
+#[no_mangle]
+pub extern "C" fn qb_set_allowance(book: &mut [u8], blocks: u32, shares: &[u8]) -> u8
+    ensures { λ r. ⌜ record { bytes = now (book .exit); answer = bare r } ≡ call (now (book .entry)) (setAllowance blocks (now (shares .entry))) ⌝ }
+{
+    ticks::set_allowance(book, blocks, shares)
+}
+
+#[no_mangle]
+pub extern "C" fn qb_tick(book: &mut [u8]) -> u8
+    ensures { λ r. ⌜ record { bytes = now (book .exit); answer = bare r } ≡ call (now (book .entry)) tick ⌝ }
+{
+    ticks::next_tick(book)
 }
 
 /// The report's seven numbers: number, gap, next expected, count, accepted, partly accepted, rejected. The result is the number too.

@@ -18,7 +18,7 @@ use Rattle.update.proofs.EntryLaws.{bytes-every}
 use Rattle.opening.specs.declared.Line.{Line}
 use Rattle.opening.specs.Opening.{linesIn, restIn, pagesIn}
 use Rattle.line.specs.Line.{done}
-use Rattle.calls.specs.Call.{Call, make, add, openLine, startDay, endDay, take, read, protected, convertLen, convert, snapshotLen, snapshot, tryOrder, numberOf, Answer, bare, lineAnswer, published, askedSide, protectionTold, orderSide, stepsTold, sizeTold, snapshotTold, letterOf, answerOf, entriesIn, publishedOn, candidatesIn, candidatesOn, quotesFor, quotesOn, numberOn, answerOn, call}
+use Rattle.calls.specs.Call.{Call, make, add, openLine, startDay, endDay, take, read, protected, convertLen, convert, snapshotLen, snapshot, tryOrder, setAllowance, tick, numberOf, Answer, bare, lineAnswer, published, askedSide, protectionTold, orderSide, stepsTold, sizeTold, snapshotTold, letterOf, answerOf, entriesIn, publishedOn, candidatesIn, candidatesOn, quotesFor, quotesOn, numberOn, answerOn, call}
 use Rattle.work.specs.Work.{Listed, isListed, findReading, listedOf, toldOn}
 use Rattle.opening.proofs.OpeningLaws.{Sound, sound-is}
 use Rattle.opening.proofs.LineLaws.{line-upper, line-open}
@@ -93,6 +93,8 @@ module _ (n : ℕ) (b : List ℕ) (h : List (List ℕ)) (sd : Sound n b) (y : By
           → published (numberOf (restIn b) ls (read x k)) (publishedOn b (be x)) ≡ published (numberOf (restIn b) ls (read x k)) (reviewed h (be x))
       go true e = rw (read-same (be x) (read-done (restIn b) ls x k e .1))
       go false e = rw e
+  answer-same (setAllowance k ss) z = refl
+  answer-same tick z = refl
   answer-same (protected x m v) z = go (done (numberOf (restIn b) ls (protected x m v))) refl
     where
       told : (Side → ℕ → Option Candidate) → Answer
@@ -151,6 +153,8 @@ module _ (n : ℕ) (b : List ℕ) (h : List (List ℕ)) (sd : Sound n b) (y : By
   answer-sound (snapshotLen x) = rw (sound-is n b sd)
   answer-sound (snapshot x k) = rw (sound-is n b sd)
   answer-sound (tryOrder x m w k) = rw (sound-is n b sd)
+  answer-sound (setAllowance k ss) = rw (sound-is n b sd)
+  answer-sound tick = rw (sound-is n b sd)
 
   answer-view : (k : Call) → blockIsBytes k ≡ true → answerOn b k ≡ reviewAnswer (viewOf b h) k
   unfolding reviewAnswer

@@ -10,28 +10,33 @@ use lib.Dec.{ltb, leb, eqb, lit<, lit≤}
 use lib.ListN.{length}
 use Rattle.field.specs.Field.{Bytes, be, part, field, splice}
 use Rattle.field.proofs.Laws.{field-lt, length-part, bytes-part}
+use Rattle.allowance.specs.Allowance.{allowanceLength, allowanceIn, isUsedUp, charged, chargedBytes, setTo, settingBytes, tickedBytes}
+use Rattle.allowance.proofs.ByteLaws.{length-charged, length-ticked, ticked-view, length-setting, setting-view}
+use Rattle.allowance.proofs.ClaimLaws.{Settable, settable}
+use Rattle.allowance.proofs.ViewLaws.{charged-allowance}
 use Rattle.lists.specs.Lists.{mapOption}
 use Rattle.lists.proofs.Tests.{clash}
 use Rattle.text.specs.Form.{letterGood, symbolLength}
 use Rattle.block.specs.Block.{countIn, sequenceIn, messagesOf, idleBlock}
 use Rattle.block.specs.Sequence.{gapOf, nextOf, arrivalOf}
 use Rattle.block.specs.declared.Arrival.the-variants.{Taken, Duplicate}
-use Rattle.update.specs.Parts.{emptied}
+use Rattle.update.specs.Parts.{Reading, emptied}
 use Rattle.update.proofs.Model.{blankReading, blanked}
 use Rattle.update.proofs.EntryLaws.{bytes-every}
 use Rattle.update.proofs.BlankLaws.{emptied-kept, emptied-reads}
 use Rattle.opening.specs.declared.Line.{Line}
-use Rattle.opening.specs.Opening.{symbolsOf, countOf, lineIn, linesIn, restIn, pagesIn, eachPage, restartLines}
-use Rattle.line.specs.Line.{done, nextBy, advanced}
-use Rattle.calls.specs.Call.{Call, make, add, openLine, startDay, endDay, take, read, protected, convertLen, convert, snapshotLen, snapshot, tryOrder, numberOf, letterOf, advanceOn, afterCall, call}
+use Rattle.opening.specs.Opening.{Rest, symbolsOf, countOf, lineIn, lineBytes, linesIn, allowanceOn, onAllowance, restIn, pagesIn, eachPage, restartLines}
+use Rattle.line.specs.Line.{done, nextBy, advanced, settled}
+use Rattle.calls.specs.Call.{Call, make, add, openLine, startDay, endDay, take, read, protected, convertLen, convert, snapshotLen, snapshot, tryOrder, setAllowance, tick, numberOf, letterOf, advanceOn, afterCall, call}
+use Rattle.opening.proofs.AllowanceLaws.{length-allowance, allowed-pages, allowed-rest}
 use Rattle.work.specs.Work.{Listed, listedOf, messagesOn}
 use Rattle.opening.proofs.OpeningLaws.{Sound, rest-by}
 use Rattle.opening.proofs.PageLaws.{OpeningKept, kept-sound, each-kept, each-reads}
-use Rattle.opening.proofs.LineLaws.{LineFits, line-upper, line-open, lined, lined-pages, lined-rest}
+use Rattle.opening.proofs.LineLaws.{LineFits, line-upper, line-open, lined, lined-sound, lined-bytes, lined-pages, lined-rest}
 use Rattle.opening.proofs.DayLaws.{dayed-pages, dayed-rest, relined-sound, relined-pages, relined-rest}
 use Rattle.opening.proofs.FreshLaws.{fresh-rest, fresh-pages}
 use Rattle.opening.proofs.AddLaws.{added, added-rest, added-pages}
-use Rattle.calls.proofs.NumberLaws.{number-same, page-free, AddDone, add-done, open-done, take-done, symbol-eleven}
+use Rattle.calls.proofs.NumberLaws.{number-same, page-free, AddDone, add-done, open-done, take-done, take-left, setting-done, symbol-eleven}
 use Rattle.calls.proofs.SoundLaws.{Stays, call-stays}
 use Rattle.review.specs.Reviewer.{parts, messagesR, Review, setLine, restart, restAfter, symbolsAfter, historyAfter, reviewCall}
 use Rattle.review.specs.Lists.{blockIsBytes}
@@ -39,7 +44,7 @@ use Rattle.review.proofs.Agree.{Core}
 use Rattle.review.proofs.ListLaws.{core-none, emptied-listed, core-emptied, added-listed, core-added}
 use Rattle.review.proofs.WorkLaws.{messagesReading, messages-core, messages-listed}
 use Rattle.review.proofs.BytesLaws.{Done, messages-bytes, messages-done}
-use Rattle.opening.specs.Layout.{dayAt, lineLength, lineCount, lineAt}
+use Rattle.opening.specs.Layout.{allowanceAt, dayAt, lineLength, lineCount, lineAt}
 
 -- what the book's bytes and the reviewer share
 pub record Held (b : List ℕ) (v : Review) : Type 0 where
@@ -100,6 +105,25 @@ advanced-fits x b f = go (idleBlock b)
     go true = f
     go false = record { good = f .good; expected = next-fits (x .expected) (sequenceIn b) (countIn b) (f .expected); count = omega arith }
 
+-- ---- the block charged
+
+-- what is read of a book whose line's record is written and the block charged, unless it is free
+record SettledAs (i : ℕ) (x : Line) (free : Bool) (b : List ℕ) (old : Rest) (ps : List Reading) : Type 0 where
+  rest : restIn (settled i x free b) ≡ record { n = old .n; lines = old .lines; day = old .day; allowance = cond free (old .allowance) (charged (old .allowance) i) }
+  pages : pagesIn (settled i x free b) ≡ ps
+
+settled-as : (n : ℕ) (b₁ : List ℕ) (i : ℕ) (x : Line) (free : Bool) → Sound n (splice b₁ (lineAt i) (lineBytes x)) → Bytes (splice b₁ (lineAt i) (lineBytes x)) → i < lineCount
+    → (free ≡ false → isUsedUp (restIn (splice b₁ (lineAt i) (lineBytes x)) .allowance) i ≡ false)
+    → SettledAs i x free b₁ (restIn (splice b₁ (lineAt i) (lineBytes x))) (pagesIn (splice b₁ (lineAt i) (lineBytes x)))
+unfolding settled onAllowance restIn allowanceOn
+settled-as n b₁ i x true sd y h u = record { rest = refl; pages = refl }
+settled-as n b₁ i x false sd y h u =
+    let b : List ℕ = splice b₁ (lineAt i) (lineBytes x) in
+    let a : List ℕ = part b allowanceAt allowanceLength in
+    let l : length a ≡ allowanceLength = length-allowance b (omega (arith, sd .size)) in
+    let w : length (chargedBytes a i) ≡ allowanceLength = length-charged a l i h in
+    record { rest = allowed-rest n b sd (chargedBytes a i) w ∙ (λ j. record { n = restIn b .n; lines = restIn b .lines; day = restIn b .day; allowance = charged-allowance a i l (bytes-part b allowanceAt allowanceLength y) h (u refl) j }); pages = allowed-pages n b sd (chargedBytes a i) w }
+
 -- ---- what a call that is done leaves
 
 module _ (n : ℕ) (b : List ℕ) (h : List (List ℕ)) (sd : Sound n b) (y : Bytes b) (c : Core (parts h) (pagesIn b)) where
@@ -150,8 +174,8 @@ module _ (n : ℕ) (b : List ℕ) (h : List (List ℕ)) (sd : Sound n b) (y : By
       let r : restIn b₁ ≡ restIn b = rest-by b b₁ (k .front) in
       record {
         rest = dayed-rest n (restartLines 0 lineCount b₁) s₂ 1 (lit≤ tt)
-            ∙ (λ i. record { n = relined-rest n b₁ s₁ i .n; lines = relined-rest n b₁ s₁ i .lines; day = true })
-            ∙ (λ i. record { n = r i .n; lines = λ j. mapOption restart (r i .lines j); day = true });
+            ∙ (λ i. record { n = relined-rest n b₁ s₁ i .n; lines = relined-rest n b₁ s₁ i .lines; day = true; allowance = relined-rest n b₁ s₁ i .allowance })
+            ∙ (λ i. record { n = r i .n; lines = λ j. mapOption restart (r i .lines j); day = true; allowance = r i .allowance });
         listed = ap listedOf p ∙ emptied-listed (pagesIn b);
         core = rw p (core-emptied (pagesIn b) (c .once));
       }
@@ -169,7 +193,13 @@ module _ (n : ℕ) (b : List ℕ) (h : List (List ℕ)) (sd : Sound n b) (y : By
       go : (o : Option Line) → linesIn b i ≡ o
           → Held (advanceOn i x o (messagesOn (letterOf o) (messagesOf x) b))
           (record {
-            rest = record { n = restIn b .n; lines = λ j. cond (eqb j i) (mapOption (λ r. advanced r x) o) (restIn b .lines j); day = restIn b .day };
+            rest =
+                record {
+                  n = restIn b .n;
+                  lines = λ j. cond (eqb j i) (mapOption (λ r. advanced r x) o) (restIn b .lines j);
+                  day = restIn b .day;
+                  allowance = cond (idleBlock x) (restIn b .allowance) (charged (restIn b .allowance) i);
+                };
             symbols = ls;
             history = messagesR ls (letterOf o) (messagesOf x) h;
           })
@@ -182,12 +212,19 @@ module _ (n : ℕ) (b : List ℕ) (h : List (List ℕ)) (sd : Sound n b) (y : By
           messages-done n (r .letter) (line-upper r (f .good)) (messagesOf x) b (messages-bytes x z) sd y in
           let s₁ : Sound n b₁ = kept-sound b b₁ (t .kept) n sd in
           let q : restIn b₁ ≡ restIn b = rest-by b b₁ (t .kept .front) in
-          let p : pagesIn (lined n b₁ s₁ i l (advanced r x)) ≡ messagesReading (r .letter) (messagesOf x) (pagesIn b) = lined-pages n b₁ s₁ i l (advanced r x) ∙ t .pages in
+          let b₂ : List ℕ = lined n b₁ s₁ i l (advanced r x) in
+          let s₂ : Sound n b₂ = lined-sound n b₁ s₁ i l (advanced r x) in
+          let y₂ : Bytes b₂ = lined-bytes n b₁ s₁ i l (advanced r x) (t .kept .bytes y) in
+          let u : restIn b₂ ≡ record { n = restIn b .n; lines = setLine i (advanced r x) (restIn b .lines); day = restIn b .day; allowance = restIn b .allowance } =
+          lined-rest n b₁ s₁ i l (advanced r x) (advanced-fits r x f)
+          ∙ (λ j. record { n = q j .n; lines = setLine i (advanced r x) (q j .lines); day = q j .day; allowance = q j .allowance }) in
+          let p : pagesIn b₂ ≡ messagesReading (r .letter) (messagesOf x) (pagesIn b) = lined-pages n b₁ s₁ i l (advanced r x) ∙ t .pages in
+          let m : SettledAs i (advanced r x) (idleBlock x) b₁ (restIn b₂) (pagesIn b₂) =
+          settled-as n b₁ i (advanced r x) (idleBlock x) s₂ y₂ l (λ e₂. rw (← ap (λ (w : Rest). w .allowance) u) at (take-left (restIn b) ls i x k r d e e₂)) in
           record {
-            rest = lined-rest n b₁ s₁ i l (advanced r x) (advanced-fits r x f)
-                ∙ (λ j. record { n = q j .n; lines = setLine i (advanced r x) (q j .lines); day = q j .day });
-            listed = ap listedOf p ∙ messages-listed (r .letter) ls (messagesOf x) (pagesIn b);
-            core = rw p (messages-core (r .letter) ls (messagesOf x) h (pagesIn b) refl c);
+            rest = m .rest ∙ (λ j. record { n = u j .n; lines = u j .lines; day = u j .day; allowance = cond (idleBlock x) (u j .allowance) (charged (u j .allowance) i) });
+            listed = ap listedOf (m .pages ∙ p) ∙ messages-listed (r .letter) ls (messagesOf x) (pagesIn b);
+            core = rw (m .pages ∙ p) (messages-core (r .letter) ls (messagesOf x) h (pagesIn b) refl c);
           }
 
   after-read : (x : List ℕ) (k : ℕ) → Then (read x k)
@@ -218,6 +255,31 @@ module _ (n : ℕ) (b : List ℕ) (h : List (List ℕ)) (sd : Sound n b) (y : By
   unfolding afterCall restAfter symbolsAfter historyAfter
   after-order x m w k = record { rest = refl; listed = refl; core = c }
 
+  after-setting : (k : ℕ) (ss : List ℕ) → IsDone (setAllowance k ss) → Then (setAllowance k ss)
+  unfolding afterCall restAfter symbolsAfter historyAfter
+  after-setting k ss d =
+      let s : Settable k ss = settable k ss (setting-done (restIn b) ls k ss d) in
+      let w : length (settingBytes k ss) ≡ allowanceLength = length-setting k ss (s .whole) in
+      let p : pagesIn (splice b allowanceAt (settingBytes k ss)) ≡ pagesIn b = allowed-pages n b sd (settingBytes k ss) w in
+      let v : allowanceIn (settingBytes k ss) ≡ setTo k ss = setting-view k ss (s .whole) (omega (arith, s .most)) in
+      record {
+        rest = allowed-rest n b sd (settingBytes k ss) w ∙ (λ i. record { n = restIn b .n; lines = restIn b .lines; day = restIn b .day; allowance = v i });
+        listed = ap listedOf p;
+        core = rw p c;
+      }
+
+  after-tick : Then tick
+  unfolding afterCall restAfter symbolsAfter historyAfter onAllowance restIn allowanceOn
+  after-tick =
+      let a : List ℕ = part b allowanceAt allowanceLength in
+      let l : length (part b allowanceAt allowanceLength) ≡ allowanceLength = length-allowance b (omega (arith, sd .size)) in
+      let p : pagesIn (splice b allowanceAt (tickedBytes a)) ≡ pagesIn b = allowed-pages n b sd (tickedBytes a) (length-ticked a l) in
+      record {
+        rest = allowed-rest n b sd (tickedBytes a) (length-ticked a l) ∙ (λ i. record { n = restIn b .n; lines = restIn b .lines; day = restIn b .day; allowance = ticked-view a l i });
+        listed = ap listedOf p;
+        core = rw p c;
+      }
+
   after : (k : Call) → blockIsBytes k ≡ true → IsDone k → Then k
   after (make k) z d = after-make k d
   after (add x l m) z d = after-add x l m d
@@ -232,6 +294,8 @@ module _ (n : ℕ) (b : List ℕ) (h : List (List ℕ)) (sd : Sound n b) (y : By
   after (snapshotLen x) z d = after-len x
   after (snapshot x k) z d = after-snapshot x k
   after (tryOrder x m w k) z d = after-order x m w k
+  after (setAllowance k ss) z d = after-setting k ss d
+  after tick z d = after-tick
 
   call-view : (k : Call) → blockIsBytes k ≡ true → Held (call b k .bytes) (reviewCall (viewOf b h) k)
   unfolding call reviewCall

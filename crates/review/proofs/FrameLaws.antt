@@ -1,10 +1,11 @@
 -- The frame, on any bytes: a block changes no byte of a page whose symbol no accepted or partly accepted message in it touches.
 -- Assumes nothing.
-use Prim.Native.Nat.{ℕ}
+use Prim.Native.Nat.{ℕ, _<_}
 use mathlib.Core.Path.{_≡_, refl, sym, ap, _∙_}
 use mathlib.Core.Bool.{Bool, true, false, cond}
 use mathlib.Core.List.{List, [], _∷_}
 use mathlib.Core.Option.{Option, none, some}
+use native.Mathlib.Omega.{arith}
 use lib.Dec.{eqb}
 use lib.ListN.{length}
 use borrow.Author.Tests.{eq-eqb}
@@ -13,22 +14,27 @@ use Rattle.lists.proofs.Tests.{clash, Cut, equal, apart, cut}
 use Rattle.message.specs.declared.Kind.{Kind}
 use Rattle.message.specs.declared.Kind.the-variants as kind
 use Rattle.message.specs.Message.{kindOf, symbolOf, Part, roundPart, oddPart, makerPart, finraPart, statusPart, roundPartOf, partlyTaken, wholeBy, partsOf}
-use Rattle.block.specs.Block.{messagesOf}
+use Rattle.block.specs.Block.{idleBlock, messagesOf}
 use Rattle.update.specs.Parts.{knownOf, roundOn, oddOnPage, makerOn, statusOn}
+use Rattle.field.specs.Field.{part, splice}
+use Rattle.allowance.specs.Allowance.{allowanceLength, chargedBytes}
+use Rattle.allowance.proofs.ByteLaws.{length-charged}
 use Rattle.update.proofs.EntryLaws.{Kept}
 use Rattle.update.proofs.SlotLaws.{round-kept, odd-kept}
 use Rattle.update.proofs.MakerLaws.{maker-kept}
 use Rattle.update.proofs.StatusLaws.{status-kept}
 use Rattle.message.proofs.SpokenLaws.{Shaped, AllShaped, shaped}
 use Rattle.opening.specs.declared.Line.{Line}
-use Rattle.opening.specs.Opening.{symbolsOf, sound, linesIn, restIn, pageAt, pagesIn, onPage}
-use Rattle.line.specs.Line.{done, advanced}
+use Rattle.opening.specs.Opening.{symbolsOf, sound, lineBytes, linesIn, onAllowance, restIn, pageAt, pagesIn, onPage}
+use Rattle.opening.specs.Layout.{allowanceAt, lineAt, lineCount}
+use Rattle.opening.proofs.AllowanceLaws.{length-allowance, allowed-page}
+use Rattle.line.specs.Line.{done, advanced, settled}
 use Rattle.calls.specs.Call.{take, letterOf, advanceOn, afterCall, numberOn, call}
 use Rattle.work.specs.Work.{listedOf, findReading, partOn, partsOn, codeOn, messageOn, messagesOn, toldOn}
 use Rattle.opening.proofs.OpeningLaws.{Sound, sound-of}
 use Rattle.opening.proofs.PageLaws.{kept-sound, place-hit, on-other}
 use Rattle.work.proofs.PartLaws.{part-kept}
-use Rattle.opening.proofs.LineLaws.{line-upper, line-open, lined-page}
+use Rattle.opening.proofs.LineLaws.{line-upper, line-open, lined-sound, lined-page}
 use Rattle.calls.proofs.NumberLaws.{number-same, unsound, take-done}
 use Rattle.work.proofs.KeptLaws.{message-kept, messages-kept}
 use Rattle.review.specs.Frame.{touchesBy, touches, touched, takenOf, takenOn}
@@ -127,6 +133,16 @@ module _ (n j letter : ℕ) (u : upper letter ≡ true) (s : ℕ) where
 
 -- ---- a block
 
+-- the line's record and the charge are in the opening
+settled-page : (n : ℕ) (b : List ℕ) → Sound n b → (i : ℕ) → i < lineCount → (x : Line) (free : Bool) (j : ℕ) → pageAt (settled i x free b) j ≡ pageAt b j
+unfolding settled onAllowance
+settled-page n b sd i h x true j = lined-page n b sd i h x j
+settled-page n b sd i h x false j =
+    let b₁ : List ℕ = splice b (lineAt i) (lineBytes x) in
+    let s₁ : Sound n b₁ = lined-sound n b sd i h x in
+    let a : List ℕ = part b₁ allowanceAt allowanceLength in
+    allowed-page n b₁ s₁ (chargedBytes a i) (length-charged a (length-allowance b₁ (omega (arith, s₁ .size))) i h) j ∙ lined-page n b sd i h x j
+
 sound-framed : (n : ℕ) (b : List ℕ) → Sound n b → (i : ℕ) (k : List ℕ) (room j : ℕ) → done (numberOn b (take i k room)) ≡ true
     → touched (takenOf (messagesOf k) (toldOn b (letterOf (linesIn b i)) (messagesOf k))) (pageSymbol (pageAt b j)) ≡ false
     → pageAt (advanceOn i k (linesIn b i) (messagesOn (letterOf (linesIn b i)) (messagesOf k) b)) j ≡ pageAt b j
@@ -140,7 +156,7 @@ sound-framed n b sd i k room j d = go (linesIn b i) refl
         let g = line-open b i r e in
         let u : upper (r .letter) ≡ true = line-upper r (g .1) in
         let b₁ : List ℕ = messagesOn (r .letter) (messagesOf k) b in
-        lined-page n b₁ (kept-sound b b₁ (messages-kept n (r .letter) u (messagesOf k) b sd) n sd) i (g .0) (advanced r k) j
+        settled-page n b₁ (kept-sound b b₁ (messages-kept n (r .letter) u (messagesOf k) b sd) n sd) i (g .0) (advanced r k) (idleBlock k) j
         ∙ messages-framed n j (r .letter) u (pageSymbol (pageAt b j)) (messagesOf k) b sd refl t
 
 pub block-frame : (b : List ℕ) (i : ℕ) (k : List ℕ) (room j : ℕ) → touched (takenOn b i k room) (pageSymbol (pageAt b j)) ≡ false → pageAt (call b (take i k room) .bytes) j ≡ pageAt b j

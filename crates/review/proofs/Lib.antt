@@ -37,8 +37,10 @@ pub mod FinraOddLots
 pub mod Closed
 pub mod Leading
 pub mod Conversions
+pub mod Allowed
 pub mod Openings
 pub mod Statements
 pub mod BookCases
 pub mod Run
 pub mod Recovery
+pub mod TickClaims

@@ -9,7 +9,8 @@ use lib.Dec.{ltb, leb, eqb}
 use lib.ListN.{length}
 use Rattle.quote.specs.Quote.{emptyQuote}
 use Rattle.field.specs.Field.{be, field}
-use Rattle.lists.specs.Lists.{at, member, all, isSome}
+use Rattle.lists.specs.Lists.{at, member, all, isSome, sum}
+use Rattle.allowance.specs.Allowance.{blocksMost, isUsedUp, settingNumber, shareCount}
 use Rattle.lists.proofs.Tables.{in-range}
 use Rattle.quote.specs.declared.Quote.{Quote}
 use Rattle.levels.specs.declared.Item.{Item}
@@ -27,7 +28,7 @@ use Rattle.block.specs.declared.Arrival.the-variants.{Taken, Duplicate}
 use Rattle.opening.specs.declared.Line.{Line}
 use Rattle.opening.specs.Opening.{sound, Rest, restIn, pagesIn}
 use Rattle.line.specs.Line.{arrivalNumberOf, lineNumber, checkedNumberOf, blockNumber, onLine}
-use Rattle.calls.specs.Call.{Call, make, add, openLine, startDay, endDay, take, read, protected, convertLen, convert, snapshotLen, snapshot, tryOrder, lots, sideMarks, lotsGood, numberOf, makeGood, isMake, numberOn}
+use Rattle.calls.specs.Call.{Call, make, add, openLine, startDay, endDay, take, read, protected, convertLen, convert, snapshotLen, snapshot, tryOrder, setAllowance, tick, lots, sideMarks, lotsGood, numberOf, makeGood, isMake, numberOn}
 use Rattle.work.specs.Work.{Listed, isListed, listedOf}
 use Rattle.review.specs.Numbers.{numbersOf, codes}
 use Rattle.entries.specs.Publication.{publicationLength}
@@ -113,35 +114,35 @@ module _ (i : ℕ) (b : List ℕ) (room : ℕ) where
   abbrev InTake : ℕ → Type 0
   InTake k = Among (numbersOf (take i b room)) k
 
-  arrival-known : (a : Arrival) → InTake (arrivalNumberOf a)
+  arrival-known : (used : Bool) (a : Arrival) → InTake (arrivalNumberOf used a)
   unfolding member
-  arrival-known (Taken gap next) = either (eqb gap 0) (among refl) (among refl)
-  arrival-known Duplicate = among refl
+  arrival-known used (Taken gap next) = either used (among refl) (either (eqb gap 0) (among refl) (among refl))
+  arrival-known used Duplicate = among refl
 
-  line-known : (r : Line) (day : Bool) → InTake (lineNumber r day b)
+  line-known : (r : Line) (day used : Bool) → InTake (lineNumber r day used b)
   unfolding lineNumber member
-  line-known r day = either (idleBlock b) (among refl) (either day (arrival-known (arrivalOf (sequenceIn b) (r .expected) (countIn b))) (among refl))
+  line-known r day used = either (idleBlock b) (among refl) (either day (arrival-known used (arrivalOf (sequenceIn b) (r .expected) (countIn b))) (among refl))
 
   -- 30 to 34, each where its check refuses
-  check : (r : Line) (day : Bool) (t : Bool) (x : Checked) (k : ℕ) → InTake k → InTake (checkedNumberOf r day b x) → InTake (checkedNumberOf r day b (cond t x (checks.Refused k)))
-  check r day true x k a c = c
-  check r day false x k a c = a
+  check : (r : Line) (day used : Bool) (t : Bool) (x : Checked) (k : ℕ) → InTake k → InTake (checkedNumberOf r day used b x) → InTake (checkedNumberOf r day used b (cond t x (checks.Refused k)))
+  check r day used true x k a c = c
+  check r day used false x k a c = a
 
-  block-known : (r : Line) (day : Bool) → InTake (blockNumber r day b)
+  block-known : (r : Line) (day used : Bool) → InTake (blockNumber r day used b)
   unfolding blockNumber checked member
-  block-known r day =
-      check r day (lengthGood b) _ 30 (among refl)
-      (check r day (eqb (at b 0) 1) _ 31 (among refl)
-      (check r day (eqb (checksumOf b) (field b 8 2)) _ 32 (among refl) (check r day (tableGood b) _ 33 (among refl) (alone (controlAmong b)))))
+  block-known r day used =
+      check r day used (lengthGood b) _ 30 (among refl)
+      (check r day used (eqb (at b 0) 1) _ 31 (among refl)
+      (check r day used (eqb (checksumOf b) (field b 8 2)) _ 32 (among refl) (check r day used (tableGood b) _ 33 (among refl) (alone (controlAmong b)))))
     where
-      alone : (t : Bool) → InTake (checkedNumberOf r day b (cond t (checks.Refused 34) (checks.Pass (countIn b))))
+      alone : (t : Bool) → InTake (checkedNumberOf r day used b (cond t (checks.Refused 34) (checks.Pass (countIn b))))
       alone true = among refl
-      alone false = line-known r day
+      alone false = line-known r day used
 
-  on-known : (day : Bool) (o : Option Line) → InTake (onLine day b o)
+  on-known : (day used : Bool) (o : Option Line) → InTake (onLine day used b o)
   unfolding member
-  on-known day none = among refl
-  on-known day (some r) = block-known r day
+  on-known day used none = among refl
+  on-known day used (some r) = block-known r day used
 
 -- a venue's block
 venue-among : (ns : List ℕ) (v : List ℕ) → Among ns 0 → Among ns 79 → Among ns 78 → Among ns (venueNumber v)
@@ -158,7 +159,7 @@ convert-known v room =
     either (eqb (venueNumber v) 0) (either (ltb room (neededOf v)) (among refl) (among refl)) (venue-among (numbersOf (convert v room)) v (among refl) (among refl) (among refl))
 
 number-of : (r : Rest) (ls : List Listed) (c : Call) → Among (numbersOf c) (numberOf r ls c)
-unfolding numberOf member
+unfolding numberOf settingNumber member
 number-of r ls (make n) = either (eqb n (r .n)) (among refl) (among refl)
 number-of r ls (add s k l) =
     either (symbolGood s)
@@ -169,7 +170,7 @@ number-of r ls (add s k l) =
 number-of r ls (openLine i l) = either (ltb i lineCount && letterGood l) (either (isSome (r .lines i)) (among refl) (among refl)) (among refl)
 number-of r ls startDay = either (r .day) (among refl) (among refl)
 number-of r ls endDay = either (r .day) (among refl) (among refl)
-number-of r ls (take i b room) = either (ltb room answerLength) (among refl) (on-known i b room (r .day) (r .lines i))
+number-of r ls (take i b room) = either (ltb room answerLength) (among refl) (on-known i b room (r .day) (isUsedUp (r .allowance) i) (r .lines i))
 number-of r ls (read s room) = either (ltb room publicationLength) (among refl) (either (symbolGood s && isListed (be s) ls) (among refl) (among refl))
 number-of r ls (protected s m x) = either (symbolGood s && isListed (be s) ls) (either (member sideMarks m) (among refl) (among refl)) (among refl)
 number-of r ls (convertLen v) = venue-known v
@@ -180,6 +181,8 @@ number-of r ls (tryOrder s m w room) =
     either (symbolGood s && isListed (be s) ls)
     (either (member sideMarks m) (either (lotsGood w) (either (ltb room stepsLength) (among refl) (among refl)) (among refl)) (among refl))
     (among refl)
+number-of r ls (setAllowance n ss) = either (leb 1 n && leb n blocksMost) (either (eqb (length ss) shareCount && leb (sum ss) n) (among refl) (among refl)) (among refl)
+number-of r ls tick = among refl
 
 sounded : (b : List ℕ) (c : Call) → isMake c ≡ false → member (numbersOf c) 1 ≡ true → Among (numbersOf c) (numberOn b c)
 unfolding numberOn
@@ -200,6 +203,8 @@ known-of b (convert v room) = sounded b (convert v room) refl refl
 known-of b (snapshotLen s) = sounded b (snapshotLen s) refl refl
 known-of b (snapshot s room) = sounded b (snapshot s room) refl refl
 known-of b (tryOrder s m w room) = sounded b (tryOrder s m w room) refl refl
+known-of b (setAllowance n ss) = sounded b (setAllowance n ss) refl refl
+known-of b tick = sounded b tick refl refl
 
 -- the number of a call is one of document 01's, on any bytes; 81 apart, which a snapshot tells with its answer
 pub number-known : (b : List ℕ) (c : Call) → member (numbersOf c) (numberOn b c) ≡ true

@@ -15,7 +15,7 @@ use Rattle.message.specs.declared.Message.{Message}
 use Rattle.message.specs.Message.{symbolOf, quoteAt, roundConditions, messageOf, Known, codeBy, codeOf, Part, roundPart, oddPart, makerPart, finraPart, statusPart, roundPartOf, oddPartOf, makerPartOf, statusPartOf, partsOf, roundLotOdd, oddLotOdd}
 use Rattle.message.proofs.SpokenLaws.{Spoken, refused, idle, finra, round, odd, maker, status, spoken, parts-refused, parts-whole, parts-round, parts-odd, parts-maker, parts-status}
 use Rattle.block.specs.Block.{messagesOf}
-use Rattle.calls.specs.Call.{Call, make, add, openLine, startDay, endDay, take, read, protected, convertLen, convert, snapshotLen, snapshot, tryOrder, numberOf, letterOf}
+use Rattle.calls.specs.Call.{Call, make, add, openLine, startDay, endDay, take, read, protected, convertLen, convert, snapshotLen, snapshot, tryOrder, setAllowance, tick, numberOf, letterOf}
 use Rattle.line.specs.Line.{done}
 use Rattle.work.specs.Work.{Listed}
 use Rattle.review.specs.Runs.{latest}
@@ -135,6 +135,8 @@ call-good v c a = go (done (numberOf (v .rest) (v .symbols) c))
     after (snapshotLen s) = a
     after (snapshot s room) = a
     after (tryOrder s m w room) = a
+    after (setAllowance n ss) = a
+    after tick = a
 
     go : (t : Bool)
         → AllConditioned (parts ((cond t (record { rest = restAfter (v .rest) c; symbols = symbolsAfter (v .symbols) c; history = historyAfter (v .rest) (v .symbols) (v .history) c }) v) .history))

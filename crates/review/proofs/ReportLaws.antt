@@ -21,7 +21,7 @@ use Rattle.venuerun.specs.Run.{neededOf, venueRun}
 use Rattle.opening.specs.declared.Line.{Line}
 use Rattle.opening.specs.Opening.{sound, Rest, restIn, pagesIn}
 use Rattle.line.specs.Line.{done, gapTold, advanced}
-use Rattle.calls.specs.Call.{Call, make, add, openLine, startDay, endDay, take, read, protected, convertLen, convert, snapshotLen, snapshot, tryOrder, Answer, bare, protectionTold, askedSide, stepsTold, orderSide, fed, sizeTold, report, lineAnswer, runTold, listedLot, letterOf, answerOf, publishedOn, candidatesOn, quotesOn, makeGood, isMake, numberOn, call}
+use Rattle.calls.specs.Call.{Call, make, add, openLine, startDay, endDay, take, read, protected, convertLen, convert, snapshotLen, snapshot, tryOrder, setAllowance, tick, Answer, bare, protectionTold, askedSide, stepsTold, orderSide, fed, sizeTold, report, lineAnswer, runTold, listedLot, letterOf, answerOf, publishedOn, candidatesOn, quotesOn, makeGood, isMake, numberOn, call}
 use Rattle.calls.proofs.SnapshotLaws.{feed-answer, feed-keeps}
 use Rattle.quote.specs.declared.Quote.{Quote}
 use Rattle.snapshot.specs.Snapshot.{Snapshot, snapshotOf}
@@ -51,6 +51,8 @@ asksRoom (convert v room) = false
 asksRoom (snapshotLen s) = false
 asksRoom (snapshot s room) = true
 asksRoom (tryOrder s m w room) = false
+asksRoom (setAllowance n ss) = false
+asksRoom tick = false
 
 -- of every call, if of a snapshot and of the others
 pub of-each : (P : Call → Type 0) → ((c : Call) → asksRoom c ≡ false → P c) → ((s : List ℕ) (room : ℕ) → P (snapshot s room)) → (c : Call) → P c
@@ -67,6 +69,8 @@ of-each P f g (convert v room) = f (convert v room) refl
 of-each P f g (snapshotLen s) = f (snapshotLen s) refl
 of-each P f g (snapshot s room) = g s room
 of-each P f g (tryOrder s m w room) = f (tryOrder s m w room) refl
+of-each P f g (setAllowance n ss) = f (setAllowance n ss) refl
+of-each P f g tick = f tick refl
 
 module _ (r : Rest) (ls : List Listed) (ts : ℕ → List (List ℕ) → List Told) (p : ℕ → List ℕ) (cs : ℕ → Side → ℕ → Option Candidate) (qs : ℕ → ℕ → Quote) (k : ℕ) where
   line-number : (b : List ℕ) (us : List Told) (o : Option Line) → lineAnswer k b us o .number ≡ k
@@ -90,6 +94,8 @@ module _ (r : Rest) (ls : List Listed) (ts : ℕ → List (List ℕ) → List To
       go true = refl
       go false = line-number b (ts (letterOf (r .lines i)) (messagesOf b)) (r .lines i)
   answer-number (read s room) e = refl
+  answer-number (setAllowance n ss) e = refl
+  answer-number tick e = refl
   answer-number (protected s m x) e = go (done k)
     where
       go : (t : Bool) → (cond {A = Answer} t (protectionTold k (protection (askedSide m) x (cs (be s) (askedSide m)))) (bare k)) .number ≡ k
@@ -142,6 +148,8 @@ number-told b (convert v room) w = number-other b (convert v room) refl refl
 number-told b (snapshotLen s) w = number-other b (snapshotLen s) refl refl
 number-told b (snapshot s room) w = clash w
 number-told b (tryOrder s m x room) w = number-other b (tryOrder s m x room) refl refl
+number-told b (setAllowance n ss) w = number-other b (setAllowance n ss) refl refl
+number-told b tick w = number-other b tick refl refl
 
 -- of a snapshot: that number, or 81 where it is 0
 module _ (b s : List ℕ) (room : ℕ) where
@@ -200,6 +208,8 @@ answer-empty r ls ts p cs qs k (convert v room) e = rw e (refl, refl, refl, refl
 answer-empty r ls ts p cs qs k (snapshotLen s) e = rw e (refl, refl, refl, refl, refl)
 answer-empty r ls ts p cs qs k (snapshot s room) e = rw e (refl, refl, refl, refl, refl)
 answer-empty r ls ts p cs qs k (tryOrder s m w room) e = rw e (refl, refl, refl, refl, refl)
+answer-empty r ls ts p cs qs k (setAllowance n ss) e = (refl, refl, refl, refl, refl)
+answer-empty r ls ts p cs qs k tick e = (refl, refl, refl, refl, refl)
 
 others-empty : (b : List ℕ) (c : Call) → asksRoom c ≡ false → done (call b c .answer .number) ≡ false → Fills (call b c .answer)
 unfolding call

@@ -10,6 +10,7 @@ use Rattle.field.specs.Field.{beBytes}
 use Rattle.field.specs.Field as Field
 use Rattle.lists.specs.Lists.{range}
 use Rattle.lists.specs.Lists as Lists
+use Rattle.allowance.specs.Allowance as Allowance
 use Rattle.ranking.specs.Ranking as Ranking
 use Rattle.quote.specs.Quote as Quote
 use Rattle.levels.specs.Levels as Levels
@@ -304,7 +305,7 @@ fromMake n cs told = record { n = n; calls = cs; answers = told }
 
 -- what the reviewer answers, worked out by the definitions named here
 unfoldable pub answered : ℕ → List Call → List (List ℕ)
-unfolding Field.be Field.beBytes Field.part Field.field Lists.sum Lists.member Lists.every Lists.all Ranking.comparedBy Ranking.lower Ranking.higher Ranking.byPrice Ranking.compared Ranking.better Ranking.whyAhead Quote.admits Quote.counts Quote.emptyQuote Quote.withCondition Quote.withTimes Quote.candidateOf Levels.without Levels.insert Levels.itemOn Levels.itemsOn Levels.clears Levels.clearedBy Levels.oddOn Levels.itemsBad Levels.oddBad Levels.oddCode Levels.itemAt Levels.itemsFrom Levels.oddIn Entries.letters Entries.makerCandidate Entries.finraBest Entries.asD Entries.letterCandidate Entries.candidates Entries.nationalBest Entries.nationalReason Entries.oddCandidate Entries.ranks Entries.letterLevels Entries.oddBest Entries.entriesBy Entries.entriesOf Entries.unlessHalted Entries.tradingCandidates Publication.noEntry Publication.publication Publication.changeFlags Protection.firstYes Protection.protection Lists.firstFrom Sweep.without Sweep.play Sweep.swept Sweep.filled Sweep.stepBytes Sweep.stepsBytes Form.padded Form.symbolGood Form.makerGood Message.controlKind Message.quoteKind Message.statusKind Message.kindOf Message.timeOf Message.symbolOf Message.levelAt Message.quoteAt Message.makerName Message.oddAt Message.priceFault Message.quoteFault Message.readInquiry Message.testBytes Message.readTest Message.readFinra Message.readRoundLot Message.readOddLot Message.readMaker Message.readStatus Message.messageOf Message.makerCode Message.statusCode Message.codeOf Message.partlyTaken Block.checksumOf Block.startAt Block.messageAt Block.messagesFrom Block.messagesOf Block.lengthGood Block.spaced Block.tableGood Block.controlAmong Block.checked Block.idleBlock Sequence.gapOf Sequence.nextOf Sequence.arrivalOf Work.isListed Work.listedWith Line.lineNumber Line.blockNumber Call.numberOf Snapshot.isShown Snapshot.snapshotOf Feed.opened Feed.nationalSide Feed.consolidated Feed.pricedBytes Feed.participant Feed.finraSide Feed.finraMessage Feed.feedMessages Feed.fitting Feed.grouped Feed.feedFront Feed.feedWith Feed.feedChecksum Feed.feedBlock Feed.feedFrom Feed.feedBlocks Feed.feedBytes Line.done Told.quads Told.tally Line.gapTold Line.advanced Call.answerOf Work.flagsOf Runs.latestRun Runs.firstTime Reviewer.parts Reviewer.roundsOf Reviewer.quoteOf Reviewer.makerQuotes Reviewer.conditionOf Reviewer.makerOf Reviewer.namesOf Reviewer.makersOf Reviewer.levelsOf Reviewer.haltedOf Reviewer.reviewedBy Reviewer.knownTo Reviewer.restAfter Reviewer.symbolsAfter Reviewer.historyAfter Reviewer.reviewCall Reviewer.reviewAnswer
+unfolding Allowance.spareCharged Allowance.isUsedUp Allowance.charged Allowance.ticked Allowance.settingNumber Field.be Field.beBytes Field.part Field.field Lists.sum Lists.member Lists.every Lists.all Ranking.comparedBy Ranking.lower Ranking.higher Ranking.byPrice Ranking.compared Ranking.better Ranking.whyAhead Quote.admits Quote.counts Quote.emptyQuote Quote.withCondition Quote.withTimes Quote.candidateOf Levels.without Levels.insert Levels.itemOn Levels.itemsOn Levels.clears Levels.clearedBy Levels.oddOn Levels.itemsBad Levels.oddBad Levels.oddCode Levels.itemAt Levels.itemsFrom Levels.oddIn Entries.letters Entries.makerCandidate Entries.finraBest Entries.asD Entries.letterCandidate Entries.candidates Entries.nationalBest Entries.nationalReason Entries.oddCandidate Entries.ranks Entries.letterLevels Entries.oddBest Entries.entriesBy Entries.entriesOf Entries.unlessHalted Entries.tradingCandidates Publication.noEntry Publication.publication Publication.changeFlags Protection.firstYes Protection.protection Lists.firstFrom Sweep.without Sweep.play Sweep.swept Sweep.filled Sweep.stepBytes Sweep.stepsBytes Form.padded Form.symbolGood Form.makerGood Message.controlKind Message.quoteKind Message.statusKind Message.kindOf Message.timeOf Message.symbolOf Message.levelAt Message.quoteAt Message.makerName Message.oddAt Message.priceFault Message.quoteFault Message.readInquiry Message.testBytes Message.readTest Message.readFinra Message.readRoundLot Message.readOddLot Message.readMaker Message.readStatus Message.messageOf Message.makerCode Message.statusCode Message.codeOf Message.partlyTaken Block.checksumOf Block.startAt Block.messageAt Block.messagesFrom Block.messagesOf Block.lengthGood Block.spaced Block.tableGood Block.controlAmong Block.checked Block.idleBlock Sequence.gapOf Sequence.nextOf Sequence.arrivalOf Work.isListed Work.listedWith Line.lineNumber Line.blockNumber Call.numberOf Snapshot.isShown Snapshot.snapshotOf Feed.opened Feed.nationalSide Feed.consolidated Feed.pricedBytes Feed.participant Feed.finraSide Feed.finraMessage Feed.feedMessages Feed.fitting Feed.grouped Feed.feedFront Feed.feedWith Feed.feedChecksum Feed.feedBlock Feed.feedFrom Feed.feedBlocks Feed.feedBytes Line.done Told.quads Told.tally Line.gapTold Line.advanced Call.answerOf Work.flagsOf Runs.latestRun Runs.firstTime Reviewer.parts Reviewer.roundsOf Reviewer.quoteOf Reviewer.makerQuotes Reviewer.conditionOf Reviewer.makerOf Reviewer.namesOf Reviewer.makersOf Reviewer.levelsOf Reviewer.haltedOf Reviewer.reviewedBy Reviewer.knownTo Reviewer.restAfter Reviewer.symbolsAfter Reviewer.historyAfter Reviewer.reviewCall Reviewer.reviewAnswer
 answered n cs = allTold (reviewAnswers (freshReview n) cs)
 
 -- every row is answered as it says

@@ -15,7 +15,7 @@ use Rattle.lists.proofs.Members.{In}
 use Rattle.text.specs.Form.{symbolGood, symbolLength}
 use Rattle.opening.specs.Opening.{freshBytes}
 use Rattle.line.specs.Line.{done}
-use Rattle.calls.specs.Call.{Call, make, add, openLine, startDay, endDay, take, read, protected, convertLen, convert, snapshotLen, snapshot, tryOrder, numberOf, Answer, answerOf, makeGood, numberOn, afterCall, call, bytesAfter, answers}
+use Rattle.calls.specs.Call.{Call, make, add, openLine, startDay, endDay, take, read, protected, convertLen, convert, snapshotLen, snapshot, tryOrder, setAllowance, tick, numberOf, Answer, answerOf, makeGood, numberOn, afterCall, call, bytesAfter, answers}
 use Rattle.work.specs.Work.{Listed, isListed, listedOf}
 use Rattle.opening.proofs.FreshLaws.{fresh-sound, fresh-bytes, fresh-rest, fresh-pages}
 use Rattle.calls.proofs.NumberLaws.{add-done, symbol-back}
@@ -109,6 +109,8 @@ after-wells v (convert x k) d w = w
 after-wells v (snapshotLen s) d w = w
 after-wells v (snapshot s k) d w = w
 after-wells v (tryOrder s m n k) d w = w
+after-wells v (setAllowance n ss) d w = w
+after-wells v tick d w = w
 
 call-wells : (v : Review) (c : Call) → Wells (v .symbols) → Wells (reviewCall v c .symbols)
 unfolding reviewCall

@@ -7,7 +7,7 @@ use mathlib.Core.List.{List, [], _∷_}
 use lib.ListN.{set}
 use Rattle.field.specs.Field.{be}
 use Rattle.lists.specs.Lists.{range}
-use Rattle.calls.specs.Call.{Call, make, add, openLine, startDay, endDay, take, read, protected, convertLen, convert, snapshotLen, snapshot, tryOrder}
+use Rattle.calls.specs.Call.{Call, make, add, openLine, startDay, endDay, take, read, protected, convertLen, convert, snapshotLen, snapshot, tryOrder, setAllowance, tick}
 use Rattle.review.specs.Reviewer.{freshReview, reviewAfter}
 use Rattle.review.specs.Frame.{touched, takenOf, takenR}
 use Rattle.review.specs.Numbers.{numbersOf, codes}
@@ -141,7 +141,7 @@ of-start = refl
 pub of-end : numbersOf endDay ≡ 0 ∷ 1 ∷ 12 ∷ []
 of-end = refl
 
-pub of-take : (i : ℕ) (b : List ℕ) (room : ℕ) → numbersOf (take i b room) ≡ 0 ∷ 70 ∷ 1 ∷ 9 ∷ 21 ∷ 30 ∷ 31 ∷ 32 ∷ 33 ∷ 34 ∷ 20 ∷ 35 ∷ []
+pub of-take : (i : ℕ) (b : List ℕ) (room : ℕ) → numbersOf (take i b room) ≡ 0 ∷ 70 ∷ 1 ∷ 9 ∷ 21 ∷ 30 ∷ 31 ∷ 32 ∷ 33 ∷ 34 ∷ 20 ∷ 35 ∷ 86 ∷ []
 of-take i b room = refl
 
 pub of-read : (s : List ℕ) (room : ℕ) → numbersOf (read s room) ≡ 0 ∷ 1 ∷ 9 ∷ 10 ∷ []
@@ -164,6 +164,12 @@ of-snapshot s room = refl
 
 pub of-order : (s : List ℕ) (m w room : ℕ) → numbersOf (tryOrder s m w room) ≡ 0 ∷ 1 ∷ 10 ∷ 74 ∷ 82 ∷ 83 ∷ []
 of-order s m w room = refl
+
+pub of-setting : (n : ℕ) (ss : List ℕ) → numbersOf (setAllowance n ss) ≡ 0 ∷ 1 ∷ 84 ∷ 85 ∷ []
+of-setting n ss = refl
+
+pub of-tick : numbersOf tick ≡ 0 ∷ 1 ∷ []
+of-tick = refl
 
 pub of-messages : codes ≡ 0 ∷ 40 ∷ 41 ∷ 42 ∷ 43 ∷ 44 ∷ 45 ∷ 46 ∷ 47 ∷ 48 ∷ 49 ∷ 60 ∷ 61 ∷ 62 ∷ 63 ∷ 64 ∷ 76 ∷ 77 ∷ []
 of-messages = refl

@@ -22,6 +22,7 @@ use Rattle.update.specs.Parts.{knownOf}
 use Rattle.update.proofs.CellLaws.{member-below}
 use Rattle.opening.specs.declared.Line.{Line}
 use Rattle.opening.specs.Opening.{sound, Rest, restIn, pagesIn}
+use Rattle.allowance.specs.Allowance.{isUsedUp}
 use Rattle.line.specs.Line.{blockNumber, onLine, done}
 use Rattle.calls.specs.Call.{take, numberOf, Answer, bare, lineAnswer, letterOf, answerOf, publishedOn, candidatesOn, quotesOn, numberOn, call}
 use Rattle.told.specs.Told.{quads, tally, isAccepted, isPartly, isRejected}
@@ -165,10 +166,10 @@ pub record BlockTold (k : List ℕ) (a : Answer) : Type 0 where
   pub bytes : Bytes (a .answers)
   pub quad : (j : ℕ) → j < countIn k → Quad (a .answers) j j
 
-line-told : (b : List ℕ) (q : ℕ) (k : List ℕ) (r : Line) (day : Bool) → q ≡ blockNumber r day k → done q ≡ true → BlockTold k (lineAnswer q k (toldOn b (r .letter) (messagesOf k)) (some r))
+line-told : (b : List ℕ) (q : ℕ) (k : List ℕ) (r : Line) (day used : Bool) → q ≡ blockNumber r day used k → done q ≡ true → BlockTold k (lineAnswer q k (toldOn b (r .letter) (messagesOf k)) (some r))
 unfolding blockNumber
-line-told b q k r day e d =
-    let p : Passed k (countIn k) = passed k (countIn k) (taken-passes r day k (sym (ap done e) ∙ d)) in
+line-told b q k r day used e d =
+    let p : Passed k (countIn k) = passed k (countIn k) (taken-passes r day used k (sym (ap done e) ∙ d)) in
     let ts : List Told = toldOn b (r .letter) (messagesOf k) in
     let c : AllClean ts = told-clean b (r .letter) (messagesOf k) in
     let l : length ts ≡ countIn k = told-length b (r .letter) (messagesOf k) ∙ messages-length k in
@@ -195,11 +196,11 @@ take-told : (b : List ℕ) (r : Rest) (ls : List Listed) (i : ℕ) (k : List ℕ
 unfolding answerOf numberOf done
 take-told b r ls i k room d = go (ltb room answerLength) (r .lines i) d
   where
-    go : (t : Bool) (o : Option Line) → done (cond t 9 (onLine (r .day) k o)) ≡ true
-        → BlockTold k (cond {A = Answer} (eqb (cond t 9 (onLine (r .day) k o)) 9) (bare (cond t 9 (onLine (r .day) k o))) (lineAnswer (cond t 9 (onLine (r .day) k o)) k (toldOn b (letterOf o) (messagesOf k)) o))
+    go : (t : Bool) (o : Option Line) → done (cond t 9 (onLine (r .day) (isUsedUp (r .allowance) i) k o)) ≡ true
+        → BlockTold k (cond {A = Answer} (eqb (cond t 9 (onLine (r .day) (isUsedUp (r .allowance) i) k o)) 9) (bare (cond t 9 (onLine (r .day) (isUsedUp (r .allowance) i) k o))) (lineAnswer (cond t 9 (onLine (r .day) (isUsedUp (r .allowance) i) k o)) k (toldOn b (letterOf o) (messagesOf k)) o))
     go true o d = clash (sym d)
     go false none d = clash (sym d)
-    go false (some x) d = rw (done-nine (blockNumber x (r .day) k) d) (line-told b (blockNumber x (r .day) k) k x (r .day) refl d)
+    go false (some x) d = rw (done-nine (blockNumber x (r .day) (isUsedUp (r .allowance) i) k) d) (line-told b (blockNumber x (r .day) (isUsedUp (r .allowance) i) k) k x (r .day) (isUsedUp (r .allowance) i) refl d)
 
 -- whatever the bytes of the book and of the block
 pub block-told : (b : List ℕ) (i : ℕ) (k : List ℕ) (room : ℕ) → done (call b (take i k room) .answer .number) ≡ true → BlockTold k (call b (take i k room) .answer)

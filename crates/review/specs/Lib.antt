@@ -4,3 +4,4 @@ pub mod Lists
 pub mod Frame
 pub mod Numbers
 pub mod Recovered
+pub mod Ticks

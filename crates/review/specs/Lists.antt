@@ -5,7 +5,7 @@ use mathlib.Core.Bool.{Bool, true, _&&_}
 use mathlib.Core.List.{List, [], _∷_}
 use lib.Dec.{ltb}
 use Rattle.lists.specs.Lists.{every}
-use Rattle.calls.specs.Call.{Call, make, add, openLine, startDay, endDay, take, read, protected, convertLen, convert, snapshotLen, snapshot, tryOrder}
+use Rattle.calls.specs.Call.{Call, make, add, openLine, startDay, endDay, take, read, protected, convertLen, convert, snapshotLen, snapshot, tryOrder, setAllowance, tick}
 
 -- each element is a byte
 abbrev pub areBytes : List ℕ → Bool
@@ -26,6 +26,8 @@ blockIsBytes (convert v room) = true
 blockIsBytes (snapshotLen s) = true
 blockIsBytes (snapshot s room) = true
 blockIsBytes (tryOrder s m w room) = true
+blockIsBytes (setAllowance n ss) = true
+blockIsBytes tick = true
 
 unfoldable pub blocksAreBytes : List Call → Bool
 blocksAreBytes [] = true

@@ -1,6 +1,6 @@
 -- The reviewer (document 01, "The reviewer's history"): fed the calls alone, it holds n, the symbols with their round lots and, for T-10's checks, their
--- primary letters, the lines, the day and a history, and works every number, code, flag and entry out anew from these. The history is the accepted
--- messages as bytes, the newest first.
+-- primary letters, the lines, the day, T-14's allowance and a history, and works every number, code, flag and entry out anew from these. The history is
+-- the accepted messages as bytes, the newest first.
 -- Assumes nothing.
 use Prim.Native.Nat.{ℕ}
 use mathlib.Core.Bool.{Bool, true, false, _&&_, cond}
@@ -18,14 +18,15 @@ use Rattle.quote.specs.Quote.{noQuote, emptyQuote, withCondition}
 use Rattle.levels.specs.Levels.{Standing, noLevels, oddOn}
 use Rattle.entries.specs.Entries.{Maker, entriesOf, candidates, unlessHalted, tradingCandidates}
 use Rattle.entries.specs.Publication.{publication}
-use Rattle.block.specs.Block.{messagesOf}
+use Rattle.block.specs.Block.{messagesOf, idleBlock}
 use Rattle.message.specs.declared.Kind.{Kind}
 use Rattle.message.specs.declared.Kind.the-variants as kind
 use Rattle.message.specs.Message.{roundLength, kindOf, symbolOf, roundLotOdd, oddLotOdd, roundPartOf, oddPartOf, makerPartOf, statusPartOf, Known, codeOf, partlyTaken, Part, roundPart, oddPart, makerPart, finraPart, statusPart}
 use Rattle.opening.specs.declared.Line.{Line}
+use Rattle.allowance.specs.Allowance.{charged, ticked, setTo, noAllowance}
 use Rattle.opening.specs.Opening.{Rest}
 use Rattle.line.specs.Line.{done, advanced}
-use Rattle.calls.specs.Call.{Call, make, add, openLine, startDay, endDay, take, read, protected, convertLen, convert, snapshotLen, snapshot, tryOrder, numberOf, letterOf, Answer, answerOf}
+use Rattle.calls.specs.Call.{Call, make, add, openLine, startDay, endDay, take, read, protected, convertLen, convert, snapshotLen, snapshot, tryOrder, setAllowance, tick, numberOf, letterOf, Answer, answerOf}
 use Rattle.work.specs.Work.{Listed, isListed, lotOf, primaryOf, flagsOf}
 use Rattle.told.specs.declared.Told.{Told}
 use Rattle.review.specs.Runs.{latest}
@@ -173,7 +174,7 @@ toldR ls h letter (m ∷ ms) =
 -- ---- calls
 
 pub record Review : Type 0 where
-  -- n, the lines and the day
+  -- n, the lines, the day, and what 86 reads: the allowance
   pub rest : Rest
   pub symbols : List Listed
   pub history : List (List ℕ)
@@ -186,13 +187,19 @@ restart x = record { letter = x .letter; expected = 1; count = 0 }
 
 -- "n, symbols, lines and day move as stated above", by a call that is done
 unfoldable pub restAfter : Rest → Call → Rest
-restAfter r (make n) = record { n = n; lines = λ i. none; day = false }
+restAfter r (make n) = record { n = n; lines = λ i. none; day = false; allowance = noAllowance }
 restAfter r (add s k l) = r
-restAfter r (openLine i l) = record { n = r .n; lines = setLine i (record { letter = l; expected = 1; count = 0 }) (r .lines); day = r .day }
-restAfter r startDay = record { n = r .n; lines = λ i. mapOption restart (r .lines i); day = true }
-restAfter r endDay = record { n = r .n; lines = r .lines; day = false }
+restAfter r (openLine i l) = record { n = r .n; lines = setLine i (record { letter = l; expected = 1; count = 0 }) (r .lines); day = r .day; allowance = r .allowance }
+-- "Start of Day keeps the allowance and its charges"
+restAfter r startDay = record { n = r .n; lines = λ i. mapOption restart (r .lines i); day = true; allowance = r .allowance }
+restAfter r endDay = record { n = r .n; lines = r .lines; day = false; allowance = r .allowance }
 restAfter r (take i b room) =
-    record { n = r .n; lines = λ j. cond (eqb j i) (mapOption (λ x. advanced x b) (r .lines i)) (r .lines j); day = r .day }
+    record {
+      n = r .n;
+      lines = λ j. cond (eqb j i) (mapOption (λ x. advanced x b) (r .lines i)) (r .lines j);
+      day = r .day;
+      allowance = cond (idleBlock b) (r .allowance) (charged (r .allowance) i);
+    }
 restAfter r (read s room) = r
 restAfter r (protected s m x) = r
 restAfter r (convertLen v) = r
@@ -200,6 +207,8 @@ restAfter r (convert v room) = r
 restAfter r (snapshotLen s) = r
 restAfter r (snapshot s room) = r
 restAfter r (tryOrder s m w room) = r
+restAfter r (setAllowance n ss) = record { n = r .n; lines = r .lines; day = r .day; allowance = setTo n ss }
+restAfter r tick = record { n = r .n; lines = r .lines; day = r .day; allowance = ticked (r .allowance) }
 
 unfoldable pub symbolsAfter : List Listed → Call → List Listed
 symbolsAfter ls (make n) = []
@@ -215,6 +224,8 @@ symbolsAfter ls (convert v room) = ls
 symbolsAfter ls (snapshotLen s) = ls
 symbolsAfter ls (snapshot s room) = ls
 symbolsAfter ls (tryOrder s m w room) = ls
+symbolsAfter ls (setAllowance n ss) = ls
+symbolsAfter ls tick = ls
 
 -- "make and Start of Day with 0 empty the history"; "Nothing else alters the history"
 unfoldable pub historyAfter : Rest → List Listed → List (List ℕ) → Call → List (List ℕ)
@@ -231,6 +242,8 @@ historyAfter r ls h (convert v room) = h
 historyAfter r ls h (snapshotLen s) = h
 historyAfter r ls h (snapshot s room) = h
 historyAfter r ls h (tryOrder s m w room) = h
+historyAfter r ls h (setAllowance n ss) = h
+historyAfter r ls h tick = h
 
 -- "a refused call alters nothing"
 unfoldable pub reviewCall : Review → Call → Review
@@ -249,7 +262,7 @@ reviewAnswer v c =
 
 -- "It starts with the make that gave the fresh book"
 abbrev pub freshReview : ℕ → Review
-freshReview n = record { rest = record { n = n; lines = λ i. none; day = false }; symbols = []; history = [] }
+freshReview n = record { rest = record { n = n; lines = λ i. none; day = false; allowance = noAllowance }; symbols = []; history = [] }
 
 -- ---- lists of calls
 

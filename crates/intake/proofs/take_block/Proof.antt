@@ -9,14 +9,14 @@ use Rattle.intake.proofs.take_block.Tie as tie
 run-requires : tie.Need-run-requires
 run-requires c κs =
     let g = c .before .before .before in
-    let e = entered _ _ _ _ _ _ _ _ (sym (g .before .before .judge .ensures) ∙ g .gate3 .given .1) in
+    let e = entered _ _ _ _ _ _ _ _ _ (sym (g .before .before .judge .ensures) ∙ g .gate3 .given .1) in
     ((e .good, e .letter), (e .passes, e .wide))
 
-put-line-requires : tie.Need-put-line-requires
-put-line-requires c κs =
+settle-requires : tie.Need-settle-requires
+settle-requires c κs =
     let r = c .before .before .before .before .before in
     let g = r .before .before .before .before in
-    let e = entered _ _ _ _ _ _ _ _ (sym (g .before .before .judge .ensures) ∙ g .gate3 .given .1) in
+    let e = entered _ _ _ _ _ _ _ _ _ (sym (g .before .before .judge .ensures) ∙ g .gate3 .given .1) in
     let z = sound-of _ (e .good) in
     (omega (arith, z .size, z .low, r .run .kept .0), e .low)
 
@@ -31,7 +31,7 @@ returns-3 c =
     let p = c .before .before in
     let r = p .before .before .before .before .before .before in
     let g = r .before .before .before .before in
-    taken-run _ _ _ _ _ _ _ _ _ _ _ _ _ (g .before .before .judge .ensures) (g .gate3 .given .1) (r .run .ensures) (p .put-line .ensures)
+    taken-run _ _ _ _ _ _ _ _ _ _ _ _ _ _ (g .before .before .judge .ensures) (g .gate3 .given .1) (r .run .ensures) (p .settle .ensures)
 
 pub take-block-spec : {M : Type 1} → statement M
 take-block-spec =
@@ -42,7 +42,7 @@ take-block-spec =
     (λ c. search needs)
     (λ c. search needs)
     run-requires
-    put-line-requires
+    settle-requires
     (λ c. search needs)
     returns
     (λ c. search needs)

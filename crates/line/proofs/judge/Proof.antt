@@ -5,7 +5,8 @@ use native.Mathlib.Omega.{arith}
 use lib.Dec.{eqb}
 use Rattle.opening.specs.Opening.{sound, restIn}
 use Rattle.opening.proofs.OpeningLaws.{sound-of}
-use Rattle.line.proofs.GateLaws.{judge-unsound, judge-short, judge-closed, judge-refused, judge-admitted}
+use Rattle.opening.proofs.ReadLaws.{opening-room}
+use Rattle.line.proofs.GateLaws.{judge-unsound, judge-short, judge-closed, judge-refused, judge-admitted, open-low}
 use borrow.Author.Needs.{needs}
 use Rattle.line.proofs.judge.Statement.{statement}
 use Rattle.line.proofs.judge.Tie as tie
@@ -38,7 +39,13 @@ get8-requires c κs =
     omega (arith, z .size, z .low)
 
 admit-requires : tie.Need-admit-requires
-admit-requires c κs = sym (c .before .before .before .before .check-block .ensures) ∙ c .before .before .checked .given .1
+admit-requires c κs =
+    let k = c .before .before .before .before in
+    let t = k .before .before in
+    let l = t .before .before in
+    let h = l .before .before in
+    let s = h .before .before .before .before in
+    (sym (k .check-block .ensures) ∙ c .before .before .checked .given .1, (opening-room _ (good h), open-low (s .args .book .now) (s .args .line) _ _ (l .line-state .ensures) (t .state .given .1)))
 
 day-is : (c : tie.After-admit) → eqb (c .before .get8 .result) 1 ≡ restIn (c .before .before .before .before .before .before .before .before .before .before .before .before .before .before .before .args .book .now) .day
 unfolding restIn

@@ -1,0 +1,5 @@
+pub mod ByteLaws
+pub mod ChargeLaws
+pub mod ClaimLaws
+pub mod SettingLaws
+pub mod ViewLaws
