@@ -29,11 +29,11 @@ extern "C" {
 
 /* The version of this header, 10000 * major + 100 * minor + patch. That of the linked library is qb_version(): compare the two where they
  * are installed apart. What may change from version to version is in docs/CHANGES.md. */
-#define QB_LIBRARY_VERSION 10000
+#define QB_LIBRARY_VERSION 10100
 
 /* Sizes in bytes. A book for n symbols has QB_OPENING_LEN + n * QB_PAGE_LEN. */
 enum {
-    QB_OPENING_LEN = 847,
+    QB_OPENING_LEN = 976,
     QB_PAGE_LEN = 6056,
     QB_SYMBOL_LEN = 11,
     QB_BLOCK_MAX = 1000,     /* no block is longer */
@@ -43,7 +43,8 @@ enum {
     QB_PUBLICATION_LEN = 96, /* at least: six entries */
     QB_ENTRY_LEN = 16,
     QB_STEPS_LEN = 325, /* at least: 25 steps */
-    QB_STEP_LEN = 13
+    QB_STEP_LEN = 13,
+    QB_SHARES_LEN = 64 /* a share for each line */
 };
 
 /* Numbers that calls answer: the check that refused, or 0, or 70. */
@@ -80,7 +81,10 @@ enum {
     QB_CHECK_CONVERT_SHORT = 80,      /* convert: the output is shorter than the run */
     QB_CHECK_SNAPSHOT_SHORT = 81,     /* snapshot: the output is shorter than the snapshot */
     QB_CHECK_LOTS = 82,               /* try: the lots are not 1 to 1,000,000 */
-    QB_CHECK_STEPS_SHORT = 83         /* try: the output is under 325 bytes */
+    QB_CHECK_STEPS_SHORT = 83,        /* try: the output is under 325 bytes */
+    QB_CHECK_ALLOWANCE = 84,          /* set allowance: the blocks for a tick are not 1 to 255 */
+    QB_CHECK_SHARES = 85,             /* set allowance: not 64 shares, or their sum is above the blocks for a tick */
+    QB_CHECK_USED_UP = 86             /* block: its line's share and the spare are used in this tick */
 };
 
 /* Codes of messages, in the answer buffer. A Q K with 60 to 64 is partly accepted: its quote is in force, its odd lots did nothing. */
@@ -184,7 +188,7 @@ uint32_t qb_version(void);
 /* Bytes of a book for n symbols; 0 if n is not 1 to 64. */
 uint64_t qb_book_len(uint32_t n);
 
-/* Makes a book for n symbols in len bytes of any contents: no symbols, no lines, a closed day. Answers 0, 2.
+/* Makes a book for n symbols in len bytes of any contents: no symbols, no lines, a closed day, no allowance. Answers 0, 2.
  * A book that is in use is no exception: with its own n it is made anew, whether its day is open or not, and all that it held is gone. */
 uint8_t qb_make(uint8_t *book, size_t len, uint32_t n);
 
@@ -196,13 +200,21 @@ uint8_t qb_add_symbol(uint8_t *book, size_t len, const uint8_t *symbol, size_t s
 /* Opens line 0 to 63 for an exchange's letter; D is FINRA. It expects sequence number 1. Answers 0, 1, 7, 8. */
 uint8_t qb_open_line(uint8_t *book, size_t len, uint32_t line, uint8_t letter);
 
-/* Start of Day: forgets all quotes, ends every halt, sets every line to sequence number 1, opens the day. Answers 0, 1, 11. */
+/* Start of Day: forgets all quotes, ends every halt, sets every line to sequence number 1, opens the day. An allowance and what is
+ * charged of it stay. Answers 0, 1, 11. */
 uint8_t qb_start_day(uint8_t *book, size_t len);
 
 /* End of Day: closes the day and keeps the quotes. Answers 0, 1, 12. */
 uint8_t qb_end_day(uint8_t *book, size_t len);
 
-/* Takes a block on a line. Answers 0 or 70 (taken), 1, 9, 21, 30, 31, 32, 33, 34, 20, 35.
+/* Sets an allowance of blocks for each tick, 1 to 255, with a guaranteed share for each line, and starts a tick. Answers 0, 1, 84, 85.
+ * shares: QB_SHARES_LEN bytes, that of line i at i; what the blocks have above all shares is the spare, for any line. */
+uint8_t qb_set_allowance(uint8_t *book, size_t len, uint32_t blocks, const uint8_t *shares, size_t shares_len);
+
+/* Starts the next tick. Without an allowance nothing changes. Answers 0, 1. */
+uint8_t qb_tick(uint8_t *book, size_t len);
+
+/* Takes a block on a line. Answers 0 or 70 (taken), 1, 9, 21, 30, 31, 32, 33, 34, 20, 35, 86.
  * report: number, gap, next expected, count, accepted, partly accepted, rejected; always filled.
  * answer: of a taken block, for message i the bytes 4i to 4i + 3 are i, its code, its change flags and 0; the bytes behind stay. */
 uint8_t qb_take_block(uint8_t *book, size_t len, uint32_t line, const uint8_t *block, size_t block_len,
@@ -354,6 +366,9 @@ static inline const char *qb_sentence(uint8_t number) {
     case QB_CHECK_SNAPSHOT_SHORT: return "The output is shorter than the snapshot.";
     case QB_CHECK_LOTS: return "The lots are not 1 to 1,000,000.";
     case QB_CHECK_STEPS_SHORT: return "The output is under 325 bytes.";
+    case QB_CHECK_ALLOWANCE: return "The blocks for a tick are not 1 to 255.";
+    case QB_CHECK_SHARES: return "There are not 64 shares, or their sum is above the blocks for a tick.";
+    case QB_CHECK_USED_UP: return "The share of the block's line and the spare are used in this tick.";
     default: return "No number of a call.";
     }
 }

@@ -47,7 +47,7 @@ import ctypes
 import decimal
 import os
 from ctypes import POINTER, c_char_p, c_size_t, c_uint8, c_uint32, c_uint64, c_void_p
-from typing import List, NamedTuple, Optional
+from typing import Dict, List, NamedTuple, Optional, Union
 
 ANSWER_LEN = 180
 BLOCK_MAX = 1000
@@ -57,6 +57,7 @@ RUN_MAX = 3600
 SNAPSHOT_MAX = 1706
 STEP_LEN = 13
 STEPS_LEN = 325
+SHARES_LEN = 64
 SYMBOL_LEN = 11
 
 DONE = 0
@@ -97,6 +98,9 @@ NUMBERS = {
     81: ("SNAPSHOT_SHORT", "The output is shorter than the snapshot."),
     82: ("LOTS", "The lots are not 1 to 1,000,000."),
     83: ("STEPS_SHORT", "The output is under 325 bytes."),
+    84: ("ALLOWANCE", "The blocks for a tick are not 1 to 255."),
+    85: ("SHARES", "There are not 64 shares, or their sum is above the blocks for a tick."),
+    86: ("USED_UP", "The share of the block's line and the spare are used in this tick."),
 }
 
 # What became of a message: code, name, sentence.
@@ -281,6 +285,8 @@ _CALLS = {
     "qb_open_line": _BOOK + [c_uint32, c_uint8],
     "qb_start_day": _BOOK,
     "qb_end_day": _BOOK,
+    "qb_set_allowance": _BOOK + [c_uint32] + _BYTES,
+    "qb_tick": _BOOK,
     "qb_take_block": _BOOK + [c_uint32] + _BYTES + _OUT + _REPORT,
     "qb_read": _BOOK + _BYTES + _OUT,
     "qb_is_protected": _BOOK + _BYTES + [c_uint8, c_uint64] + _REPORT,
@@ -396,6 +402,27 @@ class Book:
     def end_day(self) -> None:
         """End of Day: closes the day and keeps the quotes."""
         _checked(_library.qb_end_day(*self._lent))
+
+    def set_allowance(self, blocks: int, shares: Union[bytes, Dict[int, int]]) -> None:
+        """Sets an allowance of blocks for each tick, 1 to 255, with a share for each line, and starts a tick.
+
+        The shares are 64 bytes, or those of some lines by their numbers; the others have none. What the blocks have above all shares is the
+        spare, for any line.
+
+        >>> book = Book(1)
+        >>> book.set_allowance(100, {5: 40, 7: 20})
+        >>> book.set_allowance(100, {5: 40, 7: 61})
+        Traceback (most recent call last):
+            ...
+        quotebook.Refused: There are not 64 shares, or their sum is above the blocks for a tick. (85)
+        """
+        if isinstance(shares, dict):
+            shares = bytes(shares.get(line, 0) for line in range(max(SHARES_LEN, 1 + max(shares, default=0))))
+        _checked(_library.qb_set_allowance(*self._lent, _fits(blocks, 32), bytes(shares), len(shares)))
+
+    def tick(self) -> None:
+        """Starts the next tick: nothing is charged in it yet. Without an allowance nothing changes."""
+        _checked(_library.qb_tick(*self._lent))
 
     def take_block(self, line: int, block: bytes) -> Taken:
         """Takes a block on a line. Behind a gap it is taken too: the report's number is then 70."""

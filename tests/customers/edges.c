@@ -24,6 +24,10 @@ static void null_pointers(uint8_t *book, size_t len) {
     EXPECT(qb_open_line(NULL, 0, 5, 'N') == QB_CHECK_NO_BOOK);
     EXPECT(qb_start_day(NULL, 0) == QB_CHECK_NO_BOOK);
     EXPECT(qb_end_day(NULL, 0) == QB_CHECK_NO_BOOK);
+    EXPECT(qb_set_allowance(NULL, 0, 1, NULL, 0) == QB_CHECK_NO_BOOK);
+    EXPECT(qb_set_allowance(book, len, 0, NULL, 0) == QB_CHECK_ALLOWANCE);
+    EXPECT(qb_set_allowance(book, len, 1, NULL, 0) == QB_CHECK_SHARES);
+    EXPECT(qb_tick(NULL, 0) == QB_CHECK_NO_BOOK);
     EXPECT(qb_take_block(NULL, 0, 5, NULL, 0, NULL, 0, report) == QB_CHECK_NO_BOOK);
     EXPECT(qb_take_block(book, len, 5, NULL, 0, NULL, 0, report) == QB_CHECK_BUFFER_SHORT);
     EXPECT(qb_take_block(book, len, 5, NULL, 0, answer, sizeof answer, report) == QB_CHECK_BLOCK_LENGTH);
@@ -57,6 +61,32 @@ static void made_anew(uint8_t *book, size_t len) {
     EXPECT(qb_make(book, len, 1) == QB_CHECK_DONE);
     EXPECT(qb_read(book, len, zt, QB_SYMBOL_LEN, publication, sizeof publication) == QB_CHECK_SYMBOL_UNKNOWN);
     EXPECT(qb_end_day(book, len) == QB_CHECK_DAY_NOT_OPEN);
+}
+
+/* Two blocks for a tick, one of them line 5's: the third waits for the next tick, and is then in order. */
+static void allowance(void) {
+    size_t len = (size_t)qb_book_len(1);
+    uint8_t *book = (uint8_t *)malloc(len), shares[QB_SHARES_LEN] = {0}, control[CONTROL_LEN], block[QB_BLOCK_MAX], answer[QB_ANSWER_LEN];
+    uint64_t report[QB_REPORT_LEN];
+    if (!book) exit(1);
+    shares[5] = 1;
+    EXPECT(qb_make(book, len, 1) == QB_CHECK_DONE && qb_open_line(book, len, 5, 'D') == QB_CHECK_DONE);
+    EXPECT(qb_tick(book, len) == QB_CHECK_DONE);
+    EXPECT(qb_set_allowance(book, len, 256, shares, sizeof shares) == QB_CHECK_ALLOWANCE);
+    EXPECT(qb_set_allowance(book, len, 2, shares, sizeof shares - 1) == QB_CHECK_SHARES);
+    EXPECT(qb_set_allowance(book, len, 2, shares, sizeof shares) == QB_CHECK_DONE);
+    EXPECT(qb_start_day(book, len) == QB_CHECK_DONE);
+    put_header(control, "CO", 'D', 1);
+    for (uint32_t sequence = 1; sequence <= 3; sequence++) {
+        size_t sent = put_block(block, control, sizeof control, sequence);
+        uint8_t number = qb_take_block(book, len, 5, block, sent, answer, sizeof answer, report);
+        EXPECT(number == (sequence == 3 ? QB_CHECK_USED_UP : QB_CHECK_DONE));
+        if (sequence < 3) continue;
+        EXPECT(qb_report_messages(report) == 0 && report[QB_REPORT_EXPECTED] == 3 && report[QB_REPORT_COUNT] == 2);
+        EXPECT(qb_tick(book, len) == QB_CHECK_DONE);
+        EXPECT(qb_take_block(book, len, 5, block, sent, answer, sizeof answer, report) == QB_CHECK_DONE);
+    }
+    free(book);
 }
 
 /* One block with these messages, in memory of exactly its length, so that a checker of memory sees a byte too far. */
@@ -120,6 +150,7 @@ int main(void) {
     if (!book || qb_make(book, len, 1) || qb_open_line(book, len, 5, 'N')) return 1;
     null_pointers(book, len);
     made_anew(book, len);
+    allowance();
     symbols();
     numbers();
     free(book);

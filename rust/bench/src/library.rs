@@ -46,6 +46,14 @@ impl QuoteBook for Library {
         lent::end_day(&mut self.memory).into()
     }
 
+    fn set_allowance(&mut self, blocks: u32, shares: &[u8]) -> u8 {
+        lent::set_allowance(&mut self.memory, blocks, shares).into()
+    }
+
+    fn tick(&mut self) -> u8 {
+        lent::tick(&mut self.memory).into()
+    }
+
     #[inline]
     fn take_block(&mut self, line: u32, block: &[u8], answer: &mut [u8]) -> Report {
         let report = lent::take_block(&mut self.memory, line, block, answer);

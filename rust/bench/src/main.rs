@@ -1,12 +1,14 @@
 //! The benchmark: the proved library and the second implementation side by side, in one run.
 //!
 //! Without arguments it prints all tables. `--quick` measures the full blocks of 64 symbols only,
-//! `--queries` the queries, `--conversions` the conversions of venues' blocks.
+//! `--queries` the queries, `--conversions` the conversions of venues' blocks, `--allowance` blocks with
+//! an allowance and without.
 //! `--library N`, `--engine N` and `--incremental N` replay these blocks N times on one book alone,
 //! for a profiler; `--single` before them takes single-message blocks.
 
 #![forbid(unsafe_code)]
 
+mod allowance;
 mod convert;
 mod library;
 mod market;
@@ -39,10 +41,14 @@ fn main() -> ExitCode {
             convert::print(10 * ROUNDS);
             Ok(())
         }
+        ["--allowance"] => {
+            allowance::print(10 * ROUNDS);
+            Ok(())
+        }
         ["--single", book, times] => alone(Size::Fixed(1), book, times),
         [book, times] => alone(Size::Full, book, times),
         _ => Err(
-            "arguments: none, --quick, --queries, --conversions, or [--single] --library N"
+            "arguments: none, --quick, --queries, --conversions, --allowance, or [--single] --library N"
                 .to_string(),
         ),
     };

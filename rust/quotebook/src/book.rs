@@ -2,7 +2,7 @@
 
 use std::fmt::{self, Debug, Formatter};
 
-use crate::lent::{self, ANSWER_LEN, PUBLICATION_LEN, RUN_MAX, STEPS_LEN, SYMBOL_LEN};
+use crate::lent::{self, ANSWER_LEN, PUBLICATION_LEN, RUN_MAX, SHARES_LEN, STEPS_LEN, SYMBOL_LEN};
 use crate::line::LineRecord;
 use crate::message::filled_up;
 use crate::number::{Number, Refusal};
@@ -74,6 +74,18 @@ impl Book {
     /// End of Day: closes the day and keeps the quotes.
     pub fn end_day(&mut self) -> Result<(), Refusal> {
         lent::end_day(&mut self.memory).result()
+    }
+
+    /// Sets an allowance of blocks for each tick, 1 to 255, with a guaranteed share for each line,
+    /// and starts a tick. What the blocks have above all shares is the spare, for any line. Start of
+    /// Day keeps the allowance and what is charged; only [`make`](Book::make) takes it away.
+    pub fn set_allowance(&mut self, blocks: u32, shares: &[u8; SHARES_LEN]) -> Result<(), Refusal> {
+        lent::set_allowance(&mut self.memory, blocks, shares).result()
+    }
+
+    /// Starts the next tick: nothing is charged in it yet. Without an allowance nothing changes.
+    pub fn tick(&mut self) -> Result<(), Refusal> {
+        lent::tick(&mut self.memory).result()
     }
 
     /// Takes a block of up to 45 messages on a line.

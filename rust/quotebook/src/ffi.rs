@@ -21,6 +21,14 @@ mod c {
         pub fn qb_open_line(book: *mut u8, len: usize, line: u32, letter: u8) -> u8;
         pub fn qb_start_day(book: *mut u8, len: usize) -> u8;
         pub fn qb_end_day(book: *mut u8, len: usize) -> u8;
+        pub fn qb_set_allowance(
+            book: *mut u8,
+            len: usize,
+            blocks: u32,
+            shares: *const u8,
+            shares_len: usize,
+        ) -> u8;
+        pub fn qb_tick(book: *mut u8, len: usize) -> u8;
         pub fn qb_take_block(
             book: *mut u8,
             len: usize,
@@ -146,6 +154,24 @@ pub fn start_day(book: &mut [u8]) -> u8 {
 pub fn end_day(book: &mut [u8]) -> u8 {
     // SAFETY: pointer and length are one slice's.
     unsafe { c::qb_end_day(book.as_mut_ptr(), book.len()) }
+}
+
+pub fn set_allowance(book: &mut [u8], blocks: u32, shares: &[u8]) -> u8 {
+    // SAFETY: each pointer and its length are one slice's; the shares are only read.
+    unsafe {
+        c::qb_set_allowance(
+            book.as_mut_ptr(),
+            book.len(),
+            blocks,
+            shares.as_ptr(),
+            shares.len(),
+        )
+    }
+}
+
+pub fn tick(book: &mut [u8]) -> u8 {
+    // SAFETY: pointer and length are one slice's.
+    unsafe { c::qb_tick(book.as_mut_ptr(), book.len()) }
 }
 
 /// The result of the call is the report's number too.

@@ -30,6 +30,8 @@ pub const SYMBOL_LEN: usize = 11;
 pub const STEP_LEN: usize = 13;
 /// The shortest output of an order: 25 steps.
 pub const STEPS_LEN: usize = 325;
+/// The shares of an allowance: one for each line.
+pub const SHARES_LEN: usize = 64;
 
 fn number(byte: u8) -> Number {
     Number::try_from(byte).expect("the library answers numbers of document 01")
@@ -70,6 +72,17 @@ pub fn start_day(book: &mut [u8]) -> Number {
 /// End of Day.
 pub fn end_day(book: &mut [u8]) -> Number {
     number(ffi::end_day(book))
+}
+
+/// Sets an allowance of blocks for each tick, 1 to 255, with a share for each of the 64 lines, and starts
+/// a tick.
+pub fn set_allowance(book: &mut [u8], blocks: u32, shares: &[u8]) -> Number {
+    number(ffi::set_allowance(book, blocks, shares))
+}
+
+/// Starts the next tick. Without an allowance nothing changes.
+pub fn tick(book: &mut [u8]) -> Number {
+    number(ffi::tick(book))
 }
 
 /// Takes a block on a line. Of a taken block's message i, the bytes 4i to 4i + 3 of `answer` are

@@ -41,6 +41,9 @@ table! {
     81 SnapshotShort "The output is shorter than the snapshot.";
     82 Lots "The lots are not 1 to 1,000,000.";
     83 StepsShort "The output is under 325 bytes.";
+    84 Allowance "The blocks for a tick are not 1 to 255.";
+    85 Shares "There are not 64 shares, or their sum is above the blocks for a tick.";
+    86 UsedUp "The share of the block's line and the spare are used in this tick.";
 }
 
 impl Number {

@@ -7,6 +7,8 @@ mod support;
 
 #[path = "../../second/tests/hand/accident.rs"]
 mod accident;
+#[path = "../../second/tests/hand/allowance.rs"]
+mod allowance;
 #[path = "../../second/tests/hand/cases.rs"]
 mod cases;
 #[path = "../../second/tests/hand/closed.rs"]

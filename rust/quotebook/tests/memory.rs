@@ -194,6 +194,8 @@ fn make_call(book: &mut Guarded, call: &Call, buffer: &mut [u8]) -> Told {
             told.tried = Some(tried);
             tried.number
         }
+        Call::SetAllowance { blocks, shares } => book.set_allowance(*blocks, shares),
+        Call::Tick => book.tick(),
     };
     told
 }
@@ -266,6 +268,10 @@ fn check_call(memory: &mut Vec<u8>, call: &Call) -> Result<Checked, String> {
             let code = buffer.bytes()[1];
             checked.met = on_wrong_entries(memory, &messages[0], code);
             checked.resent = resent(memory, &messages[0], code);
+        }
+        (Call::TakeBlock { line, .. }, 86) => {
+            let used_up = foretold::is_used_up(memory, *line as usize);
+            ensure(used_up, "86 with share or spare left")?;
         }
         (Call::IsProtected { .. }, 0) => {
             checked.met = against_the_entry(memory, call, asked.is_some_and(|told| told.yes));

@@ -8,7 +8,7 @@ mod support;
 use std::collections::BTreeSet;
 
 use second::generate::{self, Random};
-use second::mixing::{compare, make_calls, run, Shown, Streams, ToldByLine};
+use second::mixing::{compare, has_used_up, make_calls, run, Shown, Streams, ToldByLine};
 use second::{build, QuoteBook};
 use support::damage::damage;
 use support::foretold::NUMBERS;
@@ -42,6 +42,13 @@ fn any_two_mixings() {
             let told = run(book, &streams.mix(&mut random));
             (told, Shown::of(book, &symbols))
         });
+        // T-14: if one mixing has no 86, none has; with 86 the mixings may differ.
+        let used_up = has_used_up(&first.0);
+        assert_eq!(used_up, has_used_up(&second.0), "seed {seed}: 86");
+        if used_up {
+            reached.note(&first.0, 0);
+            continue;
+        }
         let flags = compare(&first.0, &second.0);
         let flags = flags.unwrap_or_else(|what| panic!("seed {seed}: {what}"));
         assert_eq!(first.1, second.1, "seed {seed}");

@@ -8,6 +8,7 @@ use std::collections::{BTreeMap, BTreeSet};
 use quotebook::snapshot::{self, SNAPSHOT_MAX};
 use quotebook::{lent, Price, Publication};
 use second::compare::{lent_part, observe};
+use second::mixing::make_calls;
 use second::snapshot::{blocks, decode, Latest, Snapshot};
 use second::{build, generate, Call, List, QuoteBook, SnapshotSize};
 use support::guarded::Guarded;
@@ -56,25 +57,7 @@ fn quote_of(message: &[u8]) -> Latest {
 /// The library's book after a list.
 fn after(list: &List) -> Guarded {
     let mut book = Guarded::fresh(list.n);
-    for call in &list.calls {
-        match call {
-            Call::Make { n } => _ = book.make(*n),
-            Call::AddSymbol {
-                symbol,
-                round_lot,
-                primary,
-            } => _ = book.add_symbol(symbol, *round_lot, *primary),
-            Call::OpenLine { line, letter } => _ = book.open_line(*line, *letter),
-            Call::StartDay => _ = book.start_day(),
-            Call::EndDay => _ = book.end_day(),
-            Call::TakeBlock {
-                line,
-                block,
-                answer_len,
-            } => _ = book.take_block(*line, block, &mut vec![0; *answer_len]),
-            _ => {}
-        }
-    }
+    make_calls(&mut book, &list.calls);
     book
 }
 

@@ -19,7 +19,7 @@ fn numbers_and_codes_are_those_of_the_documents() {
         .collect();
     let mut expected: Vec<u8> = (0..=12).collect();
     expected.extend([
-        20, 21, 30, 31, 32, 33, 34, 35, 70, 71, 72, 73, 74, 75, 78, 79, 80, 81, 82, 83,
+        20, 21, 30, 31, 32, 33, 34, 35, 70, 71, 72, 73, 74, 75, 78, 79, 80, 81, 82, 83, 84, 85, 86,
     ]);
     assert_eq!(numbers, expected);
     let codes: Vec<u8> = (0..=255)
@@ -74,10 +74,10 @@ fn refusals_say_why() {
 
 #[test]
 fn lengths() {
-    assert_eq!(lent::book_len(1), Some(847 + 6056));
-    assert_eq!(lent::book_len(64), Some(847 + 64 * 6056));
+    assert_eq!(lent::book_len(1), Some(976 + 6056));
+    assert_eq!(lent::book_len(64), Some(976 + 64 * 6056));
     assert_eq!([0, 65, 257, u32::MAX].map(lent::book_len), [None; 4]);
-    assert_eq!(Book::new(3).unwrap().as_bytes().len(), 847 + 3 * 6056);
+    assert_eq!(Book::new(3).unwrap().as_bytes().len(), 976 + 3 * 6056);
 }
 
 #[test]
@@ -432,6 +432,14 @@ fn a_book_and_lent_memory_agree() {
                     }
                     (written.map(|_| ()), lent.number)
                 }
+                // Shares that are not 64 have no method.
+                Call::SetAllowance { shares, .. } if shares.len() != 64 => continue,
+                Call::SetAllowance { blocks, shares } => {
+                    let lent = lent::set_allowance(&mut memory, *blocks, shares);
+                    let shares = shares[..].try_into().unwrap();
+                    (book.set_allowance(*blocks, shares), lent)
+                }
+                Call::Tick => (book.tick(), lent::tick(&mut memory)),
                 // A mark that is none has no method.
                 Call::IsProtected { side, .. } if !b"BS".contains(side) => continue,
                 Call::IsProtected {

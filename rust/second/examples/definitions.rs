@@ -171,6 +171,8 @@ fn term(call: &Call) -> String {
             lots,
             steps_len,
         } => format!("tryOrder {} {side} {lots} {steps_len}", row(symbol)),
+        Call::SetAllowance { blocks, shares } => format!("setAllowance {blocks} {}", row(shares)),
+        Call::Tick => "tick".to_string(),
     }
 }
 

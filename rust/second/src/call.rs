@@ -91,6 +91,15 @@ pub enum Call {
         /// The length of the output.
         steps_len: usize,
     },
+    /// Set the allowance.
+    SetAllowance {
+        /// The blocks for each tick.
+        blocks: u32,
+        /// The shares, of any number.
+        shares: Vec<u8>,
+    },
+    /// Start the next tick.
+    Tick,
 }
 
 /// A list of calls on a fresh book of n symbols.
@@ -155,6 +164,8 @@ impl Display for Call {
                 lots,
                 steps_len,
             } => write!(f, "order {} {side} {lots} {steps_len}", Hex(symbol)),
+            Call::SetAllowance { blocks, shares } => write!(f, "allow {blocks} {}", Hex(shares)),
+            Call::Tick => write!(f, "tick"),
         }
     }
 }
@@ -238,6 +249,11 @@ fn parse_call(words: &[&str]) -> Option<Call> {
             lots: lots.parse().ok()?,
             steps_len: steps_len.parse().ok()?,
         },
+        ["allow", blocks, shares] => Call::SetAllowance {
+            blocks: blocks.parse().ok()?,
+            shares: bytes(shares)?,
+        },
+        ["tick"] => Call::Tick,
         _ => return None,
     })
 }

@@ -156,6 +156,8 @@ fn observe_call(book: &mut dyn QuoteBook, call: &Call, watched: &Watched) -> Obs
             tried = Some(told);
             told.number
         }
+        Call::SetAllowance { blocks, shares } => book.set_allowance(*blocks, shares),
+        Call::Tick => book.tick(),
     };
     let publications = watched.symbols.iter().map(|symbol| {
         let mut publication = patterned(PUBLICATION_LEN);

@@ -1,5 +1,5 @@
 //! Counting which numbers, codes, flags, answers to queries, orders, cases of resent quotes, of closed
-//! venues, of leaders, of halts and of snapshots a run of lists has reached.
+//! venues, of leaders, of halts, of snapshots and of the allowance a run of lists has reached.
 
 mod closed;
 mod finra;
@@ -8,6 +8,7 @@ mod leading;
 mod prices;
 mod resent;
 mod snapshots;
+mod ticks;
 
 use std::collections::BTreeMap;
 use std::fmt::{self, Display, Formatter};
@@ -24,15 +25,16 @@ use halts::Halts;
 use leading::Leading;
 use resent::Resent;
 use snapshots::Snapshots;
+use ticks::Ticks;
 
 /// The numbers that each call can answer in a list.
-const NUMBERS: [(&str, &[u8]); 13] = [
+const NUMBERS: [(&str, &[u8]); 15] = [
     ("make", &[0, 2]),
     ("add", &[0, 3, 4, 5, 6, 75]),
     ("open", &[0, 7, 8]),
     ("start", &[0, 11]),
     ("end", &[0, 12]),
-    ("take", &[0, 9, 20, 21, 30, 31, 32, 33, 34, 35, 70]),
+    ("take", &[0, 9, 20, 21, 30, 31, 32, 33, 34, 35, 70, 86]),
     ("read", &[0, 9, 10]),
     ("protected", &[0, 10, 74]),
     ("convert_len", &[0, 78, 79]),
@@ -40,6 +42,8 @@ const NUMBERS: [(&str, &[u8]); 13] = [
     ("snapshot-len", &[0, 10]),
     ("snapshot", &[0, 10, 81]),
     ("order", &[0, 10, 74, 82, 83]),
+    ("allow", &[0, 84, 85]),
+    ("tick", &[0]),
 ];
 
 /// How many letters a query must have looked at before it answered yes: the positions of the letters
@@ -119,6 +123,7 @@ pub struct Coverage {
     finra: Finra,
     leading: Leading,
     halts: Halts,
+    ticks: Ticks,
 }
 
 impl Coverage {
@@ -126,6 +131,7 @@ impl Coverage {
     pub fn note(&mut self, list: &List, observed: &[Observed]) {
         self.start_list();
         self.leading.start_list();
+        self.ticks.start_list();
         for (call, observed) in list.calls.iter().zip(observed) {
             self.note_call(call, observed);
             self.leading.note(&observed.publications);
@@ -143,6 +149,7 @@ impl Coverage {
         self.calls += 1;
         let name = call_name(call);
         *self.numbers.entry((name, observed.number)).or_default() += 1;
+        self.ticks.note(call, observed.number);
         match (call, observed.number) {
             (Call::Make { .. }, 0) => self.start_list(),
             (Call::StartDay, 0) => {
@@ -262,6 +269,7 @@ impl Coverage {
         missing.extend(missing_in("flag", &FLAGS, &self.flags));
         missing.extend(self.resent.missing());
         missing.extend(self.halts.missing());
+        missing.extend(self.ticks.missing());
         missing.extend(missing_in("answer", &answers(LOOKED), &self.answers));
         missing.extend(self.closed.missing());
         missing.extend(self.snapshots.missing());
@@ -322,6 +330,8 @@ fn call_name(call: &Call) -> &'static str {
         Call::SnapshotLen { .. } => "snapshot-len",
         Call::Snapshot { .. } => "snapshot",
         Call::TryOrder { .. } => "order",
+        Call::SetAllowance { .. } => "allow",
+        Call::Tick => "tick",
     }
 }
 
@@ -365,6 +375,6 @@ impl Display for Coverage {
         }
         write!(f, "{}{}", self.resent, self.closed)?;
         write!(f, "{}{}", self.finra, self.leading)?;
-        writeln!(f, "{}{}", self.halts, self.snapshots)
+        writeln!(f, "{}{}{}", self.halts, self.snapshots, self.ticks)
     }
 }

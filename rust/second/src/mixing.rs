@@ -6,7 +6,7 @@ use std::collections::BTreeMap;
 use crate::call::Call;
 use crate::generate::Random;
 use crate::quote_book::{QuoteBook, Report};
-use crate::terms::{ANSWER_LEN, LINES, PUBLICATION_LEN};
+use crate::terms::{number, ANSWER_LEN, LINES, PUBLICATION_LEN};
 
 /// A block on its line, with the length of its answer buffer.
 #[derive(Clone, PartialEq, Eq, Debug)]
@@ -105,6 +105,8 @@ pub fn make_calls(book: &mut dyn QuoteBook, calls: &[Call]) {
             | Call::SnapshotLen { .. }
             | Call::Snapshot { .. }
             | Call::TryOrder { .. } => {}
+            Call::SetAllowance { blocks, shares } => drop(book.set_allowance(*blocks, shares)),
+            Call::Tick => drop(book.tick()),
         }
     }
 }
@@ -156,6 +158,13 @@ pub fn run(book: &mut dyn QuoteBook, mixing: &[&Received]) -> ToldByLine {
             .push(Told { report, answer });
     }
     told
+}
+
+/// Whether a block was refused with 86. T-14: two mixings are compared where none was, and "if one
+/// mixing has none, none has".
+pub fn has_used_up(told: &ToldByLine) -> bool {
+    let mut blocks = told.values().flatten();
+    blocks.any(|told| told.report.number == number::USED_UP)
 }
 
 /// How many messages have other change flags in two mixings, or what else differs of what the lines

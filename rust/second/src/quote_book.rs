@@ -122,6 +122,12 @@ pub trait QuoteBook {
     /// End of Day.
     fn end_day(&mut self) -> u8;
 
+    /// Sets an allowance of blocks for each tick with a share for each line, and starts a tick.
+    fn set_allowance(&mut self, blocks: u32, shares: &[u8]) -> u8;
+
+    /// Starts the next tick.
+    fn tick(&mut self) -> u8;
+
     /// Takes a block on a line. Of a taken block's message i, the answer buffer's bytes 4i to
     /// 4i + 3 are i, the code, the change flags and 0.
     fn take_block(&mut self, line: u32, block: &[u8], answer: &mut [u8]) -> Report;

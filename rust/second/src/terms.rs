@@ -68,6 +68,12 @@ pub mod number {
     pub const LOTS: u8 = 82;
     /// The output of an order is under 325 bytes.
     pub const STEPS_SHORT: u8 = 83;
+    /// The allowance to set is 0 or above 255.
+    pub const ALLOWANCE: u8 = 84;
+    /// Not 64 shares, or their sum is above the allowance.
+    pub const SHARES: u8 = 85;
+    /// A block whose line has its share used while the spare is used too.
+    pub const USED_UP: u8 = 86;
 }
 
 /// Codes that a message gets.

@@ -27,9 +27,9 @@ fn a_printed_list_is_read_back() {
         let list = generate::list(seed, 150);
         assert_eq!(list.to_string().parse(), Ok(list));
     }
-    let form = "fresh 2\nmake 2\nadd 5a54 100 78\nopen 5 78\nstart\nend\ntake 5 - 180\nread - 96\nprotected 5a54 66 0\nconvert_len -\nconvert 00 72\nsnapshot-len 5a54\nsnapshot - 1706\norder 5a54 83 1000000 325\n";
+    let form = "fresh 2\nmake 2\nadd 5a54 100 78\nopen 5 78\nstart\nend\ntake 5 - 180\nread - 96\nprotected 5a54 66 0\nconvert_len -\nconvert 00 72\nsnapshot-len 5a54\nsnapshot - 1706\norder 5a54 83 1000000 325\nallow 255 0102\ntick\n";
     let list: List = form.parse().expect("a list of every call");
-    assert_eq!(list.calls.len(), 13);
+    assert_eq!(list.calls.len(), 15);
     assert_eq!(list.to_string(), form);
     for wrong in [
         "",

@@ -7,7 +7,7 @@ use common::BOOKS;
 use second::compare::Fresh;
 use second::engine::{mistake, Book, FollowLeader, Recompute};
 use second::generate::{self, Random};
-use second::mixing::{compare, make_calls, one_line_each, run};
+use second::mixing::{compare, has_used_up, make_calls, one_line_each, run};
 use second::mixing::{Received, Shown, Streams, ToldByLine};
 use second::{Call, Converted, Engine, Protected, QuoteBook, Report, SnapshotSize, Tried};
 
@@ -48,6 +48,12 @@ impl Drawn {
         let second = self.streams.mix(&mut self.random);
         let (told, shown) = self.outcome(fresh, &first);
         let (other, shown_other) = self.outcome(fresh, &second);
+        if has_used_up(&told) != has_used_up(&other) {
+            return Err("86 in one of them alone".to_string());
+        }
+        if has_used_up(&told) {
+            return Ok(0);
+        }
         let flags = compare(&told, &other)?;
         if shown == shown_other {
             Ok(flags)
@@ -148,6 +154,14 @@ impl QuoteBook for Sharing {
 
     fn end_day(&mut self) -> u8 {
         self.engine.end_day()
+    }
+
+    fn set_allowance(&mut self, blocks: u32, shares: &[u8]) -> u8 {
+        self.engine.set_allowance(blocks, shares)
+    }
+
+    fn tick(&mut self) -> u8 {
+        self.engine.tick()
     }
 
     fn take_block(&mut self, line: u32, block: &[u8], answer: &mut [u8]) -> Report {

@@ -20,7 +20,9 @@ pub fn damage(random: &mut Random, memory: &mut Vec<u8>) {
             memory[at] = random.usually(50, &[0, 1, 2, 64, 65, 255], &[any]);
         }
         1 => {
-            let lengths = [0, 1, 8, 15, 846, 847, 848, 6902, 6903, 6904, 12959];
+            let lengths = [
+                0, 1, 8, 15, 846, 847, 848, 975, 976, 977, 7031, 7032, 7033, 13088,
+            ];
             memory.resize(random.pick(&lengths), 0x51);
         }
         2 => {

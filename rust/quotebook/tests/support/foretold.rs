@@ -7,19 +7,19 @@ use second::{build, Call, Converted, Protected, Report, SnapshotSize, Tried};
 
 use super::guarded::Guarded;
 use super::layout::{
-    in_page, is_book, is_letter, line, listed_page, page, record, COUNT, DAY, ENTRIES, LINES, LOT,
-    N, OPENING_LEN, PAGE_LEN, PRIMARY, SYMBOL,
+    in_page, is_book, is_letter, line, listed_page, page, record, ALLOWANCE, CHARGES, COUNT, DAY,
+    ENTRIES, LINES, LOT, N, OPENING_LEN, PAGE_LEN, PRIMARY, SHARES, SYMBOL,
 };
 use super::reading::Reading;
 
 /// The numbers that each call can answer.
-pub const NUMBERS: [(&str, &[u8]); 13] = [
+pub const NUMBERS: [(&str, &[u8]); 15] = [
     ("make", &[0, 2]),
     ("add", &[0, 1, 3, 4, 5, 6, 75]),
     ("open", &[0, 1, 7, 8]),
     ("start", &[0, 1, 11]),
     ("end", &[0, 1, 12]),
-    ("take", &[0, 1, 9, 20, 21, 30, 31, 32, 33, 34, 35, 70]),
+    ("take", &[0, 1, 9, 20, 21, 30, 31, 32, 33, 34, 35, 70, 86]),
     ("read", &[0, 1, 9, 10]),
     ("protected", &[0, 1, 10, 74]),
     ("convert_len", &[0, 1, 78, 79]),
@@ -27,6 +27,8 @@ pub const NUMBERS: [(&str, &[u8]); 13] = [
     ("snapshot-len", &[0, 1, 10]),
     ("snapshot", &[0, 1, 10, 81]),
     ("order", &[0, 1, 10, 74, 82, 83]),
+    ("allow", &[0, 1, 84, 85]),
+    ("tick", &[0, 1]),
 ];
 
 /// The row of a call in the table.
@@ -45,6 +47,8 @@ pub fn row(call: &Call) -> usize {
         Call::SnapshotLen { .. } => 10,
         Call::Snapshot { .. } => 11,
         Call::TryOrder { .. } => 12,
+        Call::SetAllowance { .. } => 13,
+        Call::Tick => 14,
     }
 }
 
@@ -130,6 +134,14 @@ pub fn number(memory: &[u8], call: &Call) -> Option<u8> {
             (!(1..=1_000_000).contains(lots), 82),
             (*steps_len < 325, 83),
         ],
+        Call::SetAllowance { blocks, shares } => {
+            let sum: u32 = shares.iter().map(|&share| u32::from(share)).sum();
+            vec![
+                (*blocks == 0 || *blocks > 255, 84),
+                (shares.len() != LINES || sum > *blocks, 85),
+            ]
+        }
+        Call::Tick => vec![],
     };
     let fault = checks.iter().find(|check| check.0);
     match (fault, call) {
@@ -137,6 +149,17 @@ pub fn number(memory: &[u8], call: &Call) -> Option<u8> {
         (None, Call::TakeBlock { .. }) => None,
         (None, _) => Some(0),
     }
+}
+
+/// Whether share and spare of a line are used. In any memory B 0 is no allowance, and the spare is B less
+/// the shares, 0 if they are more.
+pub fn is_used_up(memory: &[u8], at: usize) -> bool {
+    let blocks = u32::from(memory[ALLOWANCE]);
+    let share = |at: usize| u32::from(memory[SHARES + at]);
+    let charged = |at: usize| u32::from(memory[CHARGES + at]);
+    let spare = blocks.saturating_sub((0..LINES).map(share).sum());
+    let of_spare = |at: usize| charged(at).saturating_sub(share(at));
+    blocks > 0 && charged(at) >= share(at) && (0..LINES).map(of_spare).sum::<u32>() >= spare
 }
 
 /// What a query on memory of any bytes answers: by the quotes of the page, whatever entries it keeps.
@@ -284,6 +307,20 @@ impl Left<'_> {
             Call::Convert { .. } => self.check_converted(call),
             Call::Snapshot { symbol, .. } => self.check_snapshot(symbol),
             Call::TryOrder { .. } => self.check_order(call),
+            Call::SetAllowance { blocks, shares } => {
+                let mut set = self.before.to_vec();
+                set[ALLOWANCE] = *blocks as u8;
+                set[SHARES..CHARGES].copy_from_slice(shares);
+                set[CHARGES..OPENING_LEN].fill(0);
+                ensure(self.after == set, "a setting wrote otherwise")
+            }
+            Call::Tick => {
+                let mut ticked = self.before.to_vec();
+                if ticked[ALLOWANCE] != 0 {
+                    ticked[CHARGES..OPENING_LEN].fill(0);
+                }
+                ensure(self.after == ticked, "a tick wrote otherwise")
+            }
         }
     }
 
@@ -329,6 +366,7 @@ impl Left<'_> {
 
     fn check_started(&self) -> Result<(), String> {
         ensure(self.after[DAY] == 1, "the day is not open")?;
+        self.check_charges_kept()?;
         for at in 0..LINES {
             self.check_line(at, self.before[line(at).start], (1, 0))?;
         }
@@ -336,6 +374,24 @@ impl Left<'_> {
             ensure(is_blank(&self.after[page(at)]), format!("page {at} stands"))?;
         }
         Ok(())
+    }
+
+    fn check_charges_kept(&self) -> Result<(), String> {
+        let kept = self.before[ALLOWANCE..OPENING_LEN] == self.after[ALLOWANCE..OPENING_LEN];
+        ensure(kept, "the allowance or its charges changed")
+    }
+
+    /// A block was not refused with 86, and one more is charged to its line.
+    fn check_charged(&self, at: usize) -> Result<(), String> {
+        if self.before[ALLOWANCE] == 0 {
+            return self.check_charges_kept();
+        }
+        let left = !is_used_up(self.before, at);
+        ensure(left, "taken with share and spare used")?;
+        let mut one_more = self.before[ALLOWANCE..OPENING_LEN].to_vec();
+        one_more[CHARGES - ALLOWANCE + at] += 1;
+        let right = self.after[ALLOWANCE..OPENING_LEN] == one_more;
+        ensure(right, "the charge of the block")
     }
 
     /// Reading copies the entries that the page keeps.
@@ -380,6 +436,9 @@ impl Left<'_> {
             gap = sequence.wrapping_sub(expected);
             expected = sequence.wrapping_add(c as u32);
             count = count.wrapping_add(c as u64);
+            self.check_charged(at)?;
+        } else {
+            self.check_charges_kept()?;
         }
         self.check_line(at, self.before[line(at).start], (expected, count))?;
         let (answers, behind) = self.buffer.split_at(4 * c);

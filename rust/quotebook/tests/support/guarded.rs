@@ -7,7 +7,10 @@ use std::ops::{BitXorAssign, Range};
 use quotebook::{lent, Number};
 use second::{build, Converted, Protected, QuoteBook, Report, SnapshotSize, Tried};
 
-use super::layout::{self, byte, in_page, line, moved, page, CONTENTS, COUNT, DAY, LINES, N};
+use super::layout::{
+    self, byte, in_page, line, moved, page, ALLOWANCE, CHARGES, CONTENTS, COUNT, DAY, LINES, N,
+    OPENING_LEN,
+};
 
 /// Answered instead of the call's number if memory was written that may not be. No call of a book
 /// has these numbers, so that the comparison fails at this call.
@@ -137,10 +140,10 @@ impl Guarded {
         u8::from(number)
     }
 
-    /// What a taken block may change: its line's numbers, and the contents of each page that an
+    /// What a taken block may change: its line's numbers and charge, and the contents of each page that an
     /// accepted or partly accepted message names; with an accepted FINRA Close or Open, of every page.
     fn may_change(&self, line: u32, block: &[u8], answer: &[u8]) -> Vec<Range<usize>> {
-        let mut allowed = vec![moved(line as usize)];
+        let mut allowed = vec![moved(line as usize), byte(CHARGES + line as usize)];
         let (_, messages) = build::split(block).expect("a taken block has its messages");
         for (message, answer) in messages.iter().zip(answer.chunks_exact(4)) {
             let (kind, code) = (&message[..2], answer[1]);
@@ -203,6 +206,20 @@ impl QuoteBook for Guarded {
     fn end_day(&mut self) -> u8 {
         let number = lent::end_day(self.memory.bytes_mut());
         self.settle(number, &[byte(DAY)], true)
+    }
+
+    fn set_allowance(&mut self, blocks: u32, shares: &[u8]) -> u8 {
+        let argument = Fenced::new(shares);
+        let number = lent::set_allowance(self.memory.bytes_mut(), blocks, argument.bytes());
+        let kept = argument.keeps(shares);
+        let allowance = ALLOWANCE..OPENING_LEN;
+        self.settle(number, &[allowance], kept)
+    }
+
+    fn tick(&mut self) -> u8 {
+        let number = lent::tick(self.memory.bytes_mut());
+        let charges = CHARGES..OPENING_LEN;
+        self.settle(number, &[charges], true)
     }
 
     fn take_block(&mut self, line: u32, block: &[u8], answer: &mut [u8]) -> Report {

@@ -8,7 +8,11 @@ pub const COUNT: usize = 9;
 pub const DAY: usize = 10;
 pub const FIRST_PAGE: Range<usize> = 11..15;
 pub const LINES: usize = 64;
-pub const OPENING_LEN: usize = 847;
+pub const OPENING_LEN: usize = 976;
+/// Behind the lines: B, a share for each line, the charges of each line.
+pub const ALLOWANCE: usize = 847;
+pub const SHARES: usize = 848;
+pub const CHARGES: usize = 912;
 pub const PAGE_LEN: usize = 6056;
 
 /// Within a page: the symbol, the round lot, the primary letter, the six entries, and all that

@@ -182,4 +182,14 @@ mistakes! {
     164 HALTED_NOT_SHOWN "A halted symbol's snapshot shows no letter.";
     165 HALT_TOLD "A halted symbol's snapshot has a halt reason in R C.";
     166 PRIMARY_TOLD "A snapshot has the primary letter in R C.";
+    167 SPARE_FIRST "A block is charged to the spare before its line's share.";
+    168 NO_SPARE "A line has its share alone, and no block is charged to the spare.";
+    169 DUPLICATE_CHARGED "A block refused with 35 is charged.";
+    170 USED_BEFORE_DUPLICATE "86 is checked before 35.";
+    171 FREE_CHARGED "C I, C T and C 5 are charged, and refused with 86.";
+    172 START_TICKS "Start of Day starts a tick.";
+    173 MAKE_KEEPS_ALLOWANCE "A later make keeps the allowance.";
+    174 REFUSED_SETTING_TICKS "A refused setting starts a tick.";
+    175 BLOCKS_CUT "The blocks of a setting are cut to a byte.";
+    176 TICK_KEEPS_SPARE "A tick gives the shares back, and the spare stays charged.";
 }

@@ -1,6 +1,7 @@
 //! The engine: native structs, six kept entries for each symbol, no allocation while a block is
 //! taken.
 
+mod allowance;
 mod block;
 mod bytes;
 mod candidate;
@@ -25,6 +26,7 @@ use crate::terms::{
     SYMBOLS_MAX,
 };
 use crate::venue::{self, Converted};
+use allowance::Allowance;
 use candidate::Side;
 use directory::{well_formed, Directory, Symbol};
 use page::Page;
@@ -46,6 +48,7 @@ pub struct Book<U, const MISTAKE: u8> {
     directory: Directory,
     lines: [Line; LINES],
     day_open: bool,
+    allowance: Option<Allowance>,
     update: PhantomData<U>,
 }
 
@@ -81,6 +84,7 @@ impl<U: Update, const M: u8> Book<U, M> {
             directory: Directory::EMPTY,
             lines: [Line::CLOSED; LINES],
             day_open: false,
+            allowance: None,
             update: PhantomData,
         })
     }
@@ -103,6 +107,9 @@ impl<U: Update, const M: u8> QuoteBook for Book<U, M> {
             self.lines = [Line::CLOSED; LINES];
         }
         self.day_open = false;
+        if M != mistake::MAKE_KEEPS_ALLOWANCE {
+            self.allowance = None;
+        }
         number::DONE
     }
 
@@ -168,6 +175,9 @@ impl<U: Update, const M: u8> QuoteBook for Book<U, M> {
         for line in &mut self.lines {
             *line = Line::starting(line.letter);
         }
+        if M == mistake::START_TICKS {
+            self.tick();
+        }
         self.day_open = true;
         number::DONE
     }
@@ -188,6 +198,33 @@ impl<U: Update, const M: u8> QuoteBook for Book<U, M> {
             }
         }
         self.day_open = false;
+        number::DONE
+    }
+
+    /// Checks 84, 85. A refused setting keeps the old one and starts no tick.
+    fn set_allowance(&mut self, blocks: u32, shares: &[u8]) -> u8 {
+        let blocks = match M {
+            mistake::BLOCKS_CUT => blocks % 256,
+            _ => blocks,
+        };
+        match Allowance::set(blocks, shares) {
+            Ok(allowance) => {
+                self.allowance = Some(allowance);
+                number::DONE
+            }
+            Err(number) => {
+                if M == mistake::REFUSED_SETTING_TICKS {
+                    self.tick();
+                }
+                number
+            }
+        }
+    }
+
+    fn tick(&mut self) -> u8 {
+        if let Some(allowance) = &mut self.allowance {
+            allowance.tick::<M>();
+        }
         number::DONE
     }
 

@@ -33,9 +33,42 @@ impl<U: Update, const M: u8> Book<U, M> {
         let Some((record, letter)) = self.open_record(at) else {
             return refused(number::LINE_NOT_OPEN, 0, 0);
         };
-        match admit::<M>(&record, letter, self.day_open, bytes) {
+        let admitted = admit::<M>(&record, letter, self.day_open, bytes);
+        if matches!(admitted, Err(number::DUPLICATE)) {
+            if let Some(number) = self.mistaken_for_duplicate(at) {
+                return refused(number, record.expected, record.count);
+            }
+        }
+        match admitted.and_then(|admitted| self.charge(at, &admitted).map(|()| admitted)) {
             Ok(admitted) => self.work_block(at, letter, &admitted, answer),
             Err(number) => refused(number, record.expected, record.count),
+        }
+    }
+
+    /// Check 86. A block that does not move its line is free.
+    #[inline]
+    fn charge(&mut self, line: usize, admitted: &Admitted) -> Result<(), u8> {
+        let free = !admitted.moves_line && M != mistake::FREE_CHARGED;
+        match &mut self.allowance {
+            Some(allowance) if !free => allowance.charge::<M>(line),
+            _ => Ok(()),
+        }
+    }
+
+    /// What two mistakes do with a duplicate.
+    #[inline]
+    fn mistaken_for_duplicate(&mut self, line: usize) -> Option<u8> {
+        let allowance = self.allowance.as_mut()?;
+        match M {
+            mistake::DUPLICATE_CHARGED => {
+                let _ = allowance.charge::<M>(line);
+                None
+            }
+            mistake::USED_BEFORE_DUPLICATE => {
+                let mut tried = *allowance;
+                tried.charge::<M>(line).err()
+            }
+            _ => None,
         }
     }
 

@@ -18,7 +18,9 @@ use crate::build::Shown;
 use crate::call::{Call, List};
 use crate::engine::Engine;
 use crate::quote_book::QuoteBook;
-use crate::terms::{number, ANSWER_LEN, PUBLICATION_LEN, ROUND_LOTS, SNAPSHOT_MAX, STEPS_LEN};
+use crate::terms::{
+    number, ANSWER_LEN, LINES, PUBLICATION_LEN, ROUND_LOTS, SNAPSHOT_MAX, STEPS_LEN,
+};
 use crate::venue::Converting;
 use pools::{Pools, Symbol, Theme};
 pub use random::{from_environment, Random};
@@ -31,6 +33,9 @@ pub fn list(seed: u64, calls: usize) -> List {
     let theme = Theme::draw(&mut random);
     let n = theme.draw_n(&mut random);
     let mut generator = Generator::new(random, theme, n);
+    // Drawn apart, so that a list without an allowance is what its seed gave before there was one.
+    let mut ticks = Random::new(!seed);
+    generator.ticks = ticks.percent(25).then_some(ticks);
     let calls = (0..calls).map(|_| generator.next_call()).collect();
     List { n, calls }
 }
@@ -80,6 +85,8 @@ struct Generator {
     day_open: bool,
     /// The last sides drawn for a letter or a maker, and a symbol.
     quoted: BTreeMap<(Source, Symbol), [Shown; 2]>,
+    /// Draws settings and ticks, in a list that has them.
+    ticks: Option<Random>,
 }
 
 /// A letter, and on D's line a maker.
@@ -99,6 +106,7 @@ impl Generator {
             listed: Vec::new(),
             day_open: false,
             quoted: BTreeMap::new(),
+            ticks: None,
         };
         generator.set_up();
         generator
@@ -107,7 +115,10 @@ impl Generator {
     fn next_call(&mut self) -> Call {
         let call = match self.setup.pop_front() {
             Some(call) => call,
-            None => self.draw_call(),
+            None => match self.allowance_call() {
+                Some(call) => call,
+                None => self.draw_call(),
+            },
         };
         self.follow(&call);
         call
@@ -162,6 +173,26 @@ impl Generator {
             10 => self.snapshot_call(),
             _ => self.order_call(),
         }
+    }
+
+    /// Seldom, in a list that has them: a tick, or a setting so small that blocks are refused.
+    fn allowance_call(&mut self) -> Option<Call> {
+        let random = self.ticks.as_mut()?;
+        if !random.percent(12) {
+            return None;
+        }
+        if random.percent(55) {
+            return Some(Call::Tick);
+        }
+        let blocks = random.usually(85, &[1, 2, 3, 5, 8, 255], &[0, 256, 257, 261, u32::MAX]);
+        let wrong_lengths = [0, 1, 63, 65, 128];
+        let mut shares = vec![0; random.usually(90, &[LINES], &wrong_lengths)];
+        for open in &self.lines {
+            if let Some(share) = shares.get_mut(open.line as usize) {
+                *share = random.usually(95, &[0, 0, 1, 1, 2], &[3, 128, 255]);
+            }
+        }
+        Some(Call::SetAllowance { blocks, shares })
     }
 
     fn read_call(&mut self) -> Call {
@@ -329,6 +360,12 @@ impl Generator {
                 if let Some(open) = open.filter(|_| report.number != number::BUFFER_SHORT) {
                     open.expected = report.expected;
                 }
+            }
+            Call::SetAllowance { blocks, shares } => {
+                self.book.set_allowance(*blocks, shares);
+            }
+            Call::Tick => {
+                self.book.tick();
             }
             Call::Read { .. }
             | Call::IsProtected { .. }

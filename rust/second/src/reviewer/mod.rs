@@ -25,7 +25,27 @@ pub struct Reviewer {
     symbols: Vec<Listed>,
     lines: Vec<Line>,
     day_open: bool,
+    allowance: Option<Allowance>,
     history: Vec<Vec<u8>>,
+}
+
+/// What check 86 reads: B, the shares, and the lines of the blocks charged in this tick.
+struct Allowance {
+    blocks: u32,
+    shares: Vec<u8>,
+    charged: Vec<u32>,
+}
+
+impl Allowance {
+    /// "Charged, to its line's share first, then to the spare, which is B less all shares."
+    fn has_left(&self, line: u32) -> bool {
+        let charged =
+            |line: u32| self.charged.iter().filter(|&&other| other == line).count() as u32;
+        let share = |line: u32| u32::from(self.shares[line as usize]);
+        let spare = self.blocks - (0..LINES as u32).map(share).sum::<u32>();
+        let of_spare = |line: u32| charged(line).saturating_sub(share(line));
+        charged(line) < share(line) || (0..LINES as u32).map(of_spare).sum::<u32>() < spare
+    }
 }
 
 /// A listed symbol.
@@ -61,12 +81,22 @@ impl Reviewer {
             symbols: Vec::new(),
             lines: vec![NEW_LINE; LINES],
             day_open: false,
+            allowance: None,
             history: Vec::new(),
         })
     }
 
     fn listed(&self, symbol: &[u8]) -> Option<&Listed> {
         self.symbols.iter().find(|listed| listed.symbol == symbol)
+    }
+
+    /// Check 86.
+    fn is_used_up(&self, line: u32) -> bool {
+        let left = self
+            .allowance
+            .as_ref()
+            .map(|allowance| allowance.has_left(line));
+        left == Some(false)
     }
 
     /// The 96 bytes that the history gives for a symbol.
@@ -136,6 +166,7 @@ impl QuoteBook for Reviewer {
         self.symbols.clear();
         self.lines = vec![NEW_LINE; LINES];
         self.day_open = false;
+        self.allowance = None;
         self.history.clear();
         number::DONE
     }
@@ -200,6 +231,29 @@ impl QuoteBook for Reviewer {
         number::DONE
     }
 
+    fn set_allowance(&mut self, blocks: u32, shares: &[u8]) -> u8 {
+        if blocks == 0 || blocks > 255 {
+            return number::ALLOWANCE;
+        }
+        let sum: u32 = shares.iter().map(|&share| u32::from(share)).sum();
+        if shares.len() != LINES || sum > blocks {
+            return number::SHARES;
+        }
+        self.allowance = Some(Allowance {
+            blocks,
+            shares: shares.to_vec(),
+            charged: Vec::new(),
+        });
+        number::DONE
+    }
+
+    fn tick(&mut self) -> u8 {
+        if let Some(allowance) = &mut self.allowance {
+            allowance.charged.clear();
+        }
+        number::DONE
+    }
+
     fn take_block(&mut self, line: u32, block: &[u8], answer: &mut [u8]) -> Report {
         let mut report = Report::default();
         if answer.len() < ANSWER_LEN {
@@ -213,7 +267,13 @@ impl QuoteBook for Reviewer {
         let expected = self.lines[line as usize].expected;
         match block::check(block, self.day_open, expected) {
             Err(number) => report.number = number,
+            Ok(taken) if taken.next_expected.is_some() && self.is_used_up(line) => {
+                report.number = number::USED_UP;
+            }
             Ok(taken) => {
+                if let (Some(_), Some(allowance)) = (taken.next_expected, &mut self.allowance) {
+                    allowance.charged.push(line);
+                }
                 report.number = if taken.gap == 0 { 0 } else { number::GAP };
                 report.gap = taken.gap;
                 for (i, message) in taken.messages.iter().enumerate() {

@@ -7,6 +7,7 @@ mod common;
 mod desk;
 
 mod accident;
+mod allowance;
 mod cases;
 mod closed;
 mod entries;
