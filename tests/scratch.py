@@ -8,8 +8,8 @@ ROWS = os.path.join(ROOT, "tests", "rows")
 FALSE = r"((as printed|computed as far as they go), the two types|this `_▹_` lands at index|expected type `)"
 
 
-def crates(last):
-    """The crates that this one uses, by crates.txt, and itself behind them."""
+def crates(*last):
+    """The crates that these use, by crates.txt, each before those that use it, and themselves."""
     uses = {}
     for line in open(os.path.join(ROOT, "crates.txt")):
         name, colon, rest = line.split("#")[0].partition(":")
@@ -23,7 +23,8 @@ def crates(last):
         if name in uses and name not in found:
             found.append(name)
 
-    add(last)
+    for name in last:
+        add(name)
     return found
 
 
@@ -41,12 +42,12 @@ def types(text):
     return "// Declared types only.\n" + "\n".join(out) + "\n"
 
 
-def made(top, crate):
-    """Definitions and declared types of a crate and of those that it uses, at this place, and nothing of an earlier run. Gives their names."""
+def made(top, *last):
+    """Definitions and declared types of these crates and of those that they use, at this place, and nothing of an earlier run. Gives their names."""
     shutil.rmtree(top, ignore_errors=True)
     os.makedirs(os.path.join(top, "crates"))
     shutil.copy(os.path.join(ROOT, "crates.txt"), top)
-    names = crates(crate)
+    names = crates(*last)
     for c in names:
         src, dst = os.path.join(ROOT, "crates", c), os.path.join(top, "crates", c)
         os.makedirs(os.path.join(dst, "src"))

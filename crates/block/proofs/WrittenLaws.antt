@@ -25,7 +25,7 @@ use Rattle.block.proofs.StartLaws.{next-start, start-within}
 
 -- ---- a control message among others, by the table and by the messages
 
-length-messages : (b : List ℕ) (i k : ℕ) → length (messagesFrom b i k) ≡ k
+pub length-messages : (b : List ℕ) (i k : ℕ) → length (messagesFrom b i k) ≡ k
 unfolding messagesFrom
 length-messages b i zero = refl
 length-messages b i (suc k) = ap suc (length-messages b (i + 1) k)

@@ -28,7 +28,7 @@ venue-done v = go (blockGood v && messagesGood (venueCount v) (venueSequence v) 
     go false t = refl
 
 -- 80 besides
-convert-done : (v : List ℕ) (room : ℕ) → done (convertNumber v room) ≡ eqb (convertNumber v room) 0
+pub convert-done : (v : List ℕ) (room : ℕ) → done (convertNumber v room) ≡ eqb (convertNumber v room) 0
 unfolding convertNumber venueNumber done
 convert-done v room = go (blockGood v && messagesGood (venueCount v) (venueSequence v) 0 (venueMessages v)) (messagesPlaced (venueMessages v)) (ltb room (neededOf v))
   where

@@ -37,7 +37,7 @@ splice-none p = refl
 
 module _ (b : List ℕ) where
   -- a read copies 96 bytes of the page
-  published-at : (s k : ℕ) → pagePlace b s ≡ At k → publishedOn b s ≡ keptEntries (pageAt b k)
+  pub published-at : (s k : ℕ) → pagePlace b s ≡ At k → publishedOn b s ≡ keptEntries (pageAt b k)
   unfolding readingOf
   published-at s k e = ap entriesIn (find-page b s ∙ ap (foundBy (λ j. some (readingOf (pageAt b j))) none) e)
 

@@ -8,7 +8,11 @@ use borrow.Author.Tests.{le-leb, lt-leb}
 use Rattle.block.specs.Written.{Out, writtenOut}
 use Rattle.calls.specs.Buffers.{TakenBlock, taken, FeedOut, feedOut, OrderOut, orderOut, RunOut, runOut}
 use Rattle.calls.specs.Call.{Outcome, queried, runTold, fed, call, protected, convertLen, snapshotLen}
-use Rattle.quotebook.specs.Interface.{bookLen, numbered, takenNumbers, queryNumbers, protectedNumbers, amountNumbers, lengthNumbers, runNumbers, convertedNumbers, outNumbers, writtenNumbers, orderNumbers, triedNumbers, SizeNumbers, sizeNumbers, feedSized, feedNumbers}
+use Rattle.quotebook.specs.Interface.{bookLen, numbered, takenNumbers, queryNumbers, protectedNumbers, amountNumbers, lengthNumbers, runNumbers, convertedNumbers, outNumbers, writtenNumbers, orderNumbers, triedNumbers, SizeNumbers, sizeNumbers, feedSized, feedNumbers, headNumbers, logNumbers, replayedNumbers, restoredNumbers, QueryNumbers}
+use Rattle.logform.specs.Log.{headOf}
+use Rattle.logform.specs.declared.Head.{Head}
+use Rattle.logcalls.specs.Replayed.{Replayed, replayed}
+use Rattle.logcalls.specs.Restored.{restored}
 use Rattle.opening.specs.Layout.{bookLength, symbolsMost}
 
 module _ (n : ℕ) where
@@ -56,3 +60,15 @@ feed-sized b s out f h = ap feedSized h
 pub order-told : (b s : List ℕ) (m w : ℕ) (steps : List ℕ) (o : OrderOut) → o ≡ orderOut b s m w steps → orderNumbers o ≡ triedNumbers b s m w steps
 unfolding triedNumbers
 order-told b s m w steps o h = ap orderNumbers h
+
+pub head-numbered : (log : List ℕ) (h : Head) → h ≡ headOf log → record { number = h .number; report = h .number ∷ h .n ∷ h .requests ∷ [] } ≡ headNumbers log
+unfolding headNumbers
+head-numbered log h e = ap (λ (x : Head). record { number = x .number; report = x .number ∷ x .n ∷ x .requests ∷ [] }) e
+
+pub replay-numbered : (b log : List ℕ) (from : ℕ) (out : List ℕ) (r : Replayed) → r ≡ replayed b log from out → logNumbers r ≡ replayedNumbers b log from out
+unfolding replayedNumbers
+replay-numbered b log from out r e = ap logNumbers e
+
+pub restore-numbered : (b log out : List ℕ) (r : Replayed) → r ≡ restored b log out → logNumbers r ≡ restoredNumbers b log out
+unfolding restoredNumbers
+restore-numbered b log out r e = ap logNumbers e

@@ -8,11 +8,14 @@ use Rattle.block.specs.Written.{Out, writtenOut}
 use Rattle.calls.specs.declared.Report.{Report}
 use Rattle.calls.specs.Buffers.{TakenBlock, taken, FeedOut, feedOut, OrderOut, orderOut, RunOut, runOut}
 use Rattle.calls.specs.Call.{Answer, call, protected, convertLen, snapshotLen}
+use Rattle.logform.specs.Log.{headOf}
+use Rattle.logcalls.specs.Replayed.{Replayed, replayed}
+use Rattle.logcalls.specs.Restored.{restored}
 use Rattle.opening.specs.Layout.{bookLength, symbolsMost}
 
 -- 10000 * major + 100 * minor + patch; QB_LIBRARY_VERSION in the header
 abbrev pub libraryVersion : ℕ
-libraryVersion = 10100
+libraryVersion = 10200
 
 -- 0 where n is not 1 to 64
 unfoldable pub bookLen : ℕ → ℕ
@@ -112,3 +115,23 @@ orderNumbers o = record { number = o .number; report = o .number ∷ o .found �
 -- T-13: number, steps, lots not found; and the output
 unfoldable pub triedNumbers : List ℕ → List ℕ → ℕ → ℕ → List ℕ → TriedNumbers
 triedNumbers b s m w steps = orderNumbers (orderOut b s m w steps)
+
+-- a log's head: number, symbols, requests
+unfoldable pub headNumbers : List ℕ → QueryNumbers
+headNumbers log = record { number = headOf log .number; report = headOf log .number ∷ headOf log .n ∷ headOf log .requests ∷ [] }
+
+pub record LogNumbers : Type 0 where
+  pub number : ℕ
+  pub bytes : List ℕ
+  pub report : List ℕ
+  pub output : List ℕ
+
+-- a log replayed: number, place in the log, bytes written
+abbrev pub logNumbers : Replayed → LogNumbers
+logNumbers r = record { number = r .number; bytes = r .bytes; report = r .number ∷ r .place ∷ r .written ∷ []; output = r .output }
+
+unfoldable pub replayedNumbers : List ℕ → List ℕ → ℕ → List ℕ → LogNumbers
+replayedNumbers b log from output = logNumbers (replayed b log from output)
+
+unfoldable pub restoredNumbers : List ℕ → List ℕ → List ℕ → LogNumbers
+restoredNumbers b log output = logNumbers (restored b log output)

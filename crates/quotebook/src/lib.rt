@@ -3,7 +3,7 @@ ghost use mathlib.Core.Path.{_≡_};
 ghost use mathlib.Core.Bool.{cond};
 ghost use Rattle.calls.specs.Call.{bare, call, make, add, openLine, startDay, endDay, setAllowance, tick};
 ghost use Rattle.calls.specs.Buffers.{readOut};
-ghost use Rattle.quotebook.specs.Interface.{bookLen, libraryVersion, takenNumbers, protectedNumbers, triedNumbers, writtenNumbers, lengthNumbers, convertedNumbers, sizeNumbers, feedNumbers};
+ghost use Rattle.quotebook.specs.Interface.{bookLen, libraryVersion, takenNumbers, protectedNumbers, triedNumbers, writtenNumbers, lengthNumbers, convertedNumbers, sizeNumbers, feedNumbers, headNumbers, replayedNumbers, restoredNumbers};
 use opening::Book;
 
 const OPENING: u64 = Book::OPENING_LEN as u64;
@@ -11,7 +11,7 @@ const OPENING: u64 = Book::OPENING_LEN as u64;
 const PAGE: u64 = Book::PAGE_LEN as u64;
 
 // 10000 * major + 100 * minor + patch
-const VERSION: u32 = 10100;
+const VERSION: u32 = 10200;
 
 /// The library's version; the header's is QB_LIBRARY_VERSION.
 #[no_mangle]
@@ -220,5 +220,46 @@ pub extern "C" fn qb_try_order(
 {
     let told = query::try_order(book, symbol, side, lots, steps);
     *report = [told.number as u64, told.steps as u64, told.unfilled as u64];
+    told.number
+}
+
+/// The report's three numbers: number, symbols, requests. The result is the number too.
+#[no_mangle]
+pub extern "C" fn qb_log_head(log: &[u8], report: &mut [u64; 3]) -> u8
+    ensures { λ r. ⌜ record { number = r; report = now (report .exit) } ≡ headNumbers (now (log .entry)) ⌝ }
+{
+    let told = logform::read_head(log);
+    *report = [told.number as u64, told.n as u64, told.requests as u64];
+    told.number
+}
+
+/// The report's three numbers: number, place in the log, bytes written. The result is the number too.
+#[no_mangle]
+pub extern "C" fn qb_replay(
+    book: &mut [u8],
+    log: &[u8],
+    from: usize,
+    output: &mut [u8],
+    report: &mut [u64; 3],
+) -> u8
+    ensures { λ r. ⌜ record { number = r; bytes = now (book .exit); report = now (report .exit); output = now (output .exit) } ≡ replayedNumbers (now (book .entry)) (now (log .entry)) from (now (output .entry)) ⌝ }
+{
+    let told = replay::replay(book, log, from, output);
+    *report = [told.number as u64, told.place as u64, told.written as u64];
+    told.number
+}
+
+/// The report's three numbers: number, place in the log, bytes written. The result is the number too.
+#[no_mangle]
+pub extern "C" fn qb_restore(
+    book: &mut [u8],
+    log: &[u8],
+    output: &mut [u8],
+    report: &mut [u64; 3],
+) -> u8
+    ensures { λ r. ⌜ record { number = r; bytes = now (book .exit); report = now (report .exit); output = now (output .exit) } ≡ restoredNumbers (now (book .entry)) (now (log .entry)) (now (output .entry)) ⌝ }
+{
+    let told = restore::restore(book, log, output);
+    *report = [told.number as u64, told.place as u64, told.written as u64];
     told.number
 }

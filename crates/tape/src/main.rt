@@ -41,7 +41,7 @@ fn play(book: &mut [u8], n: usize, input: &mut Input, out: &mut Output, counted:
     ensures { λ r. ⌜ r ≤ outputLength ⌝ }
 {
     let opened = setup::set_up(book, n, input, out, counted);
-    let last = replay::take_blocks(book, input, out, opened);
+    let last = tapeblocks::take_blocks(book, input, out, opened);
     finish(book, n, out, last)
 }
 

@@ -2,8 +2,8 @@ use mathlib.Core.Path.{_≡_}
 use lib.ListN.{length}
 use Rattle.input.specs.Held.{Held}
 use borrow.Author.Needs.{needs}
-use Rattle.replay.proofs.take_blocks.Statement.{statement}
-use Rattle.replay.proofs.take_blocks.Tie as tie
+use Rattle.tapeblocks.proofs.take_blocks.Statement.{statement}
+use Rattle.tapeblocks.proofs.take_blocks.Tie as tie
 
 abbrev Inv-loop : tie.InvT-loop
 Inv-loop book₀ input₀ out₀ tape₀ turns₀ book input out tape turns = (length book ≡ length book₀) × Held tape

@@ -1,0 +1,4 @@
+pub mod Answers
+pub mod Kinds
+pub mod Replayed
+pub mod Restored
