@@ -5,12 +5,13 @@
 # make reproduce   builds the library twice, from nothing and in two folders, and compares the two by hash: twice some minutes
 # make bench  measures the library beside the second implementation, and the walk of a page beside the same walk in C
 # make fuzz   compares library, engine and reviewer on a million random calls, and the writers: make fuzz CALLS=5000000 SEED=7
+# make kills  kills a recording process a thousand times at random places and checks what is restored from its log: make kills KILLS=5000 SEED=7
 # make compare-definitions   has the prover compute the definitions on random lists with the second implementation's answers
 # make wrong-definitions   plants every wrong definition, not only those of the gate
 # make listing   prints the machine code that the tests look at
 # make counts   counts what docs/ASSURANCE.md tells
 
-.PHONY: demo test lib install reproduce bench fuzz compare-definitions wrong-definitions listing counts
+.PHONY: demo test lib install reproduce bench fuzz kills compare-definitions wrong-definitions listing counts
 
 PREFIX ?= /usr/local
 archive = target/staticlib/libquotebook.a
@@ -71,6 +72,9 @@ bench: $(archive)
 
 fuzz: $(archive)
 	@cargo run --release --offline --quiet --manifest-path rust/Cargo.toml -p quotebook --example fuzz -- $(CALLS) $(SEED)
+
+kills: $(archive)
+	@cargo run --release --offline --quiet --manifest-path rust/Cargo.toml -p quotebook --example kills -- $(KILLS) $(SEED)
 
 compare-definitions:
 	@tests/definitions

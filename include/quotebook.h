@@ -5,10 +5,10 @@
  *
  * Duties of the caller, which no call can check:
  *   - every pointer is valid for the length passed with it. With length 0 nothing is read or written: null will do;
- *   - the buffers of one call do not overlap: book, symbol, messages, lengths, block, answer, report, publication, output and
- *     steps lie apart;
+ *   - the buffers of one call do not overlap: book, symbol, messages, lengths, block, answer, report, publication, output,
+ *     steps, shares and log lie apart;
  *   - nobody else reads or writes the book during a call that changes it. Several readers at once are fine.
- * Everything else is checked: any bytes of any length may be lent as book, symbol, block or messages, and any numbers as lengths. A
+ * Everything else is checked: any bytes of any length may be lent as book, symbol, block, log or messages, and any numbers as lengths. A
  * refused call changes no byte of the book and fills no buffer, but for the report, which says why.
  *
  * The result of a call is a number, QB_CHECK_DONE (0) or the first check that refused; of a block also QB_CHECK_GAP (70), which is taken.
@@ -29,7 +29,7 @@ extern "C" {
 
 /* The version of this header, 10000 * major + 100 * minor + patch. That of the linked library is qb_version(): compare the two where they
  * are installed apart. What may change from version to version is in docs/CHANGES.md. */
-#define QB_LIBRARY_VERSION 10100
+#define QB_LIBRARY_VERSION 10200
 
 /* Sizes in bytes. A book for n symbols has QB_OPENING_LEN + n * QB_PAGE_LEN. */
 enum {
@@ -44,7 +44,9 @@ enum {
     QB_ENTRY_LEN = 16,
     QB_STEPS_LEN = 325, /* at least: 25 steps */
     QB_STEP_LEN = 13,
-    QB_SHARES_LEN = 64 /* a share for each line */
+    QB_SHARES_LEN = 64,       /* a share for each line */
+    QB_LOG_HEAD_LEN = 16,     /* of a log of calls; its first record stands behind */
+    QB_LOG_ANSWER_MOST = 3696 /* no answer of a call that is replayed is longer */
 };
 
 /* Numbers that calls answer: the check that refused, or 0, or 70. */
@@ -84,7 +86,11 @@ enum {
     QB_CHECK_STEPS_SHORT = 83,        /* try: the output is under 325 bytes */
     QB_CHECK_ALLOWANCE = 84,          /* set allowance: the blocks for a tick are not 1 to 255 */
     QB_CHECK_SHARES = 85,             /* set allowance: not 64 shares, or their sum is above the blocks for a tick */
-    QB_CHECK_USED_UP = 86             /* block: its line's share and the spare are used in this tick */
+    QB_CHECK_USED_UP = 86,            /* block: its line's share and the spare are used in this tick */
+    QB_CHECK_LOG_HEAD = 90,           /* log head, restore: the log does not begin with a head */
+    QB_CHECK_LOG_CUT = 91,            /* replay, restore: the log ends inside a record */
+    QB_CHECK_LOG_DAMAGED = 92,        /* replay, restore: a record is damaged, or is no call */
+    QB_CHECK_LOG_ROOM = 93            /* replay, restore: the output may be too short for one more answer */
 };
 
 /* Codes of messages, in the answer buffer. A Q K with 60 to 64 is partly accepted: its quote is in force, its odd lots did nothing. */
@@ -182,6 +188,22 @@ enum {
     QB_STEP_LOTS = 9    /* 4 bytes, the round lots taken */
 };
 
+/* Places in the report of a log's head. */
+enum {
+    QB_HEAD_NUMBER = 0,
+    QB_HEAD_N = 1,        /* the symbols that the book was made for */
+    QB_HEAD_REQUESTS = 2, /* the requests that the calls follow, bit 0 for T-01 */
+    QB_HEAD_LEN = 3
+};
+
+/* Places in the report of a replay. */
+enum {
+    QB_REPLAYED_NUMBER = 0,
+    QB_REPLAYED_PLACE = 1,   /* where it stopped in the log: behind the last record that was carried out */
+    QB_REPLAYED_WRITTEN = 2, /* bytes of answers */
+    QB_REPLAYED_LEN = 3
+};
+
 /* The library's version, as QB_LIBRARY_VERSION is the header's. */
 uint32_t qb_version(void);
 
@@ -268,6 +290,22 @@ uint8_t qb_snapshot(const uint8_t *book, size_t len, const uint8_t *symbol, size
  * The book isn't changed; no day need be open. */
 uint8_t qb_try_order(const uint8_t *book, size_t len, const uint8_t *symbol, size_t symbol_len,
                      uint8_t side, uint32_t lots, uint8_t *steps, size_t steps_len, uint64_t report[3]);
+
+/* Reads the head of a log of calls (docs/LOG.md). Answers 0, 90. report: number, symbols, requests; always filled, 0 behind the number after
+ * 90. */
+uint8_t qb_log_head(const uint8_t *log, size_t log_len, uint64_t report[3]);
+
+/* Carries out the calls of a log from a place on, the first record standing at QB_LOG_HEAD_LEN, and writes their answers one behind the other.
+ * Answers 0 at the log's end, 91, 92, or 93 as soon as less than QB_LOG_ANSWER_MOST bytes of output are left: then call again from the
+ * place that was told. What stands before the place has been carried out, nothing behind it has.
+ * report: number, place, bytes written; always filled. */
+uint8_t qb_replay(uint8_t *book, size_t len, const uint8_t *log, size_t log_len, size_t from,
+                  uint8_t *output, size_t output_len, uint64_t report[3]);
+
+/* Makes a book for the symbols that the log's head tells, then carries out its calls as qb_replay does. Answers 90 or 2, and changes nothing
+ * then; or what qb_replay answers. report: as qb_replay's, with 0 and 0 after 90 and 2. */
+uint8_t qb_restore(uint8_t *book, size_t len, const uint8_t *log, size_t log_len,
+                   uint8_t *output, size_t output_len, uint64_t report[3]);
 
 /* Writes the block that carries count messages, laid end to end, under a sequence number. No book is needed. Answers 0, 71, 72, 73.
  * lengths: one for each message, messages_len in all.
@@ -369,6 +407,10 @@ static inline const char *qb_sentence(uint8_t number) {
     case QB_CHECK_ALLOWANCE: return "The blocks for a tick are not 1 to 255.";
     case QB_CHECK_SHARES: return "There are not 64 shares, or their sum is above the blocks for a tick.";
     case QB_CHECK_USED_UP: return "The share of the block's line and the spare are used in this tick.";
+    case QB_CHECK_LOG_HEAD: return "The log does not begin with a head.";
+    case QB_CHECK_LOG_CUT: return "The log ends inside a record: it was cut, or the record's length is damaged.";
+    case QB_CHECK_LOG_DAMAGED: return "A record of the log is damaged: its check, its length, its kind or its arguments.";
+    case QB_CHECK_LOG_ROOM: return "The output may be too short for one more answer.";
     default: return "No number of a call.";
     }
 }

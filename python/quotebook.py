@@ -47,7 +47,7 @@ import ctypes
 import decimal
 import os
 from ctypes import POINTER, c_char_p, c_size_t, c_uint8, c_uint32, c_uint64, c_void_p
-from typing import Dict, List, NamedTuple, Optional, Union
+from typing import Dict, List, NamedTuple, Optional, Tuple, Union
 
 ANSWER_LEN = 180
 BLOCK_MAX = 1000
@@ -62,6 +62,9 @@ SYMBOL_LEN = 11
 
 DONE = 0
 GAP = 70
+
+# Room for many answers of a replay; one has 3,696 bytes at most.
+_REPLAY_LEN = 65536
 
 # What a call answers: number, name, sentence, as in the C header and in Rust.
 NUMBERS = {
@@ -101,6 +104,10 @@ NUMBERS = {
     84: ("ALLOWANCE", "The blocks for a tick are not 1 to 255."),
     85: ("SHARES", "There are not 64 shares, or their sum is above the blocks for a tick."),
     86: ("USED_UP", "The share of the block's line and the spare are used in this tick."),
+    90: ("LOG_HEAD", "The log does not begin with a head."),
+    91: ("LOG_CUT", "The log ends inside a record: it was cut, or the record's length is damaged."),
+    92: ("LOG_DAMAGED", "A record of the log is damaged: its check, its length, its kind or its arguments."),
+    93: ("LOG_ROOM", "The output may be too short for one more answer."),
 }
 
 # What became of a message: code, name, sentence.
@@ -295,6 +302,9 @@ _CALLS = {
     "qb_snapshot": _BOOK + _BYTES + _OUT + _REPORT,
     "qb_snapshot_len": _BOOK + _BYTES + _REPORT,
     "qb_try_order": _BOOK + _BYTES + [c_uint8, c_uint32] + _OUT + _REPORT,
+    "qb_log_head": _BYTES + _REPORT,
+    "qb_replay": _BOOK + _BYTES + [c_size_t] + _OUT + _REPORT,
+    "qb_restore": _BOOK + _BYTES + _OUT + _REPORT,
     "qb_write_block": _BYTES + [POINTER(c_uint32), c_size_t, c_uint32] + _OUT + _REPORT,
 }
 
@@ -374,6 +384,22 @@ class Book:
         if _library.qb_read(*book._lent, b"", 0, out, PUBLICATION_LEN) == 1:
             raise Refused(1)
         return book
+
+    @classmethod
+    def restore(cls, log: bytes) -> "Tuple[Book, int, int]":
+        """The book that a log of calls (docs/LOG.md) leaves, the number that its reading stopped with (0 at its end, 91 cut, 92 damaged) and
+        the place. A log without a head is refused (90)."""
+        report = (c_uint64 * 3)()
+        _checked(_library.qb_log_head(log, len(log), report))
+        book = cls.__new__(cls)
+        book._adopt(bytes(_library.qb_book_len(report[1])))
+        output = ctypes.create_string_buffer(_REPLAY_LEN)
+        number = _library.qb_restore(*book._lent, log, len(log), output, _REPLAY_LEN, report)
+        while number == 93:
+            number = _library.qb_replay(*book._lent, log, len(log), report[1], output, _REPLAY_LEN, report)
+        if number not in (0, 91, 92):
+            raise Refused(number)
+        return book, number, report[1]
 
     def _adopt(self, data: bytes) -> None:
         self._memory = ctypes.create_string_buffer(data, max(len(data), 1))

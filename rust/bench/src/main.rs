@@ -2,7 +2,7 @@
 //!
 //! Without arguments it prints all tables. `--quick` measures the full blocks of 64 symbols only,
 //! `--queries` the queries, `--conversions` the conversions of venues' blocks, `--allowance` blocks with
-//! an allowance and without.
+//! an allowance and without, `--log BLOCKS` logs of calls, the last of them of so many blocks.
 //! `--library N`, `--engine N` and `--incremental N` replay these blocks N times on one book alone,
 //! for a profiler; `--single` before them takes single-message blocks.
 
@@ -11,6 +11,7 @@
 mod allowance;
 mod convert;
 mod library;
+mod log;
 mod market;
 mod measure;
 mod query;
@@ -45,10 +46,14 @@ fn main() -> ExitCode {
             allowance::print(10 * ROUNDS);
             Ok(())
         }
+        ["--log", blocks] => match blocks.parse() {
+            Ok(blocks) => log::print(MESSAGES, 2 * ROUNDS, blocks),
+            Err(_) => Err("how many blocks?".to_string()),
+        },
         ["--single", book, times] => alone(Size::Fixed(1), book, times),
         [book, times] => alone(Size::Full, book, times),
         _ => Err(
-            "arguments: none, --quick, --queries, --conversions, --allowance, or [--single] --library N"
+            "arguments: none, --quick, --queries, --conversions, --allowance, --log BLOCKS, or [--single] --library N"
                 .to_string(),
         ),
     };

@@ -167,6 +167,11 @@ impl Book {
         Trial::new(order, told, &steps)
     }
 
+    /// The memory, for calls that keep it a book.
+    pub(crate) fn memory(&mut self) -> &mut [u8] {
+        &mut self.memory
+    }
+
     /// The book's memory, to keep a copy that can be lent to the functions of [`lent`].
     pub fn as_bytes(&self) -> &[u8] {
         &self.memory
@@ -174,7 +179,7 @@ impl Book {
 }
 
 /// A symbol of eleven bytes. One that is too long gives spaces alone, which are refused alike.
-fn symbol_bytes(symbol: impl AsRef<[u8]>) -> [u8; SYMBOL_LEN] {
+pub(crate) fn symbol_bytes(symbol: impl AsRef<[u8]>) -> [u8; SYMBOL_LEN] {
     filled_up(symbol.as_ref()).unwrap_or([b' '; SYMBOL_LEN])
 }
 

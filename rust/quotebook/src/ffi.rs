@@ -109,6 +109,26 @@ mod c {
             steps_len: usize,
             report: *mut u64,
         ) -> u8;
+        pub fn qb_log_head(log: *const u8, log_len: usize, report: *mut u64) -> u8;
+        pub fn qb_replay(
+            book: *mut u8,
+            len: usize,
+            log: *const u8,
+            log_len: usize,
+            from: usize,
+            output: *mut u8,
+            output_len: usize,
+            report: *mut u64,
+        ) -> u8;
+        pub fn qb_restore(
+            book: *mut u8,
+            len: usize,
+            log: *const u8,
+            log_len: usize,
+            output: *mut u8,
+            output_len: usize,
+            report: *mut u64,
+        ) -> u8;
     }
 }
 
@@ -336,6 +356,53 @@ pub fn try_order(
             lots,
             steps.as_mut_ptr(),
             steps.len(),
+            report.as_mut_ptr(),
+        )
+    }
+}
+
+/// The result of the call is the report's number too.
+pub fn log_head(log: &[u8], report: &mut [u64; 3]) -> u8 {
+    // SAFETY: pointer and length are one slice's, which is only read; the report has its three numbers.
+    unsafe { c::qb_log_head(log.as_ptr(), log.len(), report.as_mut_ptr()) }
+}
+
+/// The result of the call is the report's number too.
+pub fn replay(
+    book: &mut [u8],
+    log: &[u8],
+    from: usize,
+    output: &mut [u8],
+    report: &mut [u64; 3],
+) -> u8 {
+    // SAFETY: each pointer and its length are one slice's; the report has its three numbers; the log is
+    // only read.
+    unsafe {
+        c::qb_replay(
+            book.as_mut_ptr(),
+            book.len(),
+            log.as_ptr(),
+            log.len(),
+            from,
+            output.as_mut_ptr(),
+            output.len(),
+            report.as_mut_ptr(),
+        )
+    }
+}
+
+/// The result of the call is the report's number too.
+pub fn restore(book: &mut [u8], log: &[u8], output: &mut [u8], report: &mut [u64; 3]) -> u8 {
+    // SAFETY: each pointer and its length are one slice's; the report has its three numbers; the log is
+    // only read.
+    unsafe {
+        c::qb_restore(
+            book.as_mut_ptr(),
+            book.len(),
+            log.as_ptr(),
+            log.len(),
+            output.as_mut_ptr(),
+            output.len(),
             report.as_mut_ptr(),
         )
     }

@@ -6,6 +6,7 @@
 
 use crate::ffi;
 use crate::line::LineRecord;
+use crate::log::{Head, Replayed};
 use crate::number::Number;
 use crate::order::Tried;
 use crate::protection::Protected;
@@ -167,6 +168,35 @@ pub fn write_block(messages: &[u8], lengths: &[u32], sequence: u32, block: &mut 
         number: number(answered),
         len: len as usize,
     }
+}
+
+/// The head that a log begins with; none if it begins with anything else (number 90).
+pub fn log_head(log: &[u8]) -> Option<Head> {
+    let mut fields = [0; 3];
+    let answered = ffi::log_head(log, &mut fields);
+    let [_, n, requests] = fields;
+    (number(answered) == Number::Done).then_some(Head {
+        n: n as u8,
+        requests: requests as u16,
+    })
+}
+
+/// Carries out the calls of a log's records from a place on, and writes the
+/// [`Answers`](crate::log::Answers) one behind the other. It stops at the log's end
+/// ([`Number::Done`]), at a record that the log's end cuts or that is damaged, or where the output may
+/// be too short for one more answer ([`Number::LogRoom`]): then another call goes on from that place.
+pub fn replay(book: &mut [u8], log: &[u8], from: usize, output: &mut [u8]) -> Replayed {
+    let mut fields = [0; 3];
+    let answered = ffi::replay(book, log, from, output, &mut fields);
+    Replayed::from_fields(number(answered), fields)
+}
+
+/// Makes the book that a log's head tells, in memory of its length, and does what [`replay`] does from
+/// the first record on. Without a head, or with another length ([`Number::Make`]), nothing is done.
+pub fn restore(book: &mut [u8], log: &[u8], output: &mut [u8]) -> Replayed {
+    let mut fields = [0; 3];
+    let answered = ffi::restore(book, log, output, &mut fields);
+    Replayed::from_fields(number(answered), fields)
 }
 
 #[cfg(test)]

@@ -44,6 +44,7 @@ mod ffi;
 mod field_error;
 pub mod lent;
 mod line;
+pub mod log;
 pub mod message;
 mod number;
 mod order;

@@ -44,6 +44,10 @@ table! {
     84 Allowance "The blocks for a tick are not 1 to 255.";
     85 Shares "There are not 64 shares, or their sum is above the blocks for a tick.";
     86 UsedUp "The share of the block's line and the spare are used in this tick.";
+    90 LogHead "The log does not begin with a head.";
+    91 LogCut "The log ends inside a record: it was cut, or the record's length is damaged.";
+    92 LogDamaged "A record of the log is damaged: its check, its length, its kind or its arguments.";
+    93 LogRoom "The output may be too short for one more answer.";
 }
 
 impl Number {

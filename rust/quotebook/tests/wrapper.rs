@@ -20,6 +20,7 @@ fn numbers_and_codes_are_those_of_the_documents() {
     let mut expected: Vec<u8> = (0..=12).collect();
     expected.extend([
         20, 21, 30, 31, 32, 33, 34, 35, 70, 71, 72, 73, 74, 75, 78, 79, 80, 81, 82, 83, 84, 85, 86,
+        90, 91, 92, 93,
     ]);
     assert_eq!(numbers, expected);
     let codes: Vec<u8> = (0..=255)

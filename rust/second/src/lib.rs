@@ -9,6 +9,7 @@
 //! - [`snapshot`] is a subscriber of the snapshot feed: it reads back what the books write.
 //! - [`generate`] makes random lists of calls, [`compare`] runs a list on several books, [`shrink`]
 //!   makes a list short on which they differ, and [`coverage`] counts what the lists reach.
+//! - [`log`] reads and writes logs of calls, from docs/LOG.md alone.
 //! - [`mixing`] gives the blocks of several lines to books in different orders (T-09).
 //!
 //! Engine and reviewer share the constants of [`terms`] and the answers of [`quote_book`],
@@ -23,6 +24,7 @@ pub mod compare;
 pub mod coverage;
 pub mod engine;
 pub mod generate;
+pub mod log;
 pub mod mixing;
 pub mod quote_book;
 pub mod reviewer;

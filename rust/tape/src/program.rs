@@ -3,13 +3,13 @@
 use std::fmt::{self, Display, Formatter};
 
 use second::terms::{number, ANSWER_LEN, ENTRY_LEN, PUBLICATION_LEN, SYMBOL_LEN};
-use second::{Engine, QuoteBook, Report};
+use second::{log, Call, Engine, QuoteBook, Report};
 
 /// What the program prints when it reads these bytes: blocks and their messages as they come, and
 /// each symbol once, last.
 pub fn output(tape: &[u8]) -> String {
     let mut printed = String::new();
-    match play(&mut Input(tape), &mut printed) {
+    match play(&mut Input(tape), &mut printed, &mut Vec::new()) {
         Ok(Played { book, symbols }) => {
             for symbol in symbols {
                 print_symbol(&book, symbol, &mut printed);
@@ -22,13 +22,32 @@ pub fn output(tape: &[u8]) -> String {
 
 /// The symbols' publications at the end, in the order added; none if the program stops early.
 pub fn publications(tape: &[u8]) -> Vec<[u8; PUBLICATION_LEN]> {
-    match play(&mut Input(tape), &mut String::new()) {
+    match play(&mut Input(tape), &mut String::new(), &mut Vec::new()) {
         Ok(Played { book, symbols }) => symbols
             .into_iter()
             .map(|symbol| publication(&book, symbol))
             .collect(),
         Err(_) => Vec::new(),
     }
+}
+
+/// The log (docs/LOG.md) of the calls that the program makes on a tape: those of the setup, to the first
+/// that is refused, the blocks, and a read of each symbol if the tape is not cut. Tapes have no times.
+/// None if no book is made.
+pub fn log(tape: &[u8]) -> Option<Vec<u8>> {
+    let mut calls = Vec::new();
+    let played = play(&mut Input(tape), &mut String::new(), &mut calls);
+    let n = tape.first().filter(|n| (1..=SYMBOLS_MAX).contains(*n))?;
+    let symbols = played.map_or(Vec::new(), |played| played.symbols);
+    calls.extend(symbols.into_iter().map(|symbol| Call::Read {
+        symbol: symbol.to_vec(),
+        publication_len: PUBLICATION_LEN,
+    }));
+    let mut log = log::head(*n, log::REQUESTS);
+    for call in &calls {
+        log.extend(log::write(call, 0));
+    }
+    Some(log)
 }
 
 /// The book at the end of a tape, and its symbols in the order added.
@@ -81,17 +100,24 @@ fn print(printed: &mut String, line: impl Display) {
 /// Symbols on a tape.
 const SYMBOLS_MAX: u8 = 8;
 
-fn play<'a>(input: &mut Input<'a>, printed: &mut String) -> Result<Played<'a>, Stop> {
+/// Plays a tape. What the program prints before the symbols is added to one list, the calls that it makes
+/// on its book to another.
+fn play<'a>(
+    input: &mut Input<'a>,
+    printed: &mut String,
+    calls: &mut Vec<Call>,
+) -> Result<Played<'a>, Stop> {
     let count = input.byte()?;
     if !(1..=SYMBOLS_MAX).contains(&count) {
         return Err(Stop::Setup(number::MAKE));
     }
     let mut book = Engine::fresh(u32::from(count)).ok_or(Stop::Setup(number::MAKE))?;
-    let symbols = add_symbols(input, &mut book, count)?;
-    open_lines(input, &mut book)?;
+    let symbols = add_symbols(input, &mut book, count, calls)?;
+    open_lines(input, &mut book, calls)?;
+    calls.push(Call::StartDay);
     done(book.start_day())?;
     while !input.0.is_empty() {
-        play_record(input, &mut book, printed)?;
+        play_record(input, &mut book, printed, calls)?;
     }
     Ok(Played { book, symbols })
 }
@@ -100,22 +126,30 @@ fn add_symbols<'a>(
     input: &mut Input<'a>,
     book: &mut Engine,
     count: u8,
+    calls: &mut Vec<Call>,
 ) -> Result<Vec<&'a [u8]>, Stop> {
     let mut symbols = Vec::new();
     for _ in 0..count {
         let symbol = input.take(SYMBOL_LEN)?;
         let (round_lot, primary) = (input.byte()?, input.byte()?);
-        done(book.add_symbol(symbol, u32::from(round_lot), primary))?;
+        let round_lot = u32::from(round_lot);
+        calls.push(Call::AddSymbol {
+            symbol: symbol.to_vec(),
+            round_lot,
+            primary,
+        });
+        done(book.add_symbol(symbol, round_lot, primary))?;
         symbols.push(symbol);
     }
     Ok(symbols)
 }
 
-fn open_lines(input: &mut Input, book: &mut Engine) -> Result<(), Stop> {
+fn open_lines(input: &mut Input, book: &mut Engine, calls: &mut Vec<Call>) -> Result<(), Stop> {
     for _ in 0..input.byte()? {
-        let line = input.byte()?;
+        let line = u32::from(input.byte()?);
         let letter = input.byte()?;
-        done(book.open_line(u32::from(line), letter))?;
+        calls.push(Call::OpenLine { line, letter });
+        done(book.open_line(line, letter))?;
     }
     Ok(())
 }
@@ -128,10 +162,20 @@ fn done(number: u8) -> Result<(), Stop> {
 }
 
 /// A record that is there whole goes to the book; `block` and a `msg` for each message.
-fn play_record(input: &mut Input, book: &mut Engine, printed: &mut String) -> Result<(), Stop> {
+fn play_record(
+    input: &mut Input,
+    book: &mut Engine,
+    printed: &mut String,
+    calls: &mut Vec<Call>,
+) -> Result<(), Stop> {
     let line = input.byte()?;
     let len = input.length()?;
     let block = input.take(len)?;
+    calls.push(Call::TakeBlock {
+        line: u32::from(line),
+        block: block.to_vec(),
+        answer_len: ANSWER_LEN,
+    });
     let mut answer = [0; ANSWER_LEN];
     let report = book.take_block(u32::from(line), block, &mut answer);
     let Report {

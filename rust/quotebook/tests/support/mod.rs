@@ -5,9 +5,11 @@ pub mod compared;
 pub mod damage;
 pub mod foretold;
 pub mod guarded;
+pub mod killing;
 pub mod layout;
 pub mod parts;
 pub mod reading;
+pub mod recording;
 pub mod writing;
 
 use guarded::Guarded;
