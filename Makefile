@@ -4,6 +4,9 @@
 # make install PREFIX=..   installs header, static and shared library, pkg-config and CMake files and the Python module (DESTDIR is put in front)
 # make reproduce   builds the library twice, from nothing and in two folders, and compares the two by hash: twice some minutes
 # make bench  measures the library beside the second implementation, and the walk of a page beside the same walk in C
+# make command   builds the execution reviewer's command, rust/target/release/quotebook (docs/REVIEWING.md)
+# make sample   writes the command's sample recording and a router's log to target/sample
+# make long-audit   has the command audit a recording of MESSAGES=10000000 messages, and shows its time and memory
 # make fuzz   compares library, engine and reviewer on a million random calls, and the writers: make fuzz CALLS=5000000 SEED=7
 # make kills  kills a recording process a thousand times at random places and checks what is restored from its log: make kills KILLS=5000 SEED=7
 # make compare-definitions   has the prover compute the definitions on random lists with the second implementation's answers
@@ -11,7 +14,7 @@
 # make listing   prints the machine code that the tests look at
 # make counts   counts what docs/ASSURANCE.md tells
 
-.PHONY: demo test lib install reproduce bench fuzz kills compare-definitions wrong-definitions listing counts
+.PHONY: demo test lib install reproduce bench command sample long-audit fuzz kills compare-definitions wrong-definitions listing counts
 
 PREFIX ?= /usr/local
 archive = target/staticlib/libquotebook.a
@@ -69,6 +72,26 @@ listing:
 bench: $(archive)
 	@cargo run --release --offline --quiet --manifest-path rust/Cargo.toml -p bench
 	@bench/walk/run
+
+reviewer = cargo build --release --offline --quiet --manifest-path rust/Cargo.toml -p quotebook-command
+programs = rust/target/release
+
+command: $(archive)
+	@$(reviewer)
+	@echo "$(programs)/quotebook help"
+
+sample: command
+	@$(reviewer) --example sample
+	@mkdir -p target/sample
+	@$(programs)/examples/sample target/sample/day.log target/sample/router.csv
+	@echo "target/sample/day.log, target/sample/router.csv (docs/REVIEWING.md)"
+
+MESSAGES ?= 10000000
+long-audit: command
+	@$(reviewer) --example long
+	@mkdir -p target/sample
+	@$(programs)/examples/long $(MESSAGES) target/sample/long.log
+	@/usr/bin/time -f "%e s, %U s of processor, %M KiB of memory at most" $(programs)/quotebook audit target/sample/long.log
 
 fuzz: $(archive)
 	@cargo run --release --offline --quiet --manifest-path rust/Cargo.toml -p quotebook --example fuzz -- $(CALLS) $(SEED)

@@ -3,7 +3,8 @@
 //! - [`Engine`] keeps native structs and works out a touched symbol's six entries after each
 //!   accepted message; [`Incremental`] is the same engine and ranks a side again only when its
 //!   leader worsens or leaves.
-//! - [`Reviewer`] holds a history of accepted messages and works out every answer anew from it.
+//! - [`Reviewer`] holds a history of accepted messages and works out every answer anew from it;
+//!   [`LongReviewer`] is the same reviewer for days of any length.
 //! - [`writer`] makes a block of messages.
 //! - [`venue`] makes a run of blocks of a venue's own block (source document 000).
 //! - [`snapshot`] is a subscriber of the snapshot feed: it reads back what the books write.
@@ -37,5 +38,5 @@ pub mod writer;
 pub use call::{Call, List};
 pub use engine::{Engine, Incremental};
 pub use quote_book::{Protected, QuoteBook, Report, SnapshotSize, Tried};
-pub use reviewer::Reviewer;
+pub use reviewer::{LongReviewer, Reviewer};
 pub use venue::Converted;

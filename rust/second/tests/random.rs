@@ -1,4 +1,4 @@
-//! Random lists of calls on the engine, the incremental engine and the reviewer: after every call
+//! Random lists of calls on the engine, the incremental engine and the reviewers: after every call
 //! all that can be seen of them is equal, and every number, code, flag, case of a resent quote and case
 //! of a closed venue is reached.
 //!
@@ -25,7 +25,11 @@ fn lists_of_calls() {
         let list = generate::list(seed, CALLS);
         let expected = observe(reviewer, &list);
         coverage.note(&list, &expected);
-        for (name, fresh) in [("engine", engine as Fresh), ("incremental", incremental)] {
+        let mut others = vec![("engine", engine as Fresh), ("incremental", incremental)];
+        if seed % 4 == 0 {
+            others.push(("reviewer with a short history", always_shortening));
+        }
+        for (name, fresh) in others {
             if first_difference(&expected, fresh, &list).is_some() {
                 panic!("{}", failure(seed, name, fresh, &list));
             }

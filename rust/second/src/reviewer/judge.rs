@@ -4,6 +4,7 @@ use super::account::{Account, Level};
 use super::fields::{
     is_maker, is_symbol, maker_of, status_of, symbol_of, Kind, OddPart, Quote, Side,
 };
+use super::history::History;
 use super::Listed;
 use crate::terms::{code, FINRA, LEVELS_MAX, MAKERS_MAX};
 
@@ -13,7 +14,7 @@ pub fn is_partly_accepted(message: &[u8], code: u8) -> bool {
 }
 
 /// The code of a message on a line of this letter, behind this history.
-pub fn code(letter: u8, message: &[u8], symbols: &[Listed], history: &[Vec<u8>]) -> u8 {
+pub fn code(letter: u8, message: &[u8], symbols: &[Listed], history: &impl History) -> u8 {
     let Some(kind) = Kind::of(message) else {
         return code::UNKNOWN_TYPE;
     };
@@ -43,7 +44,7 @@ pub fn code(letter: u8, message: &[u8], symbols: &[Listed], history: &[Vec<u8>])
     else {
         return code::SYMBOL;
     };
-    let account = Account::of(history, symbol);
+    let account = history.account(symbol);
     match kind {
         Kind::RoundLot => match quote_fault(&Quote::of(message), b"ABCEFHNORUW") {
             Some(fault) => fault,
@@ -151,7 +152,7 @@ fn odd_part_code(message: &[u8], letter: u8, round_lot: u32, account: &Account) 
 }
 
 /// Follows the prices that stand on one side, item by item.
-fn makes_fifth_level(part: &OddPart, side: Side, standing: Vec<Level>) -> bool {
+fn makes_fifth_level(part: &OddPart, side: Side, standing: &[Level]) -> bool {
     let mut prices: Vec<u64> = standing.iter().map(|level| level.price).collect();
     if part.clears(side) {
         prices.clear();

@@ -3,30 +3,52 @@
 //! It holds n, the symbols with their round lots and primary letters, the lines, the day and a
 //! history: the bytes of each accepted message, and of a partly accepted Q K its round part. It keeps no quotes, makers,
 //! levels or entries. Whatever it answers is worked out anew from the history, by the plainest way.
+//!
+//! [`Reviewer`] holds all of the history. [`LongReviewer`] leaves out of it what no answer can depend
+//! on any more, so that it can follow a day of any length.
 
 mod account;
 mod best;
 mod block;
 mod fields;
+mod history;
 mod judge;
 mod snapshot;
 
 use crate::quote_book::{Protected, QuoteBook, Report, SnapshotSize, Tried};
 use crate::terms::{number, ANSWER_LEN, ENTRY_LEN, LINES, PUBLICATION_LEN, ROUND_LOTS, SYMBOL_LEN};
 use crate::venue::{self, Converted};
-use account::Account;
 use best::{order_steps, protection, publication};
 use fields::{is_symbol, symbol_of, Kind, Side};
+pub use history::{History, Shortened};
 use judge::is_partly_accepted;
 
+/// The reviewer with the whole history.
+pub type Reviewer = Review<Vec<Vec<u8>>>;
+
+/// The reviewer with a shortened history.
+pub type LongReviewer = Review<Shortened<8>>;
+
 /// The reviewer of one book.
-pub struct Reviewer {
+pub struct Review<H> {
     n: u32,
     symbols: Vec<Listed>,
     lines: Vec<Line>,
     day_open: bool,
     allowance: Option<Allowance>,
-    history: Vec<Vec<u8>>,
+    history: H,
+    seen: Vec<Seen>,
+}
+
+/// What a symbol publishes behind a message.
+#[derive(Clone, Copy, PartialEq, Eq, Debug)]
+pub struct Seen {
+    /// The message's place in its block.
+    pub message: usize,
+    /// The symbol's place in the order added.
+    pub symbol: usize,
+    /// Its six entries.
+    pub publication: [u8; PUBLICATION_LEN],
 }
 
 /// What check 86 reads: B, the shares, and the lines of the blocks charged in this tick.
@@ -70,19 +92,20 @@ const NEW_LINE: Line = Line {
     count: 0,
 };
 
-impl Reviewer {
+impl<H: History> Review<H> {
     /// The reviewer starts with the make that gave the fresh book: none if n is not 1 to 64.
-    pub fn fresh(n: u32) -> Option<Reviewer> {
+    pub fn fresh(n: u32) -> Option<Review<H>> {
         if !(1..=64).contains(&n) {
             return None;
         }
-        Some(Reviewer {
+        Some(Review {
             n,
             symbols: Vec::new(),
             lines: vec![NEW_LINE; LINES],
             day_open: false,
             allowance: None,
-            history: Vec::new(),
+            history: H::default(),
+            seen: Vec::new(),
         })
     }
 
@@ -101,11 +124,17 @@ impl Reviewer {
 
     /// The 96 bytes that the history gives for a symbol.
     fn publication(&self, symbol: &[u8]) -> [u8; PUBLICATION_LEN] {
-        publication(&Account::of(&self.history, symbol))
+        publication(&self.history.account(symbol))
     }
 
-    /// Works one message: its code and flags. What is accepted of it goes into the history.
-    fn work(&mut self, letter: u8, message: &[u8]) -> (u8, u8) {
+    /// What the symbols concerned published behind each accepted or partly accepted message of the last
+    /// block.
+    pub fn seen(&self) -> &[Seen] {
+        &self.seen
+    }
+
+    /// Works message i of a block: its code and flags. What is accepted of it goes into the history.
+    fn work(&mut self, letter: u8, i: usize, message: &[u8]) -> (u8, u8) {
         let code = judge::code(letter, message, &self.symbols, &self.history);
         let part = if code == 0 {
             message
@@ -115,30 +144,40 @@ impl Reviewer {
             return (code, 0);
         };
         let before = self.publications_concerned(message);
-        self.history.push(part.to_vec());
+        self.history.push(part);
         let after = self.publications_concerned(message);
+        let seen = after.iter().map(|&(symbol, publication)| Seen {
+            message: i,
+            symbol,
+            publication,
+        });
+        self.seen.extend(seen);
         (code, changes(&before, &after))
     }
 
     /// The publications whose changes a message's flags tell: its symbol's, and for FINRA Open and
     /// Close every symbol's.
-    fn publications_concerned(&self, message: &[u8]) -> Vec<[u8; PUBLICATION_LEN]> {
+    fn publications_concerned(&self, message: &[u8]) -> Vec<Published> {
         let kind = Kind::of(message);
         let in_any_symbol = matches!(kind, Some(Kind::FinraClose | Kind::FinraOpen));
         let named = symbol_of(message);
         self.symbols
             .iter()
-            .filter(|listed| in_any_symbol || named == Some(&listed.symbol))
-            .map(|listed| self.publication(&listed.symbol))
+            .enumerate()
+            .filter(|(_, listed)| in_any_symbol || named == Some(&listed.symbol))
+            .map(|(place, listed)| (place, self.publication(&listed.symbol)))
             .collect()
     }
 }
 
+/// A symbol's place and what it publishes.
+type Published = (usize, [u8; PUBLICATION_LEN]);
+
 /// 1 national bid, 2 national offer, 4 FINRA bid, 8 FINRA offer, 16 odd bid, 32 odd offer, set
 /// exactly if that entry changed in one of the publications.
-fn changes(before: &[[u8; PUBLICATION_LEN]], after: &[[u8; PUBLICATION_LEN]]) -> u8 {
+fn changes(before: &[Published], after: &[Published]) -> u8 {
     let mut flags = 0;
-    for (old, new) in before.iter().zip(after) {
+    for ((_, old), (_, new)) in before.iter().zip(after) {
         for (i, flag) in [1, 2, 4, 8, 16, 32].into_iter().enumerate() {
             let entry = i * ENTRY_LEN..(i + 1) * ENTRY_LEN;
             if old[entry.clone()] != new[entry] {
@@ -154,7 +193,7 @@ fn is_letter(byte: u8) -> bool {
     byte.is_ascii_uppercase() && byte != b'S'
 }
 
-impl QuoteBook for Reviewer {
+impl<H: History> QuoteBook for Review<H> {
     fn make(&mut self, n: u32) -> u8 {
         if !(1..=64).contains(&n) {
             return number::MAKE;
@@ -255,6 +294,7 @@ impl QuoteBook for Reviewer {
     }
 
     fn take_block(&mut self, line: u32, block: &[u8], answer: &mut [u8]) -> Report {
+        self.seen.clear();
         let mut report = Report::default();
         if answer.len() < ANSWER_LEN {
             report.number = number::BUFFER_SHORT;
@@ -277,7 +317,7 @@ impl QuoteBook for Reviewer {
                 report.number = if taken.gap == 0 { 0 } else { number::GAP };
                 report.gap = taken.gap;
                 for (i, message) in taken.messages.iter().enumerate() {
-                    let (code, flags) = self.work(letter, message);
+                    let (code, flags) = self.work(letter, i, message);
                     answer[4 * i] = i as u8;
                     answer[4 * i + 1] = code;
                     answer[4 * i + 2] = flags;
@@ -317,7 +357,7 @@ impl QuoteBook for Reviewer {
         if !is_symbol(symbol) || self.listed(symbol).is_none() {
             return SnapshotSize::refused(number::SYMBOL_UNKNOWN);
         }
-        let blocks = snapshot::blocks(&Account::of(&self.history, symbol), symbol);
+        let blocks = snapshot::blocks(&self.history.account(symbol), symbol);
         SnapshotSize {
             number: number::DONE,
             blocks: blocks.len(),
@@ -333,7 +373,7 @@ impl QuoteBook for Reviewer {
         if output.len() < size.bytes {
             return SnapshotSize::refused(number::SNAPSHOT_SHORT);
         }
-        let blocks = snapshot::blocks(&Account::of(&self.history, symbol), symbol);
+        let blocks = snapshot::blocks(&self.history.account(symbol), symbol);
         output[..size.bytes].copy_from_slice(&blocks.concat());
         size
     }
@@ -347,7 +387,7 @@ impl QuoteBook for Reviewer {
             b'S' => Side::Offer,
             _ => return Protected::refused(number::SIDE),
         };
-        let (yes, looked) = protection(&Account::of(&self.history, symbol), side, price);
+        let (yes, looked) = protection(&self.history.account(symbol), side, price);
         Protected {
             number: number::DONE,
             yes,
@@ -380,7 +420,7 @@ impl QuoteBook for Reviewer {
         if steps.len() < 325 {
             return Tried::refused(number::STEPS_SHORT);
         }
-        let account = Account::of(&self.history, symbol);
+        let account = self.history.account(symbol);
         let (played, unfilled) = order_steps(&account, side, lots);
         let mut at = 0;
         for &(letter, price, lots) in &played {

@@ -2,6 +2,7 @@
 #![allow(dead_code)]
 
 use second::compare::Fresh;
+use second::reviewer::{Review, Shortened};
 use second::{Engine, Incremental, QuoteBook, Reviewer};
 
 pub fn engine(n: u32) -> Box<dyn QuoteBook> {
@@ -14,6 +15,11 @@ pub fn incremental(n: u32) -> Box<dyn QuoteBook> {
 
 pub fn reviewer(n: u32) -> Box<dyn QuoteBook> {
     Box::new(Reviewer::fresh(n).expect("n is 1 to 64"))
+}
+
+/// The reviewer that shortens its history at every message.
+pub fn always_shortening(n: u32) -> Box<dyn QuoteBook> {
+    Box::new(Review::<Shortened<1>>::fresh(n).expect("n is 1 to 64"))
 }
 
 /// The three books by name.
