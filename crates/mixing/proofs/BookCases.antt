@@ -4,7 +4,7 @@ use mathlib.Core.Path.{refl}
 use Rattle.field.specs.Field.{beBytes}
 use Rattle.lists.specs.Lists.{every}
 use Rattle.review.specs.Lists.{blocksAreBytes}
-use Rattle.review.proofs.BookCases.{OnBook, on-book}
+use Rattle.cases.proofs.BookCases.{OnBook, on-book}
 use Rattle.mixing.proofs.Cases as Cases
 
 pub cases : OnBook Cases.table

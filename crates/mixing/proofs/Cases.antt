@@ -11,7 +11,7 @@ use Rattle.opening.specs.declared.Line.{Line}
 use Rattle.opening.specs.Opening.{lineIn, linesIn}
 use Rattle.calls.specs.Call.{Call, add, openLine, startDay, Answer}
 use Rattle.review.specs.Reviewer.{freshReview, reviewAfter, reviewAnswers}
-use Rattle.review.proofs.Rows.{item, control, block, allTold, only, accepted, gap, refused, odd, nothing, shown, none, rejected, zt, levelsBy, statusBy, halt, trade, makerOf, unknown, day, look, Row, inDay, fromMake, answered, Answered, end, _▹_}
+use Rattle.cases.proofs.Rows.{item, control, block, allTold, only, accepted, gap, refused, odd, nothing, shown, none, rejected, zt, levelsBy, statusBy, halt, trade, makerOf, unknown, day, look, Row, inDay, fromMake, answered, Answered, end, _▹_}
 use Rattle.mixing.specs.Mixing.{Received, calls, ofLine, OneLineEach, unflagged, heard, codesIn, codes}
 
 -- ---- blocks of three lines: 5 is N's, 6 is P's, 7 is D's, and 9 is not open

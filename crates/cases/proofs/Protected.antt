@@ -5,7 +5,7 @@ use mathlib.Core.Path.{refl}
 use mathlib.Core.List.{List, [], _∷_, _++_}
 use lib.ListN.{replicate}
 use Rattle.calls.specs.Call.{Call, add, openLine, startDay, endDay, take, protected}
-use Rattle.review.proofs.Rows.{quoted, item, roundLot, control, block, only, accepted, yes, no, zt, ab, roundOf, noOdd, plain, levels, makerOf, standing, onN, onP, onD, bidAt, offerAt, Row, inDay, fromMake, answered, Answered, end, _▹_}
+use Rattle.cases.proofs.Rows.{quoted, item, roundLot, control, block, only, accepted, yes, no, zt, ab, roundOf, noOdd, plain, levels, makerOf, standing, onN, onP, onD, bidAt, offerAt, Row, inDay, fromMake, answered, Answered, end, _▹_}
 
 -- a line opened for a letter, and its first quote of ZT: 10.00 for 3, 10.02 for 2
 abbrev quoting : ℕ → ℕ → List Call → List Call

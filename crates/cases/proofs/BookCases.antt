@@ -8,21 +8,21 @@ use Rattle.field.specs.Field.{beBytes}
 use Rattle.lists.specs.Lists.{every}
 use Rattle.lists.proofs.Tests.{and-true}
 use Rattle.calls.specs.Call.{make, call, answers}
 use Rattle.review.specs.Lists.{blocksAreBytes}
 use Rattle.review.proofs.Demand3.{demand3}
-use Rattle.review.proofs.Rows.{allTold, Row, answered, Answered, end, _▹_}
-use Rattle.review.proofs.Cases as Cases
-use Rattle.review.proofs.Shared as Shared
-use Rattle.review.proofs.Checks as Checks
-use Rattle.review.proofs.Bounds as Bounds
-use Rattle.review.proofs.Times as Times
-use Rattle.review.proofs.FinraOddLots as FinraOddLots
-use Rattle.review.proofs.Protected as Protected
-use Rattle.review.proofs.Closed as Closed
-use Rattle.review.proofs.Leading as Leading
-use Rattle.review.proofs.Halts as Halts
-use Rattle.review.proofs.Snapshots as Snapshots
-use Rattle.review.proofs.Sweeps as Sweeps
+use Rattle.cases.proofs.Rows.{allTold, Row, answered, Answered, end, _▹_}
+use Rattle.cases.proofs.Cases as Cases
+use Rattle.cases.proofs.Shared as Shared
+use Rattle.cases.proofs.Checks as Checks
+use Rattle.cases.proofs.Bounds as Bounds
+use Rattle.cases.proofs.Times as Times
+use Rattle.cases.proofs.FinraOddLots as FinraOddLots
+use Rattle.cases.proofs.Protected as Protected
+use Rattle.cases.proofs.Closed as Closed
+use Rattle.cases.proofs.Leading as Leading
+use Rattle.cases.proofs.Halts as Halts
+use Rattle.cases.proofs.Snapshots as Snapshots
+use Rattle.cases.proofs.Sweeps as Sweeps
 
 abbrev pub OnBook : List Row → Type 0
 OnBook [] = Unit {0}

@@ -7,8 +7,8 @@ use lib.ListN.{length}
 use Rattle.ranking.specs.declared.Side.the-variants.{Bid, Offer}
 use Rattle.quote.specs.declared.Quote.{Quote}
 use Rattle.calls.specs.Call.{openLine, startDay, endDay, take}
 use Rattle.review.specs.Runs.{latestRun, firstTime, runTime}
-use Rattle.review.proofs.Rows.{control, block, odds, only, accepted, partly, rejected, entry, national, leading, nothing, shown, roundOf, noOdd, plain, makerOf, onN, onP, onD, look, Row, inDay, answered, Answered, end, _▹_}
+use Rattle.cases.proofs.Rows.{control, block, odds, only, accepted, partly, rejected, entry, national, leading, nothing, shown, roundOf, noOdd, plain, makerOf, onN, onP, onD, look, Row, inDay, answered, Answered, end, _▹_}
 
 -- ---- runs
 

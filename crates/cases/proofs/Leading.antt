@@ -4,7 +4,7 @@ use Prim.Native.Nat.{ℕ}
 use mathlib.Core.Path.{refl}
 use mathlib.Core.List.{List, [], _∷_}
 use Rattle.calls.specs.Call.{add, openLine, startDay, endDay, take, read}
-use Rattle.review.proofs.Rows.{quoted, odds, item, roundLot, maker, control, block, only, accepted, partly, rejected, entry, national, leading, odd, nothing, shown, none, zt, ab, roundOf, noOdd, plain, makerOf, standing, onN, onP, onD, look, Row, inDay, fromMake, answered, Answered, end, _▹_}
+use Rattle.cases.proofs.Rows.{quoted, odds, item, roundLot, maker, control, block, only, accepted, partly, rejected, entry, national, leading, odd, nothing, shown, none, zt, ab, roundOf, noOdd, plain, makerOf, standing, onN, onP, onD, look, Row, inDay, fromMake, answered, Answered, end, _▹_}
 
 -- a bid alone, and an offer alone, under R
 abbrev bidBy : ℕ → ℕ → ℕ → ℕ → List ℕ

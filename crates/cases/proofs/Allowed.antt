@@ -5,7 +5,7 @@ use mathlib.Core.Path.{refl}
 use mathlib.Core.List.{List, [], _∷_, _++_}
 use lib.ListN.{replicate}
 use Rattle.calls.specs.Call.{Call, make, openLine, startDay, endDay, take, setAllowance, tick}
-use Rattle.review.proofs.Rows.{control, block, only, refused, accepted, rejected, twoRejected, gap, national, nothing, shown, noOdd, plain, halt, unknown, onN, onP, onD, look, Row, inDay, fromMake, answered, Answered, end, _▹_}
+use Rattle.cases.proofs.Rows.{control, block, only, refused, accepted, rejected, twoRejected, gap, national, nothing, shown, noOdd, plain, halt, unknown, onN, onP, onD, look, Row, inDay, fromMake, answered, Answered, end, _▹_}
 
 -- shares of N's, P's and D's lines, 5, 6 and 7
 abbrev shares : ℕ → ℕ → ℕ → List ℕ

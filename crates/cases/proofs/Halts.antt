@@ -5,7 +5,7 @@ use mathlib.Core.Path.{refl}
 use mathlib.Core.List.{List, [], _∷_, _++_}
 use lib.ListN.{replicate, set}
 use Rattle.calls.specs.Call.{make, add, openLine, startDay, endDay, take, read, protected}
-use Rattle.review.proofs.Rows.{header, quoted, odds, item, roundLot, maker, control, block, only, refused, accepted, partly, rejected, yes, no, entry, national, leading, odd, nothing, shown, none, zt, ab, roundOf, noOdd, plain, levelsBy, finraLevels, statusBy, halt, trade, makerOf, standing, eight, eightTold, onN, onP, onD, look, bidAt, offerAt, Row, inDay, fromMake, answered, Answered, end, _▹_}
+use Rattle.cases.proofs.Rows.{header, quoted, odds, item, roundLot, maker, control, block, only, refused, accepted, partly, rejected, yes, no, entry, national, leading, odd, nothing, shown, none, zt, ab, roundOf, noOdd, plain, levelsBy, finraLevels, statusBy, halt, trade, makerOf, standing, eight, eightTold, onN, onP, onD, look, bidAt, offerAt, Row, inDay, fromMake, answered, Answered, end, _▹_}
 
 -- N's plain quote of ZT, and the same of AB
 abbrev plainly : List ℕ

@@ -6,7 +6,7 @@ use mathlib.Core.List.{List, [], _∷_, _++_}
 use lib.ListN.{replicate, set}
 use Rattle.field.specs.Field.{beBytes}
 use Rattle.calls.specs.Call.{make, add, openLine, startDay, endDay, take, read}
-use Rattle.review.proofs.Rows.{header, quoted, odds, item, maker, control, integrity, test, framed, sealed, block, only, refused, accepted, partly, rejected, twoRejected, nothing, shown, none, zt, roundOf, noOdd, plain, levels, unknown, onN, onP, onD, look, Row, inDay, fromMake, answered, Answered, end, _▹_}
+use Rattle.cases.proofs.Rows.{header, quoted, odds, item, maker, control, integrity, test, framed, sealed, block, only, refused, accepted, partly, rejected, twoRejected, nothing, shown, none, zt, roundOf, noOdd, plain, levels, unknown, onN, onP, onD, look, Row, inDay, fromMake, answered, Answered, end, _▹_}
 
 -- this many bytes, then spaces to eleven
 abbrev symbol : List ℕ → ℕ → List ℕ

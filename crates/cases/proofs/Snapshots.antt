@@ -7,7 +7,7 @@ use mathlib.Core.List.{List, [], _∷_, _++_}
 use lib.ListN.{replicate}
 use Rattle.snapshot.proofs.Words.{header, anyC, anyP, anyF, blankC, blankF, ten, ten02}
 use Rattle.calls.specs.Call.{Call, add, openLine, startDay, endDay, take, snapshotLen, snapshot}
-use Rattle.review.proofs.Rows.{item, control, only, accepted, sent, zt, ab, roundOf, noOdd, plain, levels, standing, halt, trade, onN, onP, onD, send, measure, Row, inDay, fromMake, answered, Answered, end, _▹_}
+use Rattle.cases.proofs.Rows.{item, control, only, accepted, sent, zt, ab, roundOf, noOdd, plain, levels, standing, halt, trade, onN, onP, onD, send, measure, Row, inDay, fromMake, answered, Answered, end, _▹_}
 
 -- a symbol without quotes: R C and R F, "even with no maker"
 abbrev emptyFeed : List ℕ

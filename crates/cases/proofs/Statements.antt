@@ -8,10 +8,10 @@ use lib.ListN.{set}
 use Rattle.field.specs.Field.{be}
 use Rattle.lists.specs.Lists.{range}
 use Rattle.calls.specs.Call.{Call, make, add, openLine, startDay, endDay, take, read, protected, convertLen, convert, snapshotLen, snapshot, tryOrder, setAllowance, tick}
 use Rattle.review.specs.Reviewer.{freshReview, reviewAfter}
 use Rattle.review.specs.Frame.{touched, takenOf, takenR}
 use Rattle.review.specs.Numbers.{numbersOf, codes}
-use Rattle.review.proofs.Rows.{odds, control, integrity, test, block, zt, ab, roundOf, noOdd, plain, levels, finraLevels, statusBy, halt, standing, unknown, answered}
+use Rattle.cases.proofs.Rows.{odds, control, integrity, test, block, zt, ab, roundOf, noOdd, plain, levels, finraLevels, statusBy, halt, standing, unknown, answered}
 
 -- ---- which symbols a block touches
 

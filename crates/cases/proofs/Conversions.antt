@@ -18,8 +18,8 @@ use Rattle.venuerun.specs.Run.{packInto, packed, runFrom, runOf, fillInto, fill
 use Rattle.line.specs.Line.{done}
 use Rattle.work.specs.Work.{isListed, listedWith}
 use Rattle.calls.specs.Call.{Call, make, add, convertLen, convert, numberOf, answerOf}
 use Rattle.review.specs.Reviewer.{freshReview, restAfter, symbolsAfter, historyAfter, reviewCall, reviewAnswer, reviewAnswers}
-use Rattle.review.proofs.Rows.{allTold, only}
+use Rattle.cases.proofs.Rows.{allTold, only}
 
 unfoldable pub converting : ℕ → List Call → List (List ℕ)
 unfolding be part field beBytes member every all sum padded symbolGood checksumOf nextOf offsets front written layoutOf pairGood participantGood timeGood referenceGood headerGood controlGood senderGood itemsGood oddGood marketGood finraGood ownGood roundGood quoteGood messageGood quotePlaced messagePlaced sizeGood laidFrom blockGood venueFrom messagesGood messagesPlaced venueNumber divided ourKind ourHeader ourSideAt ourRound ourMarks ourItemAt ourItems convertedAs converted convertedLength symbolNamed convertedFor packInto packed runFrom runOf fillInto filled neededOf convertNumber done isListed listedWith numberOf answerOf restAfter symbolsAfter historyAfter reviewCall reviewAnswer

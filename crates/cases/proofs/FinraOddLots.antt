@@ -5,7 +5,7 @@ use mathlib.Core.Path.{refl}
 use mathlib.Core.List.{List, [], _∷_, _++_}
 use lib.ListN.{replicate, set}
 use Rattle.calls.specs.Call.{add, openLine, startDay, endDay, take, read}
-use Rattle.review.proofs.Rows.{quoted, odds, item, maker, control, block, only, accepted, rejected, entry, national, odd, nothing, shown, none, zt, ab, noOdd, plain, levelsBy, finraLot, finraLevels, makerOf, onN, onD, look, Row, inDay, fromMake, answered, Answered, end, _▹_}
+use Rattle.cases.proofs.Rows.{quoted, odds, item, maker, control, block, only, accepted, rejected, entry, national, odd, nothing, shown, none, zt, ab, noOdd, plain, levelsBy, finraLot, finraLevels, makerOf, onN, onD, look, Row, inDay, fromMake, answered, Answered, end, _▹_}
 
 -- a Q T by D at 8
 abbrev finra : ℕ → ℕ → ℕ → List ℕ → List ℕ

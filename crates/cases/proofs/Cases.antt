@@ -5,7 +5,7 @@ use mathlib.Core.Path.{refl}
 use mathlib.Core.List.{List, [], _∷_, _++_}
 use lib.ListN.{replicate}
 use Rattle.calls.specs.Call.{Call, take}
-use Rattle.review.proofs.Rows.{odds, item, oddLot, refused, accepted, partly, rejected, gap, national, leading, odd, nothing, shown, zt, roundOf, noOdd, plain, unknown, onN, onP, look, Row, inDay, answered, Answered, end, _▹_}
+use Rattle.cases.proofs.Rows.{odds, item, oddLot, refused, accepted, partly, rejected, gap, national, leading, odd, nothing, shown, zt, roundOf, noOdd, plain, unknown, onN, onP, look, Row, inDay, answered, Answered, end, _▹_}
 
 -- odd bids under a clear mark
 abbrev bids : ℕ → ℕ → List ℕ → List ℕ

@@ -5,7 +5,7 @@ use Prim.Native.Nat.{ℕ}
 use mathlib.Core.Path.{refl}
 use mathlib.Core.List.{List, [], _∷_, _++_}
 use Rattle.calls.specs.Call.{make, add, openLine, startDay, endDay, take, read}
-use Rattle.review.proofs.Rows.{quoted, odds, item, maker, control, block, only, refused, accepted, partly, rejected, entry, national, leading, odd, nothing, shown, none, zt, ab, roundOf, noOdd, plain, levelsBy, makerOf, standing, eight, eightTold, onN, onP, onD, look, Row, inDay, fromMake, answered, Answered, end, _▹_}
+use Rattle.cases.proofs.Rows.{quoted, odds, item, maker, control, block, only, refused, accepted, partly, rejected, entry, national, leading, odd, nothing, shown, none, zt, ab, roundOf, noOdd, plain, levelsBy, makerOf, standing, eight, eightTold, onN, onP, onD, look, Row, inDay, fromMake, answered, Answered, end, _▹_}
 
 -- ---- conditions: a Q K by N with this condition, its flags, the national bid and offer
 

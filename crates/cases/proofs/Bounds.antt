@@ -6,7 +6,7 @@ use mathlib.Core.Path.{refl}
 use mathlib.Core.List.{List, [], _∷_, _++_}
 use lib.ListN.{replicate, set}
 use Rattle.calls.specs.Call.{add, openLine, startDay, endDay, take, read}
-use Rattle.review.proofs.Rows.{quoted, odds, item, oddLot, maker, control, integrity, test, framed, sealed, only, refused, accepted, partly, rejected, gap, national, leading, nothing, shown, none, zt, ab, roundOf, noOdd, plain, levels, makerOf, eight, eightTold, unknown, onN, onP, onD, look, Row, inDay, fromMake, answered, Answered, end, _▹_}
+use Rattle.cases.proofs.Rows.{quoted, odds, item, oddLot, maker, control, integrity, test, framed, sealed, only, refused, accepted, partly, rejected, gap, national, leading, nothing, shown, none, zt, ab, roundOf, noOdd, plain, levels, makerOf, eight, eightTold, unknown, onN, onP, onD, look, Row, inDay, fromMake, answered, Answered, end, _▹_}
 
 -- k messages from i on, each rejected with 40
 abbrev coded : ℕ → ℕ → List ℕ
