@@ -7,6 +7,8 @@
 # make command   builds the execution reviewer's command, rust/target/release/quotebook (docs/REVIEWING.md)
 # make sample   writes the command's sample recording and a router's log to target/sample
 # make long-audit   has the command audit a recording of MESSAGES=10000000 messages, and shows its time and memory
+# make bench-shelf   measures shelves of books: 64 to 6,400 symbols, one thread and several
+# make shelf-mistakes   plants mistakes in the shelf, one at a time: its tests have to find each
 # make fuzz   compares library, engine and reviewer on a million random calls, and the writers: make fuzz CALLS=5000000 SEED=7
 # make kills  kills a recording process a thousand times at random places and checks what is restored from its log: make kills KILLS=5000 SEED=7
 # make compare-definitions   has the prover compute the definitions on random lists with the second implementation's answers
@@ -14,7 +16,7 @@
 # make listing   prints the machine code that the tests look at
 # make counts   counts what docs/ASSURANCE.md tells
 
-.PHONY: demo test lib install reproduce bench command sample long-audit fuzz kills compare-definitions wrong-definitions listing counts
+.PHONY: demo test lib install reproduce bench bench-shelf shelf-mistakes command sample long-audit fuzz kills compare-definitions wrong-definitions listing counts
 
 PREFIX ?= /usr/local
 archive = target/staticlib/libquotebook.a
@@ -92,6 +94,12 @@ long-audit: command
 	@mkdir -p target/sample
 	@$(programs)/examples/long $(MESSAGES) target/sample/long.log
 	@/usr/bin/time -f "%e s, %U s of processor, %M KiB of memory at most" $(programs)/quotebook audit target/sample/long.log
+
+bench-shelf: $(archive)
+	@cargo run --release --offline --quiet --manifest-path rust/Cargo.toml -p bench -- --shelf
+
+shelf-mistakes: $(archive)
+	@tests/shelf-mistakes
 
 fuzz: $(archive)
 	@cargo run --release --offline --quiet --manifest-path rust/Cargo.toml -p quotebook --example fuzz -- $(CALLS) $(SEED)

@@ -388,7 +388,17 @@ class Book:
     @classmethod
     def restore(cls, log: bytes) -> "Tuple[Book, int, int]":
         """The book that a log of calls (docs/LOG.md) leaves, the number that its reading stopped with (0 at its end, 91 cut, 92 damaged) and
-        the place. A log without a head is refused (90)."""
+        the place. A log without a head is refused (90).
+
+        >>> log = bytes.fromhex("51424f4f4b4c4f4701013fff626f31e2"
+        ...                     "000000110400000000000000001ce7dd10")  # a head for one symbol, then Start of Day
+        >>> book, number, place = Book.restore(log)
+        >>> number, place
+        (0, 33)
+        >>> book.end_day()
+        >>> Book.restore(log[:-1])[1:]
+        (91, 16)
+        """
         report = (c_uint64 * 3)()
         _checked(_library.qb_log_head(log, len(log), report))
         book = cls.__new__(cls)

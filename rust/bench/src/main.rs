@@ -2,9 +2,9 @@
 //!
 //! Without arguments it prints all tables. `--quick` measures the full blocks of 64 symbols only,
 //! `--queries` the queries, `--conversions` the conversions of venues' blocks, `--allowance` blocks with
-//! an allowance and without, `--log BLOCKS` logs of calls, the last of them of so many blocks.
+//! an allowance and without, `--log BLOCKS` logs of calls, the last of them of so many blocks, `--shelf` shelves of books.
 //! `--library N`, `--engine N` and `--incremental N` replay these blocks N times on one book alone,
-//! for a profiler; `--single` before them takes single-message blocks.
+//! for a profiler, and `--shelf N` those of 640 symbols on a shelf; `--single` before them takes single-message blocks.
 
 #![forbid(unsafe_code)]
 
@@ -16,6 +16,7 @@ mod market;
 mod measure;
 mod query;
 mod replay;
+mod scale;
 mod stream;
 mod table;
 
@@ -50,10 +51,12 @@ fn main() -> ExitCode {
             Ok(blocks) => log::print(MESSAGES, 2 * ROUNDS, blocks),
             Err(_) => Err("how many blocks?".to_string()),
         },
+        ["--shelf"] => scale::print(MESSAGES, 11),
+        ["--shelf", rounds] => scale::alone(10 * MESSAGES, rounds.parse().unwrap_or(1)),
         ["--single", book, times] => alone(Size::Fixed(1), book, times),
         [book, times] => alone(Size::Full, book, times),
         _ => Err(
-            "arguments: none, --quick, --queries, --conversions, --allowance, --log BLOCKS, or [--single] --library N"
+            "arguments: none, --quick, --queries, --conversions, --allowance, --log BLOCKS, --shelf, or [--single] --library N"
                 .to_string(),
         ),
     };

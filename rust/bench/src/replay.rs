@@ -36,7 +36,7 @@ impl Outcome {
 
 /// Ends the day that may be open, starts it anew and brings the book to where the measured blocks
 /// begin.
-fn warm(book: &mut impl QuoteBook, stream: &Stream) {
+pub fn warm(book: &mut impl QuoteBook, stream: &Stream) {
     book.end_day();
     assert_eq!(book.start_day(), 0, "the day starts");
     let mut answer = [0; ANSWER_LEN];
@@ -93,7 +93,7 @@ fn read_all(book: &impl QuoteBook, stream: &Stream) -> Vec<u8> {
 }
 
 /// Messages of a slice, about.
-const SLICE: usize = 500;
+pub const SLICE: usize = 500;
 
 /// The nanoseconds that a book takes for each slice of the measured blocks. The slices are the same
 /// in every round, so that a round in which something else had the processor spoils only some.

@@ -64,22 +64,27 @@ impl Series {
 
 /// What a band tells.
 #[derive(Clone, Copy, PartialEq, Eq, Debug)]
-pub enum Kinds {
+pub enum BandKind {
     Halt,
     Gap,
     FinraClose,
     Closed,
 }
 
-impl Kinds {
-    pub const ALL: [Kinds; 4] = [Kinds::Halt, Kinds::Gap, Kinds::FinraClose, Kinds::Closed];
+impl BandKind {
+    pub const ALL: [BandKind; 4] = [
+        BandKind::Halt,
+        BandKind::Gap,
+        BandKind::FinraClose,
+        BandKind::Closed,
+    ];
 
     pub fn name(self) -> &'static str {
         match self {
-            Kinds::Halt => "halted",
-            Kinds::Gap => "gap of a line",
-            Kinds::FinraClose => "FINRA closed",
-            Kinds::Closed => "day closed",
+            BandKind::Halt => "halted",
+            BandKind::Gap => "gap of a line",
+            BandKind::FinraClose => "FINRA closed",
+            BandKind::Closed => "day closed",
         }
     }
 }
@@ -87,7 +92,7 @@ impl Kinds {
 /// A stretch of time.
 #[derive(Clone, PartialEq, Eq, Debug)]
 pub struct Band {
-    pub kind: Kinds,
+    pub kind: BandKind,
     pub from: u128,
     pub to: Option<u128>,
     pub label: String,
@@ -211,11 +216,11 @@ impl Day {
         let is_done = matches!(done.number, 0 | 70);
         match played.record.call {
             Call::StartDay if is_done => {
-                self.end(Kinds::Closed, time);
-                self.end(Kinds::Halt, time);
+                self.end(BandKind::Closed, time);
+                self.end(BandKind::Halt, time);
             }
             Call::EndDay if is_done => {
-                self.begin(Kinds::Closed, time, "the day is closed".to_string())
+                self.begin(BandKind::Closed, time, "the day is closed".to_string())
             }
             Call::TakeBlock { line, block, .. } => {
                 let since = self.heard.get(line as usize).copied().flatten();
@@ -228,8 +233,8 @@ impl Day {
                             .wrapping_sub(played.player.messages.len() as u32),
                         played.index
                     );
-                    self.begin(Kinds::Gap, since.unwrap_or(time), label);
-                    self.end(Kinds::Gap, time);
+                    self.begin(BandKind::Gap, since.unwrap_or(time), label);
+                    self.end(BandKind::Gap, time);
                 }
                 if let Some(heard) = self.heard.get_mut(line as usize) {
                     *heard = Some(time);
@@ -242,9 +247,9 @@ impl Day {
                     );
                     match Kind::of(message) {
                         Kind::FinraClose if worked.code == 0 => {
-                            self.begin(Kinds::FinraClose, time, format!("FINRA Close: {place}"));
+                            self.begin(BandKind::FinraClose, time, format!("FINRA Close: {place}"));
                         }
-                        Kind::FinraOpen if worked.code == 0 => self.end(Kinds::FinraClose, time),
+                        Kind::FinraOpen if worked.code == 0 => self.end(BandKind::FinraClose, time),
                         _ => {}
                     }
                     if worked.symbol == Some(self.place) && worked.code != 0 && is_shown {
@@ -262,9 +267,9 @@ impl Day {
                     }
                     let is_status = Kind::of(message) == Kind::Status && worked.code == 0;
                     if is_status && worked.symbol == Some(self.place) {
-                        self.end(Kinds::Halt, time);
+                        self.end(BandKind::Halt, time);
                         if message[31] == b'H' {
-                            self.begin(Kinds::Halt, time, format!("halted: {place}"));
+                            self.begin(BandKind::Halt, time, format!("halted: {place}"));
                         }
                     }
                 }
@@ -295,7 +300,7 @@ impl Day {
         }
     }
 
-    fn begin(&mut self, kind: Kinds, from: u128, label: String) {
+    fn begin(&mut self, kind: BandKind, from: u128, label: String) {
         match self.bands.len() < BANDS {
             true => self.bands.push(Band {
                 kind,
@@ -308,7 +313,7 @@ impl Day {
     }
 
     /// Ends the band of this kind that has no end.
-    fn end(&mut self, kind: Kinds, to: u128) {
+    fn end(&mut self, kind: BandKind, to: u128) {
         let open = self
             .bands
             .iter_mut()

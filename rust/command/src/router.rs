@@ -201,6 +201,15 @@ impl RouterLog {
         }
     }
 
+    /// Whether the row that is due tells any figure of an entry.
+    pub fn tells_entries(&self) -> bool {
+        let cells = self.row.iter().flat_map(|row| &row.cells);
+        let mut figures = self.columns.iter().zip(cells);
+        figures.any(|(column, cell)| {
+            !cell.is_empty() && COLUMNS[ENTRIES_AT..].contains(&column.as_str())
+        })
+    }
+
     /// The figures of the row that is due which are not those of the recording.
     pub fn compare(&self, figures: &Figures) -> Vec<Wrong> {
         let Some(row) = &self.row else {

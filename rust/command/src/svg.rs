@@ -3,7 +3,7 @@
 use quotebook::Price;
 
 use crate::clock::Clock;
-use crate::day::{Day, Kinds, Point, Series};
+use crate::day::{BandKind, Day, Point, Series};
 
 const WIDTH: f64 = 1200.0;
 const HEIGHT: f64 = 460.0;
@@ -21,12 +21,12 @@ const STYLE: &str = "text{font:12px sans-serif;fill:#333}.title{font-size:15px;f
 .grid{stroke:#ddd;stroke-width:1}.axis{stroke:#888;stroke-width:1}.step{fill:none;stroke-width:1.4}\
 .dot:hover,.odd:hover,.rejected:hover{stroke:#000;stroke-width:2}";
 
-fn band_color(kind: Kinds) -> &'static str {
+fn band_color(kind: BandKind) -> &'static str {
     match kind {
-        Kinds::Halt => "#f2b8b0",
-        Kinds::Gap => "#f4d58a",
-        Kinds::FinraClose => "#bfd8c2",
-        Kinds::Closed => "#d8d8d8",
+        BandKind::Halt => "#f2b8b0",
+        BandKind::Gap => "#f4d58a",
+        BandKind::FinraClose => "#bfd8c2",
+        BandKind::Closed => "#d8d8d8",
     }
 }
 
@@ -191,7 +191,7 @@ fn legend(day: &Day) -> String {
         };
         put(&cross, "rejected or partly accepted");
     }
-    for kind in Kinds::ALL {
+    for kind in BandKind::ALL {
         if day.bands.iter().any(|band| band.kind == kind) {
             let color = band_color(kind);
             let patch = |x: f64| {

@@ -10,7 +10,7 @@ use crate::order::{Order, Trial};
 use crate::price::Price;
 use crate::protection::{Protection, Side};
 use crate::publication::Publication;
-use crate::report::Taken;
+use crate::report::{Report, Taken};
 use crate::run::Run;
 use crate::snapshot::SNAPSHOT_MAX;
 
@@ -90,12 +90,16 @@ impl Book {
 
     /// Takes a block of up to 45 messages on a line.
     pub fn take_block(&mut self, line: u32, block: &[u8]) -> Result<Taken, Refusal> {
-        let mut bytes = [0; ANSWER_LEN];
-        let report = lent::take_block(&mut self.memory, line, block, &mut bytes);
-        match report.refusal() {
-            None => Ok(Taken { report, bytes }),
-            Some(refusal) => Err(refusal),
-        }
+        let mut answer = [0; ANSWER_LEN];
+        let report = self.take_block_into(line, block, &mut answer);
+        Taken::new(report, answer)
+    }
+
+    /// Takes a block as [`take_block`](Book::take_block) does. The answers go into a buffer of at least
+    /// 180 bytes: of a taken block's message i, the bytes 4i to 4i + 3 are those of an
+    /// [`Answer`](crate::Answer).
+    pub fn take_block_into(&mut self, line: u32, block: &[u8], answer: &mut [u8]) -> Report {
+        lent::take_block(&mut self.memory, line, block, answer)
     }
 
     /// The record of a line: its letter, its next expected number and its count of messages. None if
@@ -137,9 +141,7 @@ impl Book {
         let mut output = [0; RUN_MAX];
         let converted = lent::convert(&self.memory, block, &mut output);
         converted.number.result()?;
-        Ok(Run {
-            bytes: output[..converted.len].to_vec(),
-        })
+        Ok(Run::from_bytes(output[..converted.len].to_vec()))
     }
 
     /// Writes a symbol's snapshot for subscribers: its national and FINRA best and each letter's latest

@@ -59,10 +59,21 @@ impl Report {
 pub struct Taken {
     /// What the block call reported.
     pub report: Report,
-    pub(crate) bytes: [u8; ANSWER_LEN],
+    bytes: [u8; ANSWER_LEN],
 }
 
 impl Taken {
+    /// What a block call reported and filled, if the block was taken; else why it was not.
+    pub fn new(report: Report, answer: [u8; ANSWER_LEN]) -> Result<Taken, Refusal> {
+        match report.refusal() {
+            None => Ok(Taken {
+                report,
+                bytes: answer,
+            }),
+            Some(refusal) => Err(refusal),
+        }
+    }
+
     /// The messages' answers, in their order.
     pub fn answers(&self) -> impl ExactSizeIterator<Item = Answer> + '_ {
         let (answers, _) = self.bytes.as_chunks();

@@ -26,10 +26,15 @@ impl Converted {
 /// The first block has the venue block's own number, each next one the number that follows it.
 #[derive(Clone, PartialEq, Eq, Debug)]
 pub struct Run {
-    pub(crate) bytes: Vec<u8>,
+    bytes: Vec<u8>,
 }
 
 impl Run {
+    /// The run of blocks that stand end to end in these bytes, each with its length in its bytes 2-3.
+    pub fn from_bytes(bytes: Vec<u8>) -> Run {
+        Run { bytes }
+    }
+
     /// The blocks in their order.
     pub fn blocks(&self) -> Blocks<'_> {
         Blocks { left: &self.bytes }
@@ -59,12 +64,13 @@ pub struct Blocks<'a> {
 impl<'a> Iterator for Blocks<'a> {
     type Item = &'a [u8];
 
+    /// None at the end, and where no whole block begins.
     fn next(&mut self) -> Option<&'a [u8]> {
         let &[_, _, high, low, ..] = self.left else {
             return None;
         };
         let len = usize::from(u16::from_be_bytes([high, low]));
-        let (block, left) = self.left.split_at(len);
+        let (block, left) = self.left.split_at_checked(len.max(4))?;
         self.left = left;
         Some(block)
     }

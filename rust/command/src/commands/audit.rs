@@ -15,7 +15,7 @@ use crate::fault::{Fault, Outcome};
 use crate::index::Moment;
 use crate::library::carry_out;
 use crate::message::symbol_of_text;
-use crate::play::{Entries, Player, NO_ENTRIES};
+use crate::play::{Change, Entries, Player, NO_ENTRIES};
 use crate::recording::{Played, Recording};
 use crate::router::{entry_cells, Figures, Place, RouterLog};
 use crate::row;
@@ -171,11 +171,10 @@ impl Audit {
             _ => Vec::new(),
         };
         let mut seen = seen.iter().peekable();
+        if let Some(difference) = self.router_rows(played, None, false)? {
+            return Ok(Some(difference));
+        }
         for i in 0..player.messages.len() {
-            let before = match player.messages[i].symbol {
-                Some(symbol) => self.current[symbol],
-                None => NO_ENTRIES,
-            };
             while let Some(change) = changes.next_if(|change| change.message == Some(i)) {
                 self.current[change.symbol] = change.after;
             }
@@ -184,11 +183,12 @@ impl Audit {
                 let kept = self.current[seen.symbol];
                 if kept != seen.publication {
                     let difference = Difference::new("the reviewer's history");
+                    let before = self.before(player, Some(i), seen.symbol);
                     let anew = seen.publication;
                     return Ok(Some(difference.entries(i, seen.symbol, before, kept, anew)));
                 }
             }
-            if let Some(difference) = self.router_rows(played, Some(i), before)? {
+            if let Some(difference) = self.router_rows(played, Some(i), true)? {
                 return Ok(Some(difference));
             }
         }
@@ -198,10 +198,18 @@ impl Audit {
                 *current = change.after;
             }
         }
-        if let Some(difference) = self.router_rows(played, None, NO_ENTRIES)? {
+        if let Some(difference) = self.router_rows(played, None, true)? {
             return Ok(Some(difference));
         }
         Ok(self.kept(played))
+    }
+
+    /// The entries of a symbol before a message, or before the call.
+    fn before(&self, player: &Player, message: Option<usize>, symbol: usize) -> Entries {
+        let mut changes = player.changes.iter();
+        let is_its = |change: &&Change| change.message == message && change.symbol == symbol;
+        let change = changes.find(is_its);
+        change.map_or(self.current[symbol], |change| change.before)
     }
 
     /// What the book itself keeps, behind the whole call, of the symbols that it concerned.
@@ -230,23 +238,36 @@ impl Audit {
                 by = "the second engine";
             }
             if kept != anew {
-                let before = self.current[symbol];
+                let before = self.before(player, None, symbol);
                 return Some(Difference::new(by).entries(usize::MAX, symbol, before, kept, anew));
             }
         }
         None
     }
 
-    /// The rows of the router's log about a message, or about the call itself.
+    /// The rows of the router's log about a message, or about the call itself. The call's rows stand
+    /// behind those of its messages, or before them if they tell no entries.
     fn router_rows(
         &mut self,
         played: &Played,
         message: Option<usize>,
-        before: Entries,
+        with_entries: bool,
     ) -> Result<Option<Difference>, Fault> {
-        let Some(router) = &mut self.router else {
+        let Some(mut router) = self.router.take() else {
             return Ok(None);
         };
+        let found = self.compare_rows(&mut router, played, message, with_entries);
+        self.router = Some(router);
+        found
+    }
+
+    fn compare_rows(
+        &mut self,
+        router: &mut RouterLog,
+        played: &Played,
+        message: Option<usize>,
+        with_entries: bool,
+    ) -> Result<Option<Difference>, Fault> {
         let player = played.player;
         let worked = message.map(|i| &player.messages[i]);
         let line = match played.record.call {
@@ -267,7 +288,7 @@ impl Audit {
                     Some(wanted) == line && Some(sequence) == number
                 }
             };
-            if !is_due {
+            if !is_due || !with_entries && router.tells_entries() {
                 break;
             }
             let symbol = match &row.symbol {
@@ -296,8 +317,10 @@ impl Audit {
                     .collect();
                 difference.message = message;
                 difference.symbol = symbol;
-                let after = symbol.map_or(NO_ENTRIES, |symbol| self.current[symbol]);
-                difference.states = Some((before, after, None));
+                difference.states = symbol.map(|symbol| {
+                    let before = self.before(player, message, symbol);
+                    (before, self.current[symbol], None)
+                });
                 return Ok(Some(difference));
             }
             self.counts.rows += 1;

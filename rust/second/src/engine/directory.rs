@@ -1,6 +1,6 @@
 //! The listed symbols, found by their eleven bytes.
 
-use crate::terms::{SYMBOLS_MAX, SYMBOL_LEN};
+use crate::terms::SYMBOL_LEN;
 
 pub type Symbol = [u8; SYMBOL_LEN];
 
@@ -15,9 +15,7 @@ pub fn well_formed(symbol: &Symbol) -> bool {
         && symbol[text..].iter().all(|&byte| byte == b' ')
 }
 
-/// Twice as many slots as symbols, so that a free slot ends every search.
-const SLOTS: usize = 2 * SYMBOLS_MAX as usize;
-const FREE: u8 = u8::MAX;
+const FREE: u32 = u32::MAX;
 
 /// Eleven bytes as two numbers that overlap in five bytes: two comparisons decide.
 type Key = (u64, u64);
@@ -32,49 +30,61 @@ fn key(symbol: &Symbol) -> Key {
 }
 
 #[inline]
-fn slot(key: Key) -> usize {
+fn mixed(key: Key) -> usize {
     let mixed = (key.0 ^ key.1.rotate_left(29)).wrapping_mul(0x9E37_79B9_7F4A_7C15);
-    (mixed >> (u64::BITS - SLOTS.trailing_zeros())) as usize
+    (mixed >> 32) as usize
 }
 
 /// A table from a symbol to its page. Only well-formed symbols are listed, so a malformed one is
 /// never found.
 pub struct Directory {
-    slots: [u8; SLOTS],
-    keys: [Key; SYMBOLS_MAX as usize],
+    /// Twice as many as symbols or more, a power of two, so that a free slot ends every search.
+    slots: Vec<u32>,
+    keys: Vec<Key>,
 }
 
 impl Directory {
-    pub const EMPTY: Directory = Directory {
-        slots: [FREE; SLOTS],
-        keys: [(0, 0); SYMBOLS_MAX as usize],
-    };
+    /// No symbols, and room for n.
+    pub fn empty(n: u32) -> Directory {
+        let n = n as usize;
+        Directory {
+            slots: vec![FREE; (2 * n).next_power_of_two()],
+            keys: Vec::with_capacity(n),
+        }
+    }
+
+    /// The bytes that a directory for n symbols keeps beside itself.
+    pub fn memory(n: u32) -> usize {
+        let slots = (2 * n as usize).next_power_of_two();
+        slots * size_of::<u32>() + n as usize * size_of::<Key>()
+    }
 
     /// The page of a symbol, if it is listed.
     #[inline]
     pub fn find(&self, symbol: &Symbol) -> Option<usize> {
         let key = key(symbol);
-        let mut at = slot(key);
+        let mut at = mixed(key);
         loop {
-            let page = self.slots[at % SLOTS];
+            let page = self.slots[at & (self.slots.len() - 1)];
             if page == FREE {
                 return None;
             }
-            if self.keys[usize::from(page)] == key {
-                return Some(usize::from(page));
+            if self.keys[page as usize] == key {
+                return Some(page as usize);
             }
             at += 1;
         }
     }
 
-    /// Lists a symbol that is not listed yet, with a page below 64.
-    pub fn list(&mut self, symbol: &Symbol, page: u8) {
+    /// Lists a symbol that is not listed yet, with the next page.
+    pub fn list(&mut self, symbol: &Symbol) {
         let key = key(symbol);
-        let mut at = slot(key);
-        while self.slots[at % SLOTS] != FREE {
+        let mask = self.slots.len() - 1;
+        let mut at = mixed(key);
+        while self.slots[at & mask] != FREE {
             at += 1;
         }
-        self.slots[at % SLOTS] = page;
-        self.keys[usize::from(page)] = key;
+        self.slots[at & mask] = self.keys.len() as u32;
+        self.keys.push(key);
     }
 }

@@ -78,31 +78,37 @@ impl<U: Update, const M: u8> Book<U, M> {
     /// A fresh book: memory for n symbols in which make has just answered 0. There is none if n is
     /// not 1 to 64.
     pub fn fresh(n: u32) -> Option<Self> {
-        (1..=SYMBOLS_MAX).contains(&n).then(|| Book {
+        (1..=SYMBOLS_MAX).contains(&n).then(|| Self::large(n))
+    }
+
+    /// A fresh book for as many symbols as asked, also more than 64, by the same rules: what a shelf of
+    /// books is compared with.
+    pub fn large(n: u32) -> Self {
+        Book {
             n,
             pages: Vec::with_capacity(n as usize),
-            directory: Directory::EMPTY,
+            directory: Directory::empty(n),
             lines: [Line::CLOSED; LINES],
             day_open: false,
             allowance: None,
             update: PhantomData,
-        })
+        }
     }
 
-    /// The bytes of a book for n symbols: the book itself and its pages.
+    /// The bytes of a book for n symbols: the book itself, its directory and its pages.
     pub fn memory(n: u32) -> usize {
-        size_of::<Self>() + n as usize * size_of::<Page>()
+        size_of::<Self>() + Directory::memory(n) + n as usize * size_of::<Page>()
     }
 }
 
 impl<U: Update, const M: u8> QuoteBook for Book<U, M> {
     /// The memory keeps its length, so n has to be the fresh book's.
     fn make(&mut self, n: u32) -> u8 {
-        if !(1..=SYMBOLS_MAX).contains(&n) || n != self.n {
+        if n != self.n {
             return number::MAKE;
         }
         self.pages.clear();
-        self.directory = Directory::EMPTY;
+        self.directory = Directory::empty(n);
         if M != mistake::MAKE_KEEPS_LINES {
             self.lines = [Line::CLOSED; LINES];
         }
@@ -146,7 +152,7 @@ impl<U: Update, const M: u8> QuoteBook for Book<U, M> {
         if self.pages.len() == self.n as usize {
             return number::BOOK_FULL;
         }
-        self.directory.list(symbol, self.pages.len() as u8);
+        self.directory.list(symbol);
         self.pages.push(Page::empty(round_lot, primary));
         number::DONE
     }

@@ -40,10 +40,10 @@ impl Generator {
     /// A status, mostly of a symbol whose primary letter this is. Halts are short: trading comes
     /// more often.
     fn status_message(&mut self, letter: u8) -> Vec<u8> {
-        let of_letter = |listed: &&(Symbol, u32, u8)| listed.2 == letter;
+        let of_letter = |listed: &(Symbol, u32, u8)| listed.2 == letter;
         let own: Vec<Symbol> = self
-            .listed
-            .iter()
+            .frequent()
+            .into_iter()
             .filter(of_letter)
             .map(|own| own.0)
             .collect();
@@ -84,7 +84,7 @@ impl Generator {
         if self.listed.is_empty() || self.random.percent(3) {
             return (self.random.pick(&self.pools.symbols), 100);
         }
-        let (symbol, round_lot, _) = self.random.pick(&self.listed);
+        let (symbol, round_lot, _) = self.draw_listed();
         (symbol, round_lot)
     }
 

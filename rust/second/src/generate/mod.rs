@@ -19,7 +19,7 @@ use crate::call::{Call, List};
 use crate::engine::Engine;
 use crate::quote_book::QuoteBook;
 use crate::terms::{
-    number, ANSWER_LEN, LINES, PUBLICATION_LEN, ROUND_LOTS, SNAPSHOT_MAX, STEPS_LEN,
+    number, ANSWER_LEN, LINES, PUBLICATION_LEN, ROUND_LOTS, SNAPSHOT_MAX, STEPS_LEN, SYMBOLS_MAX,
 };
 use crate::venue::Converting;
 use pools::{Pools, Symbol, Theme};
@@ -33,9 +33,18 @@ pub fn list(seed: u64, calls: usize) -> List {
     let theme = Theme::draw(&mut random);
     let n = theme.draw_n(&mut random);
     let mut generator = Generator::new(random, theme, n);
-    // Drawn apart, so that a list without an allowance is what its seed gave before there was one.
-    let mut ticks = Random::new(!seed);
-    generator.ticks = ticks.percent(25).then_some(ticks);
+    generator.draw_ticks(seed);
+    let calls = (0..calls).map(|_| generator.next_call()).collect();
+    List { n, calls }
+}
+
+/// The list of so many calls that a seed gives on a book of n symbols, also more than 64. Behind the
+/// calls that set it up three of the symbols are named more often than all others.
+pub fn large(seed: u64, n: u32, calls: usize) -> List {
+    let mut random = Random::new(seed);
+    let theme = Theme::draw(&mut random);
+    let mut generator = Generator::new(random, theme, n);
+    generator.draw_ticks(seed);
     let calls = (0..calls).map(|_| generator.next_call()).collect();
     List { n, calls }
 }
@@ -101,7 +110,7 @@ impl Generator {
             pools,
             n,
             setup: VecDeque::new(),
-            book: Engine::fresh(n).expect("a theme's n is 1 to 64"),
+            book: Engine::large(n),
             lines: Vec::new(),
             listed: Vec::new(),
             day_open: false,
@@ -110,6 +119,13 @@ impl Generator {
         };
         generator.set_up();
         generator
+    }
+
+    /// Whether the list has settings and ticks. They are drawn apart, so that a list without them is what
+    /// its seed gave before there were any.
+    fn draw_ticks(&mut self, seed: u64) {
+        let mut ticks = Random::new(!seed);
+        self.ticks = ticks.percent(25).then_some(ticks);
     }
 
     fn next_call(&mut self) -> Call {
@@ -208,8 +224,29 @@ impl Generator {
         if self.listed.is_empty() || self.random.percent(20) {
             self.draw_symbol_argument()
         } else {
-            self.random.pick(&self.listed).0.to_vec()
+            self.draw_listed().0.to_vec()
         }
+    }
+
+    /// The listed symbols with round lots and primary letters; of more than 64 only three, which come more
+    /// often than the others, so that quotes of one symbol meet.
+    fn frequent(&self) -> Vec<(Symbol, u32, u8)> {
+        let listed = self.listed.len();
+        let every = if listed > SYMBOLS_MAX as usize {
+            listed.div_ceil(3)
+        } else {
+            1
+        };
+        self.listed.iter().step_by(every).copied().collect()
+    }
+
+    /// A listed symbol, of which there is one.
+    fn draw_listed(&mut self) -> (Symbol, u32, u8) {
+        if self.listed.len() > SYMBOLS_MAX as usize && self.random.percent(70) {
+            let frequent = self.frequent();
+            return self.random.pick(&frequent);
+        }
+        self.random.pick(&self.listed)
     }
 
     /// A price of the list, one beside it, or one at the ends of the range.

@@ -1,11 +1,9 @@
 //! Every command on the sample recording, its output compared with the files in `expected`. With
 //! UPDATE_EXPECTED in the environment they are written instead.
 
-mod support;
-
 use std::fs;
 
-use support::{compare, folder, run, run_in, sample, Ran};
+use crate::support::{compare, folder, run, run_in, sample, Ran};
 
 /// Runs a command on the sample, which has to end with this status, and compares what it prints.
 fn shows(name: &str, status: i32, words: &[&str]) {
@@ -219,21 +217,21 @@ fn record_a_capture() {
     let quote = second::build::Round::regular(b'N', 7, "ZT", (10_000_000, 3), (10_020_000, 2));
     let message = second::build::round_lot(&quote, &second::build::Odd::IDLE);
     let packets = [
-        support::udp(
+        crate::support::udp(
             [224, 0, 0, 1],
             40005,
             &second::build::block(1, std::slice::from_ref(&message)),
         ),
-        support::udp(
+        crate::support::udp(
             [224, 0, 0, 2],
             40005,
             &second::build::block(2, std::slice::from_ref(&message)),
         ),
-        support::udp([224, 0, 0, 1], 9, b"something else"),
+        crate::support::udp([224, 0, 0, 1], 9, b"something else"),
         vec![0; 60],
     ];
     for (name, magic) in [("us", 0xa1b2_c3d4u32), ("ns", 0xa1b2_3c4d)] {
-        let capture = support::capture(magic, 1_794_925_800, &packets);
+        let capture = crate::support::capture(magic, 1_794_925_800, &packets);
         fs::write(folder.join(name), &capture).expect("a capture");
         let map = "symbol ZT 100 N\nline 5 N 224.0.0.1:40005\nline 6 N 40005 # the other feed\n";
         fs::write(folder.join("map"), map).expect("a map");

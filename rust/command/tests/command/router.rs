@@ -1,11 +1,9 @@
 //! Wrong figures planted in a router's log: an audit finds each, and names it.
 
-mod support;
-
 use std::fs;
 
+use crate::support::{folder, run_in};
 use second::generate::Random;
-use support::{folder, run_in};
 
 /// The cells of a log, by rows.
 fn cells(log: &str) -> Vec<Vec<String>> {
@@ -85,6 +83,10 @@ fn forms_of_a_log() {
     assert_eq!(audit("line,sequence,oo_price\n5,66,10.051\n").0, 1);
     let blocks = "record,number,gap\n253,70,3\n254,35,0\n255,32,\n";
     assert_eq!(audit(blocks).0, 0);
+    // The row of a block stands before those of its messages, or behind.
+    let block = "record,message,number,accepted,code,symbol,nb_price\n12,,0,3,,,\n12,0,,,0,ZT,9.97\n12,,0,3,,ZT,9.97\n";
+    let (status, output) = audit(block);
+    assert_eq!(status, 0, "{output}");
     let (status, output) = audit("record,number\n254,0\n");
     assert_eq!(status, 1);
     assert!(

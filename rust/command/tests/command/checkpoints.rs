@@ -1,11 +1,9 @@
 //! Checkpoints: `at` tells the same with them and without, and never trusts one that does not fit.
 
-mod support;
-
 use std::fs;
 use std::path::Path;
 
-use support::{folder, run_in};
+use crate::support::{folder, run_in};
 
 const TIMES: [&str; 6] = ["09:25", "09:40", "10:30:01", "11:05", "13:06", "16:00"];
 

@@ -1,12 +1,10 @@
 //! Pictures and the report: their form, and what they show. Where Chromium is, it opens the report.
 
-mod support;
-
 use std::collections::BTreeMap;
 use std::fs;
 use std::process::Command;
 
-use support::{run_in, sample};
+use crate::support::{run_in, sample};
 
 /// An element: its name, attributes, and text up to the next tag.
 struct Element {
@@ -191,7 +189,7 @@ fn the_report() {
     let folder = sample();
     let ran = run_in(&folder, &["report", "day.log", "-o", "day.html"]);
     assert_eq!(ran.status, 0, "{}", ran.errors);
-    support::compare("report.txt", &ran.output);
+    crate::support::compare("report.txt", &ran.output);
     let page = fs::read_to_string(folder.join("day.html")).expect("a page");
     let (head, body) = page.split_once("<body>").expect("a body");
     assert!(head.contains("<style>"));

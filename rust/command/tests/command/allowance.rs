@@ -1,12 +1,10 @@
 //! A recording with an allowance (T-14): blocks refused with 86 are shown, and audited.
 
-mod support;
-
 use std::fs;
 
+use crate::support::{compare, folder, run_in};
 use quotebook::log::{Call, Head};
 use second::build::{self, Odd, Round};
-use support::{compare, folder, run_in};
 
 #[test]
 fn blocks_refused_by_the_allowance() {

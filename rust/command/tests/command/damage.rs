@@ -1,12 +1,10 @@
 //! Recordings that are cut or damaged, and outputs that are lost.
 
-mod support;
-
 use std::fs;
 use std::process::Stdio;
 
+use crate::support::{command, folder, run_in, sample};
 use quotebook::log::Records;
-use support::{command, folder, run_in, sample};
 
 /// What every command is given beside the recording.
 const COMMANDS: &[&[&str]] = &[

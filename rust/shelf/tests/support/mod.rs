@@ -1,0 +1,5 @@
+//! Shelves beside one large book of the second implementation.
+#![allow(dead_code)]
+
+pub mod compared;
+pub mod shelves;
