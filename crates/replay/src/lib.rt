@@ -11,8 +11,8 @@ use logcalls::Ran;
 use logform::Entry;
 use logform::Log;
 
-/// Carries out a record's call on the book and writes its answer to the output, from its start.
-pub fn run(book: &mut [u8], kind: u8, args: &[u8], output: &mut [u8]) -> Ran
+// Carries out a record's call on the book and writes its answer to the output, from its start.
+fn run(book: &mut [u8], kind: u8, args: &[u8], output: &mut [u8]) -> Ran
     requires { ⌜ answerMost ≤ length (now output) ⌝ }
     ensures { λ r. ⌜ record { known = r .known; length = r .len; bytes = now (book .exit); output = now (output .exit) } ≡ ranCall (now (book .entry)) (now (output .entry)) (callOf kind (now (args .entry))) ⌝ }
 {
