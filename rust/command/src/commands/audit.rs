@@ -66,18 +66,18 @@ pub fn run(
             None => Ok(ControlFlow::Continue(())),
             Some(difference) => {
                 difference::write(&difference, played, &clock, form, output)?;
-                found = Some((difference.symbol, played.index));
+                found = Some((difference.symbol, played.index, played.record.time));
                 Ok(ControlFlow::Break(()))
             }
         }
     })?;
-    if let Some((symbol, index)) = found {
+    if let Some((symbol, index, time)) = found {
         if let Some(place) = symbol.filter(|&place| place < player.listed.len()) {
             let moment = Moment {
                 player,
                 sources: audit.sources,
                 records: index + 1,
-                time: None,
+                time: Some(time),
             };
             super::at::write(&moment, place, true, &clock, form, output)?;
         }
