@@ -34,7 +34,7 @@ extern "C" {
 /* Sizes in bytes. A book for n symbols has QB_OPENING_LEN + n * QB_PAGE_LEN. */
 enum {
     QB_OPENING_LEN = 976,
-    QB_PAGE_LEN = 6056,
+    QB_PAGE_LEN = 6307,
     QB_SYMBOL_LEN = 11,
     QB_BLOCK_MAX = 1000,     /* no block is longer */
     QB_RUN_MAX = 3600,       /* no run of blocks that a venue's block is converted to is longer */

@@ -3,7 +3,7 @@
 #include <stdint.h>
 #include <string.h>
 
-enum { SLOTS = 109, SLOT = 201, CELLS = 5335, CELL = 45, ENTRIES = 13, STATUS = 6055 };
+enum { SLOTS = 360, SLOT = 201, CELLS = 5586, CELL = 45, ENTRIES = 264, STATUS = 6306 };
 
 typedef struct {
     uint64_t price, time;

@@ -11,7 +11,7 @@ extern "C" {
     fn c_renew(page: *mut u8) -> u8;
 }
 
-const LEN: usize = 6056;
+const LEN: usize = 6307;
 
 struct Random(u64);
 
@@ -49,7 +49,7 @@ fn made(r: &mut Random) -> Vec<u8> {
         letters.swap(i, j);
     }
     for (i, l) in letters[..16].iter().enumerate() {
-        let at = 109 + l * 201;
+        let at = 360 + l * 201;
         let condition = if r.below(8) == 0 { b"ABHOWEFCNU"[r.below(10) as usize] } else { b'R' };
         quote(r, &mut page, at, condition);
         if i % 3 == 0 {
@@ -60,7 +60,7 @@ fn made(r: &mut Random) -> Vec<u8> {
         }
     }
     for k in 0..4 {
-        let at = 5335 + k * 45;
+        let at = 5586 + k * 45;
         for b in 0..4 {
             page[at + b] = b'A' + r.below(26) as u8;
         }
@@ -76,12 +76,12 @@ fn any(r: &mut Random) -> Vec<u8> {
     if r.below(4) == 0 {
         page[LEN - 1] = b'H'; // halted
     }
-    for at in (0..26).map(|l| 109 + l * 201).chain((0..16).map(|k| 5339 + k * 45)) {
+    for at in (0..26).map(|l| 360 + l * 201).chain((0..16).map(|k| 5590 + k * 45)) {
         page[at] = b"ABHOWEFCNURRRRRLL\0"[r.below(18) as usize];
         for side in 0..2 {
             for b in 0..7 {
                 page[at + 1 + 20 * side + b] = 0;
-                if at < 5335 {
+                if at < 5586 {
                     page[at + 41 + 80 * side + b] = 0;
                 }
             }
@@ -93,9 +93,9 @@ fn any(r: &mut Random) -> Vec<u8> {
 /// The page on which the letters behind `last` hold nothing, D with its makers among them.
 fn cut(page: &[u8], last: u8) -> Vec<u8> {
     let mut page = page.to_vec();
-    page[109 + usize::from(last + 1 - b'A') * 201..5335].fill(0);
+    page[360 + usize::from(last + 1 - b'A') * 201..5586].fill(0);
     if last < b'D' {
-        page[5335..LEN - 1].fill(0);
+        page[5586..LEN - 1].fill(0);
     }
     page
 }

@@ -3,11 +3,11 @@
 use Prim.Native.Nat.{ℕ, _+_, _-_, _<_, _≤_}
 use mathlib.Core.Path.{_≡_, refl, sym, ap, _∙_}
 use mathlib.Core.Bool.{Bool, true, false, _&&_, cond}
-use mathlib.Core.List.{List, [], _∷_, _++_}
+use mathlib.Core.List.{List}
 use mathlib.Core.Option.{Option, none, some}
 use native.Mathlib.Omega.{arith}
 use lib.Dec.{eqb, ltb}
-use lib.ListN.{length, length-append}
+use lib.ListN.{length}
 use borrow.Author.Tests.{lt-ltb, le-ltb, lt-leb, le-leb, eq-eqb, ne-eqb}
 use borrow.Rule.Slice.PartMut.{putMid}
 use Rattle.field.specs.Field.{be, field, splice, beBytes}
@@ -16,14 +16,15 @@ use Rattle.lists.specs.declared.Found.{Found}
 use Rattle.lists.specs.declared.Found.the-variants.{At, Nothing}
 use Rattle.lists.proofs.Tests.{clash, Cut, equal, apart, cut}
 use Rattle.text.specs.Form.{symbolGood, letterGood, symbolLength}
-use Rattle.update.specs.Parts.{blankPage, emptied}
+use Rattle.update.specs.Parts.{blankPage, newHead, emptied}
 use Rattle.update.proofs.TableLaws.{cell-order}
 use Rattle.update.proofs.SearchLaws.{isAt}
 use Rattle.update.proofs.BlankLaws.{length-blank}
+use Rattle.update.proofs.StoreLaws.{length-head}
 use Rattle.opening.specs.declared.Line.{Line}
 use Rattle.opening.specs.declared.LineState.{LineState}
 use Rattle.opening.specs.declared.LineState.the-variants.{Open, Closed}
-use Rattle.opening.specs.Opening.{symbolsOf, countOf, sound, lineBytes, linesIn, restIn, pagesIn, pagePlace, eachPage, freshBytes, restartLines, opened}
+use Rattle.opening.specs.Opening.{symbolsOf, countOf, sound, lineBytes, linesIn, restIn, pagesIn, pagePlace, hinted, eachPage, freshBytes, restartLines, opened}
 use Rattle.line.specs.Line.{done}
 use Rattle.calls.specs.Call.{Call, make, add, openLine, startDay, endDay, read, protected, convertLen, convert, snapshotLen, snapshot, tryOrder, setAllowance, tick, lots, numberOf, bare, answerOf, afterCall, makeGood, numberOn, answerOn, call}
 use Rattle.work.specs.Work.{isListed, listedOf}
@@ -277,6 +278,7 @@ module _ (b : List ℕ) where
       pub lot : k < 256
       pub count : c < symbolsMost
       pub room : pageStart c + pageLength ≤ length b
+      pub first : bookLength 1 ≤ length b
 
     pub add-passed : (n : ℕ) → n ≡ numberOn b (add x k p) → n ≡ 0 → Addable (countOf b)
     unfolding numberOn done
@@ -292,11 +294,12 @@ module _ (b : List ℕ) where
           lot = lot-fits k (a .lot);
           count = omega (arith, sd .up);
           room = omega (arith, sd .size, cell-order pageLength (countOf b) (symbolsOf b) f);
+          first = omega (arith, sd .size, sd .low);
         }
 
-    pub add-after : (b1 q : List ℕ) (c : ℕ) → length x ≡ symbolLength → c ≡ field b countAt 1 → b1 ≡ splice b countAt (beBytes 1 (c + 1)) → q ≡ blankPage (x ++ (k ∷ p ∷ []))
-        → putMid (pageStart c) ((pageStart c + pageLength) - pageStart c) b1 q ≡ afterCall b (add x k p)
+    pub add-after : (b1 q b2 b3 : List ℕ) (c : ℕ) → length x ≡ symbolLength → c ≡ field b countAt 1 → b1 ≡ splice b countAt (beBytes 1 (c + 1)) → q ≡ blankPage (newHead x k p)
+        → b2 ≡ putMid (pageStart c) ((pageStart c + pageLength) - pageStart c) b1 q → b3 ≡ hinted (be x) c b2 → b3 ≡ afterCall b (add x k p)
     unfolding afterCall countOf
-    add-after b1 q c l ce e f =
-        let w : length q ≡ pageLength = ap length f ∙ length-blank (x ++ (k ∷ p ∷ [])) (length-append x (k ∷ p ∷ []) ∙ ap (λ (n : ℕ). n + 2) l) in
-        page-back b1 c q w ∙ rw (e, f, ce)
+    add-after b1 q b2 b3 c l ce e f g h =
+        let w : length q ≡ pageLength = ap length f ∙ length-blank (newHead x k p) (length-head x k p l) in
+        h ∙ ap (hinted (be x) c) (g ∙ page-back b1 c q w) ∙ rw (e, f, ce)

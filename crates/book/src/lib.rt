@@ -44,6 +44,7 @@ pub fn add_symbol(book: &mut [u8], symbol: &[u8], lot: u32, primary: u8) -> u8
     let a = Book::OPENING_LEN + (count as usize) * Book::PAGE_LEN;
     let e = a + Book::PAGE_LEN;
     update::list(&mut book[a..e], symbol, lot as u8, primary);
+    opening::put_hint(book, symbol, count);
     0
 }
 

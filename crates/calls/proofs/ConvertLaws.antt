@@ -11,10 +11,9 @@ use Rattle.field.proofs.ZeroLaws.{splice-nothing}
 use Rattle.block.specs.Written.{joined}
 use Rattle.venue.specs.Venue.{venueCount, venueSequence, blockGood, venueMessages, messagesGood, messagesPlaced, venueNumber}
 use Rattle.venuerun.specs.Run.{neededOf, neededTold, convertNumber, venueRun}
-use Rattle.opening.specs.Opening.{sound, restIn, pagesIn}
+use Rattle.opening.specs.Opening.{sound, restIn}
 use Rattle.line.specs.Line.{done}
-use Rattle.work.specs.Work.{listedOf}
-use Rattle.calls.specs.Call.{Call, convertLen, convert, numberOf, Answer, bare, runTold, listedLot, answerOf, afterCall, numberOn, answerOn, Outcome, call}
+use Rattle.calls.specs.Call.{Call, convertLen, convert, numberOf, Answer, bare, runTold, lotOn, answerOf, afterCall, numberOn, answerOn, Outcome, call}
 use Rattle.calls.specs.Buffers.{RunOut, runOut}
 
 -- 0, 78 and 79: of these, 0 alone is done
@@ -79,7 +78,7 @@ module _ (b v : List ℕ) where
   module _ (o : List ℕ) where
     run-answer : sound b ≡ true
         → answerOn b (convert v (length o))
-        ≡ cond (eqb (convertNumber v (length o)) 0) (runTold (convertNumber v (length o)) (neededOf v) (joined (venueRun (listedLot (listedOf (pagesIn b))) v))) (bare (convertNumber v (length o)))
+        ≡ cond (eqb (convertNumber v (length o)) 0) (runTold (convertNumber v (length o)) (neededOf v) (joined (venueRun (lotOn b) v))) (bare (convertNumber v (length o)))
     unfolding numberOn numberOf answerOf
     run-answer s = rw (s, convert-done v (length o))
 
@@ -100,8 +99,8 @@ module _ (b v : List ℕ) where
     pub run-refused : sound b ≡ true → (n : ℕ) → n ≡ convertNumber v (length o) → eqb n 0 ≡ false → record { number = n; length = 0; output = o } ≡ runOut b v o
     run-refused s n e z = bare-out n (run-answer s ∙ rw (← e, z))
 
-    pub run-done : sound b ≡ true → 0 ≡ convertNumber v (length o) → (w : List ℕ) → w ≡ splice o 0 (joined (venueRun (listedLot (listedOf (pagesIn b))) v))
+    pub run-done : sound b ≡ true → 0 ≡ convertNumber v (length o) → (w : List ℕ) → w ≡ splice o 0 (joined (venueRun (lotOn b) v))
         → record { number = 0; length = neededOf v; output = w } ≡ runOut b v o
     run-done s e w ew =
         (λ i. record { number = 0; length = neededOf v; output = ew i })
-        ∙ sym (out-is (runTold 0 (neededOf v) (joined (venueRun (listedLot (listedOf (pagesIn b))) v))) (run-answer s ∙ rw (← e)))
+        ∙ sym (out-is (runTold 0 (neededOf v) (joined (venueRun (lotOn b) v))) (run-answer s ∙ rw (← e)))

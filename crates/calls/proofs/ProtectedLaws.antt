@@ -5,7 +5,6 @@ use Prim.Native.Nat.{ℕ}
 use mathlib.Core.Path.{_≡_, refl, sym, ap, _∙_}
 use mathlib.Core.Bool.{Bool, true, false, _&&_, cond}
 use mathlib.Core.List.{List}
-use mathlib.Core.Option.{none, some}
 use Rattle.field.specs.Field.{be}
 use Rattle.lists.specs.Lists.{member}
 use Rattle.lists.specs.declared.Found.{Found}
@@ -17,17 +16,17 @@ use Rattle.protection.specs.Protection.{answersYes, protection, pageCandidates,
 use Rattle.protection.proofs.ProtectionLaws.{published-best, First, protection-first}
 use Rattle.protection.proofs.HaltLaws.{look-halted}
 use Rattle.update.specs.Parts.{readingOf}
-use Rattle.update.proofs.SearchLaws.{foundBy, isAt}
-use Rattle.opening.specs.Opening.{sound, restIn, pageAt, pagesIn, pagePlace}
+use Rattle.update.proofs.SearchLaws.{isAt}
+use Rattle.opening.specs.Opening.{sound, restIn, pageAt, pagesIn, pagePlace, readingAt}
 use Rattle.line.specs.Line.{done}
 use Rattle.work.specs.Work.{listedOf}
-use Rattle.work.proofs.PlaceLaws.{listed-at, find-page}
+use Rattle.work.proofs.PlaceLaws.{listed-at}
 use Rattle.calls.specs.Call.{Call, protected, sideMarks, numberOf, Answer, bare, askedSide, protectionTold, answerOf, candidatesIn, candidatesOn, afterCall, numberOn, answerOn, Outcome, call}
 
 -- a listed symbol's candidates are its page's
 pub candidates-at : (b : List ℕ) (s k : ℕ) → pagePlace b s ≡ At k → candidatesOn b s ≡ pageTrading (pageAt b k)
 unfolding readingOf pageCandidates
-candidates-at b s k e = ap candidatesIn (find-page b s ∙ ap (foundBy (λ j. some (readingOf (pageAt b j))) none) e)
+candidates-at b s k e = ap (λ (f : Found). candidatesIn (readingAt b f)) e
 
 module _ (b x : List ℕ) (m v : ℕ) where
   abbrev asked : Call

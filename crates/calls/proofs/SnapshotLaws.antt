@@ -4,7 +4,7 @@ use Prim.Native.Nat.{ℕ, _+_, _≤_, _<_}
 use mathlib.Core.Path.{_≡_, refl, sym, ap, _∙_}
 use mathlib.Core.Bool.{Bool, true, false, _&&_, cond}
 use mathlib.Core.List.{List, []}
-use mathlib.Core.Option.{Option, none, some}
+use mathlib.Core.Option.{some}
 use native.Mathlib.Omega.{arith}
 use lib.Dec.{lit<, leb, ltb}
 use lib.ListN.{length}
@@ -12,6 +12,7 @@ use borrow.Author.Tests.{lt-ltb, le-ltb}
 use Rattle.field.specs.Field.{Bytes, be, part}
 use Rattle.field.proofs.Laws.{length-part, bytes-part}
 use Rattle.lists.specs.Lists.{upper}
+use Rattle.lists.specs.declared.Found.{Found}
 use Rattle.lists.specs.declared.Found.the-variants.{At, Nothing}
 use Rattle.lists.proofs.Tests.{upper-low}
 use Rattle.text.specs.Form.{symbolGood, symbolLength}
@@ -26,15 +27,15 @@ use Rattle.snapshot.proofs.RoundLaws.{Whole, length-feed, count-feed, blocks-sh
 use Rattle.snapshot.proofs.ShownLaws.{whole-of}
 use Rattle.page.specs.Layout.{entriesAt, pageLength, slotAt, keptEntries}
 use Rattle.page.specs.Page.{quotesIn}
-use Rattle.update.specs.Parts.{Reading, readingOf}
-use Rattle.update.proofs.SearchLaws.{foundBy, isAt}
-use Rattle.opening.specs.Opening.{sound, restIn, pageAt, pagesIn, pagePlace}
+use Rattle.update.specs.Parts.{readingOf}
+use Rattle.update.proofs.SearchLaws.{isAt}
+use Rattle.opening.specs.Opening.{sound, restIn, pageAt, pagesIn, pagePlace, readingAt}
 use Rattle.opening.specs.Layout.{pageStart}
 use Rattle.opening.proofs.OpeningLaws.{bytes-page}
 use Rattle.opening.proofs.ReadLaws.{found-room}
 use Rattle.line.specs.Line.{done}
 use Rattle.work.specs.Work.{listedOf}
-use Rattle.work.proofs.PlaceLaws.{listed-at, find-page}
+use Rattle.work.proofs.PlaceLaws.{listed-at}
 use Rattle.calls.specs.Call.{Call, snapshotLen, snapshot, numberOf, Answer, bare, fed, sizeTold, snapshotTold, answerOf, entriesIn, publishedOn, quotesFor, quotesOn, afterCall, numberOn, answerOn, Outcome, call}
 use Rattle.calls.proofs.NumberLaws.{symbol-eleven}
 
@@ -73,7 +74,7 @@ module _ (b x : List ℕ) where
   pub feed-at : (k : ℕ) → pagePlace b (be x) ≡ At k → snapshotOf x (publishedOn b (be x)) (quotesOn b (be x)) ≡ pageFeed k
   unfolding readingOf
   feed-at k e =
-      ap (λ (o : Option Reading). snapshotOf x (entriesIn o) (quotesFor o)) (find-page b (be x) ∙ ap (foundBy (λ j. some (readingOf (pageAt b j))) none) e)
+      ap (λ (f : Found). snapshotOf x (entriesIn (readingAt b f)) (quotesFor (readingAt b f))) e
 
   -- 10
   abbrev numbered : ℕ

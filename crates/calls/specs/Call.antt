@@ -2,7 +2,7 @@
 -- Assumes nothing.
 use Prim.Native.Nat.{ℕ, _+_, _-_}
 use mathlib.Core.Bool.{Bool, true, false, _&&_, cond}
-use mathlib.Core.List.{List, [], _∷_, _++_}
+use mathlib.Core.List.{List, [], _∷_}
 use mathlib.Core.Option.{Option, none, some}
 use lib.Dec.{ltb, leb, eqb}
 use lib.ListN.{length}
@@ -27,11 +27,11 @@ use Rattle.block.specs.Written.{joined}
 use Rattle.venue.specs.Venue.{venueNumber}
 use Rattle.venuerun.specs.Run.{neededOf, convertNumber, venueRun}
 use Rattle.sweep.specs.Sweep.{Step, swept, filled, stepsBytes, stepsLength}
-use Rattle.update.specs.Parts.{Reading, blankPage, emptied}
+use Rattle.update.specs.Parts.{Reading, blankPage, newHead, emptied}
 use Rattle.opening.specs.declared.Line.{Line}
-use Rattle.opening.specs.Opening.{Rest, symbolsOf, countOf, sound, lineBytes, linesIn, restIn, pagesIn, setPage, eachPage, freshBytes, restartLines, onAllowance}
+use Rattle.opening.specs.Opening.{Rest, symbolsOf, countOf, sound, lineBytes, linesIn, restIn, pagesIn, hinted, readingFor, setPage, eachPage, freshBytes, restartLines, onAllowance}
 use Rattle.told.specs.Told.{isAccepted, isPartly, isRejected, quads, tally}
-use Rattle.work.specs.Work.{Listed, findReading, isListed, lotOf, listedOf, messagesOn, toldOn}
+use Rattle.work.specs.Work.{Listed, isListed, listedOf, messagesOn, toldOn}
 use Rattle.told.specs.declared.Told.{Told}
 use Rattle.entries.specs.Publication.{publicationLength}
 use Rattle.opening.specs.Layout.{allowanceAt, bookLength, lineAt, countAt, dayAt, lineCount, symbolsMost}
@@ -178,10 +178,6 @@ abbrev pub runTold : ℕ → ℕ → List ℕ → Answer
 runTold k n run =
     record { number = k; gap = 0; expected = 0; count = 0; accepted = 0; partly = 0; rejected = 0; answers = []; publication = []; found = 0; amount = n; output = run }
 
--- "a symbol not listed goes through with its size undivided": its lot is 0
-abbrev pub listedLot : List Listed → ℕ → ℕ
-listedLot ls s = lotOf s ls
-
 -- ---- a snapshot's answer (T-12)
 
 abbrev pub fed : ℕ → ℕ → ℕ → List ℕ → Answer
@@ -222,24 +218,24 @@ abbrev pub letterOf : Option Line → ℕ
 letterOf none = 0
 letterOf (some x) = x .letter
 
--- ls: the listed symbols; ts: what is told of a block's messages, from the line's letter; p: the entries of a symbol; cs: its national candidates of a side, by letter;
+-- lot: the round lot of a symbol, 0 of one that is not listed; ts: what is told of a block's messages, from the line's letter; p: the entries of a symbol; cs: its national candidates of a side, by letter;
 -- qs: its letters' latest quotes. Book and reviewer both answer through this
-unfoldable pub answerOf : Rest → List Listed → (ℕ → List (List ℕ) → List Told) → (ℕ → List ℕ) → (ℕ → Side → ℕ → Option Candidate) → (ℕ → ℕ → Quote) → ℕ → Call → Answer
-answerOf r ls ts p cs qs k (make n) = bare k
-answerOf r ls ts p cs qs k (add s n l) = bare k
-answerOf r ls ts p cs qs k (openLine i l) = bare k
-answerOf r ls ts p cs qs k startDay = bare k
-answerOf r ls ts p cs qs k endDay = bare k
-answerOf r ls ts p cs qs k (take i b room) = cond (eqb k 9) (bare k) (lineAnswer k b (ts (letterOf (r .lines i)) (messagesOf b)) (r .lines i))
-answerOf r ls ts p cs qs k (read s room) = published k (p (be s))
-answerOf r ls ts p cs qs k (protected s m x) = cond (done k) (protectionTold k (protection (askedSide m) x (cs (be s) (askedSide m)))) (bare k)
-answerOf r ls ts p cs qs k (convertLen v) = cond (done k) (runTold k (neededOf v) []) (bare k)
-answerOf r ls ts p cs qs k (convert v room) = cond (done k) (runTold k (neededOf v) (joined (venueRun (listedLot ls) v))) (bare k)
-answerOf r ls ts p cs qs k (snapshotLen s) = cond (done k) (sizeTold k (snapshotOf s (p (be s)) (qs (be s)))) (bare k)
-answerOf r ls ts p cs qs k (snapshot s room) = cond (done k) (snapshotTold k room (snapshotOf s (p (be s)) (qs (be s)))) (bare k)
-answerOf r ls ts p cs qs k (tryOrder s m w room) = cond (done k) (stepsTold k w (swept (orderSide m) w (cs (be s) (orderSide m)))) (bare k)
-answerOf r ls ts p cs qs k (setAllowance n ss) = bare k
-answerOf r ls ts p cs qs k tick = bare k
+unfoldable pub answerOf : Rest → (ℕ → ℕ) → (ℕ → List (List ℕ) → List Told) → (ℕ → List ℕ) → (ℕ → Side → ℕ → Option Candidate) → (ℕ → ℕ → Quote) → ℕ → Call → Answer
+answerOf r lot ts p cs qs k (make n) = bare k
+answerOf r lot ts p cs qs k (add s n l) = bare k
+answerOf r lot ts p cs qs k (openLine i l) = bare k
+answerOf r lot ts p cs qs k startDay = bare k
+answerOf r lot ts p cs qs k endDay = bare k
+answerOf r lot ts p cs qs k (take i b room) = cond (eqb k 9) (bare k) (lineAnswer k b (ts (letterOf (r .lines i)) (messagesOf b)) (r .lines i))
+answerOf r lot ts p cs qs k (read s room) = published k (p (be s))
+answerOf r lot ts p cs qs k (protected s m x) = cond (done k) (protectionTold k (protection (askedSide m) x (cs (be s) (askedSide m)))) (bare k)
+answerOf r lot ts p cs qs k (convertLen v) = cond (done k) (runTold k (neededOf v) []) (bare k)
+answerOf r lot ts p cs qs k (convert v room) = cond (done k) (runTold k (neededOf v) (joined (venueRun lot v))) (bare k)
+answerOf r lot ts p cs qs k (snapshotLen s) = cond (done k) (sizeTold k (snapshotOf s (p (be s)) (qs (be s)))) (bare k)
+answerOf r lot ts p cs qs k (snapshot s room) = cond (done k) (snapshotTold k room (snapshotOf s (p (be s)) (qs (be s)))) (bare k)
+answerOf r lot ts p cs qs k (tryOrder s m w room) = cond (done k) (stepsTold k w (swept (orderSide m) w (cs (be s) (orderSide m)))) (bare k)
+answerOf r lot ts p cs qs k (setAllowance n ss) = bare k
+answerOf r lot ts p cs qs k tick = bare k
 
 -- ---- the book's bytes
 
@@ -248,7 +244,15 @@ entriesIn none = []
 entriesIn (some r) = r .entries
 
 abbrev pub publishedOn : List ℕ → ℕ → List ℕ
-publishedOn b s = entriesIn (findReading s (pagesIn b))
+publishedOn b s = entriesIn (readingFor b s)
+
+-- "a symbol not listed goes through with its size undivided": its lot is 0
+abbrev pub lotIn : Option Reading → ℕ
+lotIn none = 0
+lotIn (some r) = r .lot
+
+abbrev pub lotOn : List ℕ → ℕ → ℕ
+lotOn b s = lotIn (readingFor b s)
 
 -- worked out from the page's quotes, whatever entries it keeps; none while it is halted
 abbrev pub candidatesIn : Option Reading → Side → ℕ → Option Candidate
@@ -256,7 +260,7 @@ candidatesIn none = λ s l. none
 candidatesIn (some r) = tradingCandidates (r .halted) (candidates (r .quotes) (occupied (r .cells)))
 
 abbrev pub candidatesOn : List ℕ → ℕ → Side → ℕ → Option Candidate
-candidatesOn b s = candidatesIn (findReading s (pagesIn b))
+candidatesOn b s = candidatesIn (readingFor b s)
 
 -- the letters' quotes of a page, as they stand
 abbrev pub quotesFor : Option Reading → ℕ → Quote
@@ -264,7 +268,7 @@ quotesFor none = λ l. noQuote
 quotesFor (some r) = r .quotes
 
 abbrev pub quotesOn : List ℕ → ℕ → ℕ → Quote
-quotesOn b s = quotesFor (findReading s (pagesIn b))
+quotesOn b s = quotesFor (readingFor b s)
 
 -- the line's record after a block, and its charge
 abbrev pub advanceOn : ℕ → List ℕ → Option Line → List ℕ → List ℕ
@@ -274,7 +278,8 @@ advanceOn i k (some r) b = settled i (advanced r k) (idleBlock k) b
 -- the bytes after a call that is done
 unfoldable pub afterCall : List ℕ → Call → List ℕ
 afterCall b (make n) = freshBytes n
-afterCall b (add s k l) = setPage (splice b countAt (beBytes 1 (countOf b + 1))) (countOf b) (blankPage (s ++ (k ∷ l ∷ [])))
+-- its page, and the hint where that is
+afterCall b (add s k l) = hinted (be s) (countOf b) (setPage (splice b countAt (beBytes 1 (countOf b + 1))) (countOf b) (blankPage (newHead s k l)))
 afterCall b (openLine i l) = splice b (lineAt i) (lineBytes (record { letter = l; expected = 1; count = 0 }))
 afterCall b startDay = splice (restartLines 0 lineCount (eachPage emptied 0 (symbolsOf b) b)) dayAt (1 ∷ [])
 afterCall b endDay = splice b dayAt (0 ∷ [])
@@ -333,7 +338,7 @@ unfoldable pub numberOn : List ℕ → Call → ℕ
 numberOn b c = cond (isMake c) (madeNumber b c) (cond (sound b) (numberOf (restIn b) (listedOf (pagesIn b)) c) 1)
 
 abbrev pub answerOn : List ℕ → Call → Answer
-answerOn b c = cond (isMake c) (bare (numberOn b c)) (cond (sound b) (answerOf (restIn b) (listedOf (pagesIn b)) (toldOn b) (publishedOn b) (candidatesOn b) (quotesOn b) (numberOn b c) c) (bare 1))
+answerOn b c = cond (isMake c) (bare (numberOn b c)) (cond (sound b) (answerOf (restIn b) (lotOn b) (toldOn b) (publishedOn b) (candidatesOn b) (quotesOn b) (numberOn b c) c) (bare 1))
 
 pub record Outcome : Type 0 where
   pub bytes : List ℕ

@@ -6,7 +6,6 @@ use mathlib.Core.Bool.{Bool, true, false, cond}
 use mathlib.Core.List.{List, [], _∷_, _++_, map}
 use native.Mathlib.Omega.{arith}
 use native.Mathlib.Numerals.{add-one}
-use lib.Dec.{eqb}
 use lib.ListN.{length, take, drop, getD, set, replicate}
 use lib.Seq.{getD-drop, drop-drop}
 use Rattle.field.specs.Field.{be, part, field, splice}
@@ -16,11 +15,10 @@ use Rattle.lists.specs.Lists.{at}
 use Rattle.lists.specs.declared.Found.{Found}
 use Rattle.lists.specs.declared.Found.the-variants.{At, Nothing}
 use Rattle.page.specs.Layout.{pageLength, lotAt}
-use Rattle.update.specs.Parts.{Reading, readingOf}
-use Rattle.update.proofs.SearchLaws.{foundBy, firstBy, first-by}
+use Rattle.update.specs.Parts.{readingOf}
 use Rattle.opening.specs.Layout.{pageStart}
-use Rattle.opening.specs.Opening.{countOf, pageAt, pagesIn, pagePlace}
-use Rattle.work.specs.Work.{lotOf, listedWith, listedOf}
+use Rattle.opening.specs.Opening.{pageAt, pagePlace, readingAt}
+use Rattle.calls.specs.Call.{lotIn, lotOn}
 use Rattle.venueform.specs.declared.Form.{Form}
 use Rattle.venueform.specs.declared.Layout.{Layout}
 use Rattle.venueform.specs.declared.Layout.the-variants.{Quote, Other}
@@ -31,38 +29,32 @@ use Rattle.venuequote.proofs.WriteLaws.{whole, length-symbol}
 use Rattle.venuequote.specs.Quote.{convertedAs, convertedBy, converted, namedBy, symbolNamed, convertedFor}
 use Rattle.venuerun.specs.code.Walk.{stands, convertedFrom}
 use Rattle.venuerun.proofs.StandLaws.{Ready, ready-is, there, messages-next, messages-none, stands-few}
-use Rattle.convert.specs.code.Lots.{lotIn, lotBy, lotFor, lotsFor}
+use Rattle.convert.specs.code.Lots.{lotBy, lotFor, lotsFor}
 
 -- ---- the lot of a symbol is that of the page that is found
 
-lot-is : (s : ℕ) (rs : List Reading) → lotOf s (listedOf rs) ≡ firstBy (λ r. eqb (r .symbol) s) (λ r. r .lot) 0 rs
-unfolding listedWith listedOf
-lot-is s [] = refl
-lot-is s (r ∷ rs) = ap (cond (eqb (r .symbol) s) (r .lot)) (lot-is s rs)
-
 module _ (b : List ℕ) (s : ℕ) (r : Found) (e : r ≡ pagePlace b s) where
-  lot-at : lotIn b s ≡ foundBy (λ k. field (pageAt b k) lotAt 1) 0 r
-  unfolding pagesIn pagePlace readingOf
-  lot-at = lot-is s (pagesIn b) ∙ first-by (λ (x : Reading). eqb (x .symbol) s) (λ k. readingOf (pageAt b k)) (λ x. x .lot) 0 (countOf b) 0 ∙ ap (foundBy (λ k. field (pageAt b k) lotAt 1) 0) (sym e)
+  lot-at : lotOn b s ≡ lotIn (readingAt b r)
+  lot-at = ap (λ (f : Found). lotIn (readingAt b f)) (sym e)
 
-  pub lot-found : (k l : ℕ) → r ≡ At k → l ≡ field b (pageStart k + lotAt) 1 → l ≡ lotIn b s
-  unfolding pageAt
+  pub lot-found : (k l : ℕ) → r ≡ At k → l ≡ field b (pageStart k + lotAt) 1 → l ≡ lotOn b s
+  unfolding pageAt readingOf
   lot-found k l f q =
-      q ∙ sym (field-part b (pageStart k) pageLength lotAt 1 (omega arith)) ∙ sym (lot-at ∙ ap (foundBy (λ j. field (pageAt b j) lotAt 1) 0) f)
+      q ∙ sym (field-part b (pageStart k) pageLength lotAt 1 (omega arith)) ∙ sym (lot-at ∙ ap (λ (g : Found). lotIn (readingAt b g)) f)
 
-  pub lot-missing : r ≡ Nothing → 0 ≡ lotIn b s
-  lot-missing f = sym (lot-at ∙ ap (foundBy (λ j. field (pageAt b j) lotAt 1) 0) f)
+  pub lot-missing : r ≡ Nothing → 0 ≡ lotOn b s
+  lot-missing f = sym (lot-at ∙ ap (λ (g : Found). lotIn (readingAt b g)) f)
 
 -- ---- of a message
 
 module _ (b m : List ℕ) (l : Layout) (e : l ≡ layoutOf m) where
-  pub lot-round : (f : Form) (s : List ℕ) (x : ℕ) → l ≡ Quote f → f .round ≡ true → s ≡ symbolIn f m → x ≡ lotIn b (be s) → x ≡ lotFor b m
+  pub lot-round : (f : Form) (s : List ℕ) (x : ℕ) → l ≡ Quote f → f .round ≡ true → s ≡ symbolIn f m → x ≡ lotOn b (be s) → x ≡ lotFor b m
   unfolding lotFor
-  lot-round f s x q r es ex = ex ∙ ap (λ (y : List ℕ). lotIn b (be y)) es ∙ sym (ap (λ (t : Bool). cond t (lotIn b (be (symbolIn f m))) 0) r) ∙ ap (lotBy b m) (sym q ∙ e)
+  lot-round f s x q r es ex = ex ∙ ap (λ (y : List ℕ). lotOn b (be y)) es ∙ sym (ap (λ (t : Bool). cond t (lotOn b (be (symbolIn f m))) 0) r) ∙ ap (lotBy b m) (sym q ∙ e)
 
   pub lot-odd : (f : Form) → l ≡ Quote f → f .round ≡ false → 0 ≡ lotFor b m
   unfolding lotFor
-  lot-odd f q r = sym (ap (λ (t : Bool). cond t (lotIn b (be (symbolIn f m))) 0) r) ∙ ap (lotBy b m) (sym q ∙ e)
+  lot-odd f q r = sym (ap (λ (t : Bool). cond t (lotOn b (be (symbolIn f m))) 0) r) ∙ ap (lotBy b m) (sym q ∙ e)
 
   pub lot-other : l ≡ Other → 0 ≡ lotFor b m
   unfolding lotFor
@@ -77,22 +69,22 @@ same-odd : (f : Form) (m : List ℕ) (x y : ℕ) → f .round ≡ false → conv
 unfolding convertedAs
 same-odd f m x y r = rw r
 
-lot-same : (b m : List ℕ) → converted (lotFor b m) m ≡ convertedFor (lotIn b) m
+lot-same : (b m : List ℕ) → converted (lotFor b m) m ≡ convertedFor (lotOn b) m
 unfolding converted convertedFor lotFor symbolNamed
 lot-same b m = go (layoutOf m)
   where
-    go : (l : Layout) → convertedBy (lotBy b m l) m l ≡ convertedBy (lotIn b (namedBy m l)) m l
+    go : (l : Layout) → convertedBy (lotBy b m l) m l ≡ convertedBy (lotOn b (namedBy m l)) m l
     go (Quote f) = by (f .round) refl
       where
-        by : (t : Bool) → f .round ≡ t → convertedAs (cond (f .round) (lotIn b (be (symbolIn f m))) 0) f m ≡ convertedAs (lotIn b (be (symbolIn f m))) f m
-        by true r = ap (λ (t : Bool). convertedAs (cond t (lotIn b (be (symbolIn f m))) 0) f m) r
+        by : (t : Bool) → f .round ≡ t → convertedAs (cond (f .round) (lotOn b (be (symbolIn f m))) 0) f m ≡ convertedAs (lotOn b (be (symbolIn f m))) f m
+        by true r = ap (λ (t : Bool). convertedAs (cond t (lotOn b (be (symbolIn f m))) 0) f m) r
         by false r = same-odd f m _ _ r
     go Other = refl
 
 -- ---- of all messages
 
 -- lots that stand from i on
-pub lots-convert : (b : List ℕ) (ms : List (List ℕ)) (ls rest : List ℕ) (i : ℕ) → drop i ls ≡ lotsFor b ms ++ rest → convertedFrom ls i ms ≡ map (convertedFor (lotIn b)) ms
+pub lots-convert : (b : List ℕ) (ms : List (List ℕ)) (ls rest : List ℕ) (i : ℕ) → drop i ls ≡ lotsFor b ms ++ rest → convertedFrom ls i ms ≡ map (convertedFor (lotOn b)) ms
 unfolding convertedFrom
 lots-convert b [] ls rest i e = refl
 lots-convert b (m ∷ ms) ls rest i e =

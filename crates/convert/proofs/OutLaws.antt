@@ -22,7 +22,8 @@ use Rattle.venuerun.specs.code.Walk.{convertedFrom}
 use Rattle.venuerun.proofs.VenueLaws.{run-length}
 use Rattle.calls.specs.Buffers.{RunOut, runOut}
 use Rattle.calls.proofs.ConvertLaws.{run-refused, run-done}
-use Rattle.convert.specs.code.Lots.{lotIn, lotsFor}
+use Rattle.calls.specs.Call.{lotOn}
+use Rattle.convert.specs.code.Lots.{lotsFor}
 use Rattle.convert.proofs.LotLaws.{lots-convert}
 
 module _ (b v o : List ℕ) (s : sound b ≡ true) (n l : ℕ) (en : n ≡ convertNumber v (length o)) (el : l ≡ cond (eqb (convertNumber v (length o)) 0) (neededOf v) 0) where
@@ -53,14 +54,14 @@ module _ (b v o : List ℕ) (s : sound b ≡ true) (n l : ℕ) (en : n ≡ conve
         let z : l - 0 ≡ neededOf v = omega (arith, needs-is) in
         ap (λ (k : ℕ). length (take k o)) z ∙ length-take-le (neededOf v) o (good .1)
 
-    pub out-done : (z : List ℕ) → z ≡ joined (venueRun (lotIn b) v) → record { number = n; length = l; output = putMid 0 (l - 0) o z } ≡ runOut b v o
+    pub out-done : (z : List ℕ) → z ≡ joined (venueRun (lotOn b) v) → record { number = n; length = l; output = putMid 0 (l - 0) o z } ≡ runOut b v o
     out-done z e =
-        let k : length z ≡ l - 0 = ap length e ∙ run-length v (good .0) (lotIn b) ∙ omega (arith, needs-is) in
+        let k : length z ≡ l - 0 = ap length e ∙ run-length v (good .0) (lotOn b) ∙ omega (arith, needs-is) in
         (λ i. record { number = h i; length = needs-is i; output = lent-back 0 (l - 0) o z k i })
         ∙ run-done b v o s done (splice o 0 z) (ap (splice o 0) e)
 
 -- the run by the lots that were collected
-pub run-by-lots : (b v ls zs out : List ℕ) → ls ≡ splice zs 0 (lotsFor b (venueMessages v)) → out ≡ joined (runOf (venueSequence v) (convertedFrom ls 0 (venueMessages v))) → out ≡ joined (venueRun (lotIn b) v)
+pub run-by-lots : (b v ls zs out : List ℕ) → ls ≡ splice zs 0 (lotsFor b (venueMessages v)) → out ≡ joined (runOf (venueSequence v) (convertedFrom ls 0 (venueMessages v))) → out ≡ joined (venueRun (lotOn b) v)
 unfolding splice
 run-by-lots b v ls zs out el eo =
     eo ∙ ap (λ (ms : List (List ℕ)). joined (runOf (venueSequence v) ms)) (lots-convert b (venueMessages v) ls (drop (0 + length (lotsFor b (venueMessages v))) zs) 0 el)

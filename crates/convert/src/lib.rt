@@ -11,9 +11,9 @@ ghost use Rattle.venue.specs.Venue.{venueMessages, venueNumber};
 ghost use Rattle.venuerun.specs.Run.{neededOf, venueRun};
 ghost use Rattle.venuequote.specs.code.Ready.{ready};
 ghost use Rattle.opening.specs.Opening.{sound};
-ghost use Rattle.calls.specs.Call.{call, convertLen, runTold};
+ghost use Rattle.calls.specs.Call.{call, convertLen, runTold, lotOn};
 ghost use Rattle.calls.specs.Buffers.{runOut};
-ghost use Rattle.convert.specs.code.Lots.{lotIn, lotFor, lotsFor};
+ghost use Rattle.convert.specs.code.Lots.{lotFor, lotsFor};
 use lists::Found;
 use opening::Book;
 use page::Page;
@@ -50,7 +50,7 @@ pub fn convert(book: &[u8], block: &[u8], output: &mut [u8]) -> Converted
 // The run, which fills the output.
 fn write(book: &[u8], block: &[u8], output: &mut [u8])
     requires { ⌜ (sound (now book) ≡ true) × ((venueNumber (now block) ≡ 0) × (length (now output) ≡ neededOf (now block))) ⌝ }
-    ensures { λ _. ⌜ now (output .exit) ≡ joined (venueRun (lotIn (now (book .entry))) (now (block .entry))) ⌝ }
+    ensures { λ _. ⌜ now (output .exit) ≡ joined (venueRun (lotOn (now (book .entry))) (now (block .entry))) ⌝ }
 {
     let mut lots = [0u8; 38];
     put_lots(&mut lots, book, block);
@@ -93,7 +93,7 @@ fn lot_for(book: &[u8], msg: &[u8]) -> u8
 // The round lot of a symbol, 0 if it is not listed.
 fn lot_in(book: &[u8], symbol: &[u8]) -> u8
     requires { ⌜ (sound (now book) ≡ true) × (length (now symbol) ≡ symbolLength) ⌝ }
-    ensures { λ r. ⌜ r ≡ lotIn (now (book .entry)) (be (now (symbol .entry))) ⌝ }
+    ensures { λ r. ⌜ r ≡ lotOn (now (book .entry)) (be (now (symbol .entry))) ⌝ }
 {
     let place = opening::find(book, symbol);
     let Found::At(k) = place else {

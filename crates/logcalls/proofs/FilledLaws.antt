@@ -14,9 +14,9 @@ use Rattle.block.specs.Block.{countIn, messagesFrom, messagesOf, answerLength}
 use Rattle.block.proofs.WrittenLaws.{length-messages}
 use Rattle.told.specs.Told.{quads, tally}
 use Rattle.told.specs.declared.Told.{Told}
-use Rattle.work.specs.Work.{toldOn, messageOn, listedOf}
+use Rattle.work.specs.Work.{toldOn, messageOn}
 use Rattle.opening.specs.declared.Line.{Line}
-use Rattle.opening.specs.Opening.{sound, restIn, linesIn, pagesIn}
+use Rattle.opening.specs.Opening.{sound, restIn, linesIn}
 use Rattle.allowance.specs.Allowance.{isUsedUp}
 use Rattle.line.specs.Line.{done, onLine, blockNumber, gapTold, advanced}
 use Rattle.line.proofs.GateLaws.{block-nine}
@@ -30,7 +30,7 @@ use Rattle.snapshot.specs.Snapshot.{Snapshot, snapshotOf}
 use Rattle.snapshot.specs.Feed.{feedBlocks, feedBytes}
 use Rattle.calls.proofs.ConvertLaws.{convert-done}
 use Rattle.calls.proofs.SnapshotLaws.{feed-answer}
-use Rattle.calls.specs.Call.{convert, snapshot, tryOrder, fed, publishedOn, quotesOn, runTold, stepsTold, orderSide, listedLot, candidatesOn, Call, Answer, bare, report, take, letterOf, lineAnswer, numberOf, answerOf, numberOn, answerOn, call}
+use Rattle.calls.specs.Call.{convert, snapshot, tryOrder, fed, publishedOn, quotesOn, runTold, stepsTold, orderSide, lotOn, candidatesOn, Call, Answer, bare, report, take, letterOf, lineAnswer, numberOf, answerOf, numberOn, answerOn, call}
 
 length-quads : (i : ℕ) (ts : List Told) → length (quads i ts) ≡ 4 * length ts
 unfolding quads
@@ -110,7 +110,7 @@ module _ (b v : List ℕ) (room : ℕ) where
   convert-fills = go (sound b)
     where
       run : List ℕ
-      run = joined (venueRun (listedLot (listedOf (pagesIn b))) v)
+      run = joined (venueRun (lotOn b) v)
 
       numbered : Bool → ℕ
       numbered s = cond s (convertNumber v room) 1
@@ -119,7 +119,7 @@ module _ (b v : List ℕ) (room : ℕ) where
       told s d = cond s (cond d (runTold (numbered s) (neededOf v) run) (bare (numbered s))) (bare 1)
 
       placed-told : (d : Bool) → done (convertNumber v room) ≡ d → OutputOnly (told true d .amount) (told true d)
-      placed-told true e = record { shape = refl; size = run-length v (placed (eqb-true (convertNumber v room) 0 (sym (convert-done v room) ∙ e))) (listedLot (listedOf (pagesIn b))) }
+      placed-told true e = record { shape = refl; size = run-length v (placed (eqb-true (convertNumber v room) 0 (sym (convert-done v room) ∙ e))) (lotOn b) }
       placed-told false e = record { shape = refl; size = refl }
 
       go : (s : Bool) → OutputOnly (told s (done (numbered s)) .amount) (told s (done (numbered s)))
@@ -132,7 +132,7 @@ module _ (b v : List ℕ) (room : ℕ) where
   convert-finds = go (sound b)
     where
       run : List ℕ
-      run = joined (venueRun (listedLot (listedOf (pagesIn b))) v)
+      run = joined (venueRun (lotOn b) v)
 
       told : (n : ℕ) (d : Bool) → cond {A = Answer} d (runTold n (neededOf v) run) (bare n) .found ≡ 0
       told n true = refl

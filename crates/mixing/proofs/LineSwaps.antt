@@ -4,6 +4,7 @@ use Prim.Native.Nat.{ℕ, _+_, _<_, _≤_}
 use mathlib.Core.Path.{_≡_, refl, sym, ap, _∙_}
 use mathlib.Core.Bool.{Bool, true, false, _||_, cond}
 use mathlib.Core.List.{List, [], _∷_, map}
+use mathlib.Core.Option.{Option, some}
 use mathlib.Core.Logic.{_⊎_, inl, inr}
 use native.Mathlib.Omega.{arith}
 use lib.Dec.{eqb, ltb}
@@ -13,22 +14,22 @@ use Rattle.field.specs.Field.{be, part, field, splice, beBytes}
 use Rattle.field.proofs.Laws.{length-beBytes, field-part, field-part-0, splice-part, splice-inside}
 use Rattle.lists.specs.Lists.{upper}
 use Rattle.lists.specs.declared.Found.{Found}
+use Rattle.lists.specs.declared.Found.the-variants.{At, Nothing}
 use Rattle.lists.proofs.Tests.{clash}
 use Rattle.allowance.specs.Allowance.{allowanceLength, chargesFrom, chargedTo, chargedBytes}
 use Rattle.message.specs.Message.{symbolOf, codeOf, partlyTaken, Part, roundPart, oddPart, makerPart, finraPart, statusPart, partsOf}
 use Rattle.message.proofs.SpokenLaws.{Shaped, AllShaped, shaped}
-use Rattle.page.specs.Layout.{pageLength, pageSymbol}
-use Rattle.update.specs.Parts.{Reading, knownOf}
-use Rattle.update.proofs.SearchLaws.{first-same}
+use Rattle.page.specs.Layout.{hintsAt, pageLength, pageSymbol}
+use Rattle.update.specs.Parts.{Reading, readingOf, knownOf}
 use Rattle.opening.specs.declared.Line.{Line}
 use Rattle.opening.specs.Layout.{linesAt, lineLength, lineCount, linesLength, allowanceAt, openingLength, bookLength, pageStart, lineAt}
-use Rattle.opening.specs.Opening.{lineBytes, onAllowance, countOf, pageAt, pagesIn, pagePlace}
+use Rattle.opening.specs.Opening.{lineBytes, onAllowance, countOf, pageAt, pagesIn, bucketOf, hintOf, pagePlace, readingAt, readingFor}
 use Rattle.opening.proofs.OpeningLaws.{Sound, sound-by, count-by, pages-by}
-use Rattle.opening.proofs.PageLaws.{OpeningKept}
+use Rattle.opening.proofs.PageLaws.{OpeningKept, place-by}
 use Rattle.opening.proofs.LineLaws.{length-line}
 use Rattle.line.specs.Line.{settled}
 use Rattle.work.proofs.PartLaws.{part-kept}
-use Rattle.work.specs.Work.{findReading, partOn, partsOn, codeOn, messageOn, messagesOn, toldOn}
+use Rattle.work.specs.Work.{partOn, partsOn, codeOn, messageOn, messagesOn, toldOn}
 use Rattle.regions.proofs.RegionLaws.{Region, within, in-within, of-within, Apart, within-apart, Alike, stretch, part-read, Local, local-then, local-wider, local-splice, local-swap, local-reads}
 use Rattle.mixing.proofs.PartSwaps.{same-book, hitBy, hits, onHit, part-sound, page-after}
 use Rattle.mixing.proofs.MessageSwaps.{message-sound, quiet}
@@ -69,11 +70,8 @@ module _ (n : ℕ) (w : List ℕ → List ℕ) (l : Local (bookLength n) behindH
     pages-kept = pages-by b (w b) count-kept (λ k h. page-kept k)
 
     place-kept : (s : ℕ) → pagePlace (w b) s ≡ pagePlace b s
-    unfolding pagePlace
-    place-kept s =
-        rw count-kept
-        (first-same (λ k. eqb (pageSymbol (pageAt (w b) k)) s) (λ k. eqb (pageSymbol (pageAt b k)) s) (countOf b) 0
-        (λ k l u. ap (λ (p : List ℕ). eqb (pageSymbol p) s) (page-kept k)))
+    unfolding hintOf
+    place-kept s = place-by b (w b) s count-kept (λ k l. ap (λ (p : List ℕ). pageSymbol p) (page-kept k)) (ap (λ (p : List ℕ). field p (hintsAt + bucketOf s) 1) (page-kept 0))
 
     hits-kept : (r : Part) (k : ℕ) → hits r (w b) k ≡ hits r b k
     hits-kept (roundPart s l q) k = ap (λ (z : Found). hitBy z k) (place-kept s)
@@ -83,7 +81,11 @@ module _ (n : ℕ) (w : List ℕ → List ℕ) (l : Local (bookLength n) behindH
     hits-kept (statusPart s x) k = ap (λ (z : Found). hitBy z k) (place-kept s)
 
     code-kept : (l : ℕ) (m : List ℕ) → codeOn l m (w b) ≡ codeOn l m b
-    code-kept l m = ap (λ (rs : List Reading). codeOf (knownOf (findReading (symbolOf m) rs)) l m) pages-kept
+    code-kept l m = ap (λ (r : Option Reading). codeOf (knownOf r) l m) (ap (readingAt (w b)) (place-kept (symbolOf m)) ∙ go (pagePlace b (symbolOf m)))
+      where
+        go : (o : Found) → readingAt (w b) o ≡ readingAt b o
+        go (At k) = ap (λ (p : List ℕ). some (readingOf p)) (page-kept k)
+        go Nothing = refl
 
   part-after : (b : List ℕ) → Sound n b → (r : Part) → Shaped r → partOn r (w b) ≡ w (partOn r b)
   part-after b sd r e =
@@ -113,7 +115,7 @@ module _ (n : ℕ) (w : List ℕ → List ℕ) (l : Local (bookLength n) behindH
 
     message-after : (m b : List ℕ) → Sound n b → messageOn c m (w b) ≡ w (messageOn c m b)
     message-after m b sd =
-        ap (λ (k : ℕ). partsOn (partsOf k m) (w b)) (code-kept b sd c m) ∙ parts-after (partsOf (codeOn c m b) m) (shaped (knownOf (findReading (symbolOf m) (pagesIn b))) c m u) b sd
+        ap (λ (k : ℕ). partsOn (partsOf k m) (w b)) (code-kept b sd c m) ∙ parts-after (partsOf (codeOn c m b) m) (shaped (knownOf (readingFor b (symbolOf m))) c m u) b sd
 
     pub messages-after : (ms : List (List ℕ)) (b : List ℕ) → Sound n b → messagesOn c ms (w b) ≡ w (messagesOn c ms b)
     unfolding messagesOn

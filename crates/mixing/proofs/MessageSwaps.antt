@@ -4,21 +4,16 @@ use Prim.Native.Nat.{ℕ}
 use mathlib.Core.Path.{_≡_, refl, sym, ap, _∙_}
 use mathlib.Core.Bool.{true}
 use mathlib.Core.List.{List, [], _∷_, map}
-use mathlib.Core.Option.{Option, none, some}
 use Rattle.lists.specs.Lists.{upper}
 use Rattle.lists.specs.declared.Found.{Found}
-use Rattle.lists.specs.declared.Found.the-variants.{At, Nothing}
 use Rattle.message.specs.Message.{symbolOf, partlyTaken, Part, partsOf}
-use Rattle.update.specs.Parts.{Reading, readingOf, knownBy, knownOf}
-use Rattle.update.proofs.SearchLaws.{foundBy}
+use Rattle.update.specs.Parts.{readingOf, knownBy, knownOf}
 use Rattle.told.specs.declared.Told.{Told}
-use Rattle.opening.specs.Opening.{pageAt, pagesIn, pagePlace}
+use Rattle.opening.specs.Opening.{readingAt, readingFor}
 use Rattle.opening.proofs.OpeningLaws.{Sound}
 use Rattle.opening.proofs.PageLaws.{kept-sound}
-use Rattle.work.specs.Work.{findReading, partOn, partsOn, codeOn, messageOn, messagesOn, toldOn}
+use Rattle.work.specs.Work.{partOn, partsOn, codeOn, messageOn, messagesOn, toldOn}
 use Rattle.work.proofs.KeptLaws.{message-kept}
-use Rattle.work.proofs.PlaceLaws.{find-page}
-use Rattle.page.specs.Layout.{pagePrimary}
 use Rattle.regions.proofs.SentLaws.{AllSent, sent}
 use Rattle.mixing.proofs.PartSwaps.{Primary, SentOn, sent-sound, still-sent, code-stays, part-swap}
 
@@ -58,11 +53,11 @@ module _ (n l j : ℕ) (u : upper l ≡ true) (v : upper j ≡ true) (d : l ≡ 
 -- the parts of a message on a book are of its line's letter
 pub sent-on : (l : ℕ) (m b : List ℕ) → AllSentOn b l (partsOf (codeOn l m b) m)
 unfolding knownOf knownBy readingOf
-sent-on l m b = sent (Primary b l) (knownOf (findReading (symbolOf m) (pagesIn b))) l m one
+sent-on l m b = sent (Primary b l) (knownOf (readingFor b (symbolOf m))) l m one
   where
-    one : knownOf (findReading (symbolOf m) (pagesIn b)) .primary ≡ l → Primary b l (symbolOf m)
+    one : knownOf (readingFor b (symbolOf m)) .primary ≡ l → Primary b l (symbolOf m)
     one e k f =
-        sym (ap (λ (r : Option Reading). knownOf r .primary) (find-page b (symbolOf m) ∙ ap (foundBy (λ j. some (readingOf (pageAt b j))) none) f)) ∙ e
+        sym (ap (λ (r : Found). knownOf (readingAt b r) .primary) f) ∙ e
 
 pub message-sound : (n l : ℕ) → upper l ≡ true → (m b : List ℕ) → Sound n b → Sound n (messageOn l m b)
 message-sound n l u m b sd = kept-sound b (messageOn l m b) (message-kept n l u m b sd) n sd

@@ -16,7 +16,7 @@ use Rattle.lists.specs.declared.Found.the-variants.{At, Nothing}
 use Rattle.lists.proofs.Tests.{clash, Cut, equal, apart, cut}
 use Rattle.message.specs.Message.{symbolOf, Part, roundPart, oddPart, makerPart, finraPart, statusPart}
 use Rattle.message.proofs.SpokenLaws.{Shaped}
-use Rattle.page.specs.Layout.{pageLength, pageSymbol, pagePrimary}
+use Rattle.page.specs.Layout.{headLength, pageLength, pagePrimary}
 use Rattle.update.specs.Parts.{roundOn, oddOnPage, makerOn, finraOn, statusOn}
 use Rattle.update.proofs.EntryLaws.{Kept}
 use Rattle.update.proofs.SlotLaws.{round-kept, odd-kept}
@@ -31,7 +31,7 @@ use Rattle.work.specs.Work.{partOn, codeOn}
 use Rattle.work.proofs.PartLaws.{part-kept}
 use Rattle.work.proofs.PlaceLaws.{place-same, code-at, code-nowhere}
 use Rattle.regions.proofs.PartLaws.{changes, SentBy, Sent, sent-map, sent-shaped, round-changes, odd-changes, maker-changes, finra-changes, status-changes}
-use Rattle.regions.proofs.CodeLaws.{symbol-stays, primary-stays, page-code-stays, page-swap}
+use Rattle.regions.proofs.CodeLaws.{head-part-stays, primary-stays, page-code-stays, page-swap}
 
 -- ---- books by their openings and pages
 
@@ -132,8 +132,8 @@ module _ (n : ℕ) (b : List ℕ) (sd : Sound n b) (l : ℕ) (u : upper l ≡ tr
   pub sent-sound : Sound n (partOn r b)
   sent-sound = part-sound n b sd r (shape b l u r x)
 
-  -- symbols and primary letters stay
-  head-after : (f : List ℕ → ℕ) → ((k : ℕ) → k < n → f (changes r (pageAt b k)) ≡ f (pageAt b k)) → (k : ℕ) → k < n → f (pageAt (partOn r b) k) ≡ f (pageAt b k)
+  -- heads stay
+  head-after : {A : Type 0} (f : List ℕ → A) → ((k : ℕ) → k < n → f (changes r (pageAt b k)) ≡ f (pageAt b k)) → (k : ℕ) → k < n → f (pageAt (partOn r b) k) ≡ f (pageAt b k)
   head-after f stays k h = ap f (page-after n b sd r (shape b l u r x) k h) ∙ go (hits r b k)
     where
       go : (t : Bool) → f (onHit r t (pageAt b k)) ≡ f (pageAt b k)
@@ -145,10 +145,10 @@ module _ (n : ℕ) (b : List ℕ) (sd : Sound n b) (l : ℕ) (u : upper l ≡ tr
 
   -- every symbol stays where it is
   pub place-stays : (s : ℕ) → pagePlace (partOn r b) s ≡ pagePlace b s
-  place-stays s = place-same n b sd (partOn r b) s (part-kept n r b sd (shape b l u r x)) (λ j h. one j (omega (arith, sd .count)))
+  place-stays s = place-same n b sd (partOn r b) s (part-kept n r b sd (shape b l u r x)) one
     where
-      one : (j : ℕ) → j < n → pageSymbol (pageAt (partOn r b) j) ≡ pageSymbol (pageAt b j)
-      one = head-after (λ p. pageSymbol p) (λ k h. symbol-stays l l u r (anywhere b l u r x) (pageAt b k) (length-page n b sd k h))
+      one : (j at m : ℕ) → j < n → at + m ≤ headLength → part (pageAt (partOn r b) j) at m ≡ part (pageAt b j) at m
+      one j at m h i = head-after (λ p. part p at m) (λ k h. head-part-stays l l u r (anywhere b l u r x) (pageAt b k) (length-page n b sd k h) at m i) j h
 
   pub hits-stay : (t : Part) (k : ℕ) → hits t (partOn r b) k ≡ hits t b k
   hits-stay (roundPart s j q) k = ap (λ (z : Found). hitBy z k) (place-stays s)

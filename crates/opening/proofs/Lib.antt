@@ -2,8 +2,10 @@ pub mod AddLaws
 pub mod AllowanceLaws
 pub mod DayLaws
 pub mod FreshLaws
+pub mod HintLaws
 pub mod LineLaws
 pub mod OpeningLaws
 pub mod PageLaws
+pub mod Places
 pub mod ReadLaws
 pub mod WriteLaws

@@ -2,25 +2,26 @@
 -- Assumes nothing.
 use Prim.Native.Nat.{ℕ, zero, suc, _+_, _≤_, _<_}
 use mathlib.Core.Path.{_≡_, refl, sym, ap, _∙_}
+use mathlib.Core.Bool.{Bool, true, false, _&&_, cond}
 use mathlib.Core.List.{List, map}
 use native.Mathlib.Omega.{arith}
-use lib.Dec.{eqb}
+use lib.Dec.{eqb, ltb}
 use lib.ListN.{length}
-use borrow.Author.Tests.{eqb-true}
+use borrow.Author.Tests.{eqb-true, ltb-true}
 use Rattle.field.specs.Field.{Bytes, part, splice}
 use Rattle.field.proofs.Laws.{bytes-splice}
 use Rattle.lists.specs.Lists.{range}
 use Rattle.lists.proofs.Ranges.{map-range}
 use Rattle.lists.specs.declared.Found.{Found}
 use Rattle.lists.specs.declared.Found.the-variants.{At, Nothing}
-use Rattle.lists.proofs.Searches.{Hit, first-hit}
-use Rattle.lists.proofs.Tests.{clash}
+use Rattle.lists.proofs.Searches.{Hit, first-hit, first-none}
+use Rattle.lists.proofs.Tests.{clash, and-true}
 use Rattle.update.specs.Parts.{Reading, readingOf}
 use Rattle.update.proofs.Model.{setAt, onReading}
 use Rattle.update.proofs.TableLaws.{length-put, cell-same, cell-other, put-before, eachCell, Each, each-cell, map-set, map-map-range}
-use Rattle.update.proofs.SearchLaws.{foundBy, on-place}
+use Rattle.update.proofs.SearchLaws.{foundBy, isAt, first-same, first-is, on-place}
 use Rattle.update.proofs.EntryLaws.{Kept}
-use Rattle.opening.specs.Opening.{symbolsOf, countOf, pageAt, setPage, pagesIn, pagePlace, onPlace, onPage, eachPage}
+use Rattle.opening.specs.Opening.{symbolsOf, countOf, pageAt, setPage, pagesIn, firstPlace, hintOf, isPlace, pagePlace, onPlace, onPage, eachPage}
 use Rattle.opening.proofs.OpeningLaws.{Sound, Front, sound-by, count-by, page-room, length-page, bytes-page}
 use Rattle.page.specs.Layout.{pageLength, pageSymbol}
 use Rattle.opening.specs.Layout.{openingLength, pageStart}
@@ -46,11 +47,65 @@ module _ (b b′ : List ℕ) (k : OpeningKept b b′) where
 
 -- ---- where a symbol's page is
 
-pub place-hit : (b : List ℕ) (s k : ℕ) → pagePlace b s ≡ At k → (k < countOf b) × (pageSymbol (pageAt b k) ≡ s)
-unfolding pagePlace
-place-hit b s k e =
-    let h : Hit (λ j. eqb (pageSymbol (pageAt b j)) s) 0 (countOf b) k = first-hit (λ j. eqb (pageSymbol (pageAt b j)) s) 0 (countOf b) k e in
-    (omega (arith, h .high), eqb-true (pageSymbol (pageAt b k)) s (h .holds))
+module _ (b : List ℕ) (s : ℕ) where
+  abbrev has : ℕ → Bool
+  has k = eqb (pageSymbol (pageAt b k)) s
+
+  is-place : (k : ℕ) → isPlace b s k ≡ true → (k < countOf b) × (has k ≡ true)
+  unfolding isPlace
+  is-place k e = let t = and-true (ltb k (countOf b)) (has k) e in (ltb-true k (countOf b) (t .0), t .1)
+
+  first-at : (k : ℕ) → firstPlace b s ≡ At k → (k < countOf b) × (has k ≡ true)
+  unfolding firstPlace
+  first-at k e = let h : Hit has 0 (countOf b) k = first-hit has 0 (countOf b) k e in (omega (arith, h .high), h .holds)
+
+  -- the page that is found is counted and has the symbol
+  pub place-hit : (k : ℕ) → pagePlace b s ≡ At k → (k < countOf b) × (pageSymbol (pageAt b k) ≡ s)
+  unfolding pagePlace
+  place-hit k e = let h = go (isPlace b s (hintOf b s)) refl e in (h .0, eqb-true (pageSymbol (pageAt b k)) s (h .1))
+    where
+      go : (t : Bool) → isPlace b s (hintOf b s) ≡ t → cond t (At (hintOf b s)) (firstPlace b s) ≡ At k → (k < countOf b) × (has k ≡ true)
+      go true p q = let z : hintOf b s ≡ k = cc in rw z at (is-place (hintOf b s) p)
+      go false p q = first-at k q
+
+  -- a page is found exactly if a search from the first on finds one
+  pub place-at : isAt (pagePlace b s) ≡ isAt (firstPlace b s)
+  unfolding pagePlace firstPlace
+  place-at = go (isPlace b s (hintOf b s)) refl (firstPlace b s) refl
+    where
+      go : (t : Bool) → isPlace b s (hintOf b s) ≡ t → (r : Found) → firstPlace b s ≡ r → isAt (cond t (At (hintOf b s)) r) ≡ isAt r
+      go true p (At k) q = refl
+      go true p Nothing q = clash (sym (is-place (hintOf b s) p .1) ∙ first-none has (countOf b) 0 q (hintOf b s) (omega arith) (omega (arith, is-place (hintOf b s) p .0)))
+      go false p r q = refl
+
+  -- where only one counted page has the symbol, it is the first
+  pub place-first : ((j k : ℕ) → j < k → k < countOf b → has j ≡ true → has k ≡ true → ⊥) → pagePlace b s ≡ firstPlace b s
+  unfolding pagePlace firstPlace
+  place-first once = go (isPlace b s (hintOf b s)) refl
+    where
+      before : isPlace b s (hintOf b s) ≡ true → (j : ℕ) → j < hintOf b s → (t : Bool) → has j ≡ t → has j ≡ false
+      before p j l true e = absurd (once j (hintOf b s) l (is-place (hintOf b s) p .0) e (is-place (hintOf b s) p .1))
+      before p j l false e = e
+
+      go : (t : Bool) → isPlace b s (hintOf b s) ≡ t → cond t (At (hintOf b s)) (firstPlace b s) ≡ firstPlace b s
+      go true p = sym (first-is has (countOf b) 0 (hintOf b s) (omega arith) (omega (arith, is-place (hintOf b s) p .0)) (is-place (hintOf b s) p .1) (λ j l u. before p j u (has j) refl))
+      go false p = refl
+
+-- the count, the symbols of the counted pages and the first page's hints tell where a symbol's page is
+pub place-by : (b b′ : List ℕ) (s : ℕ) → countOf b′ ≡ countOf b → ((j : ℕ) → j < countOf b → pageSymbol (pageAt b′ j) ≡ pageSymbol (pageAt b j)) → hintOf b′ s ≡ hintOf b s
+    → pagePlace b′ s ≡ pagePlace b s
+unfolding pagePlace firstPlace isPlace
+place-by b b′ s c h e = rw e (λ i. cond (at-hint (hintOf b s) i) (At (hintOf b s)) (first i))
+  where
+    first : firstPlace b′ s ≡ firstPlace b s
+    first = rw c (first-same (has b′ s) (has b s) (countOf b) 0 (λ j l u. ap (λ (z : ℕ). eqb z s) (h j (omega arith))))
+
+    at-hint : (k : ℕ) → isPlace b′ s k ≡ isPlace b s k
+    at-hint k = rw c (go (ltb k (countOf b)) refl)
+      where
+        go : (t : Bool) → ltb k (countOf b) ≡ t → (t && has b′ s k) ≡ (t && has b s k)
+        go true q = ap (λ (z : ℕ). eqb z s) (h k (ltb-true k (countOf b) q))
+        go false q = refl
 
 pub at-same : (i j : ℕ) → At i ≡ At j → i ≡ j
 at-same i j e = cc
@@ -108,17 +163,23 @@ module _ (n : ℕ) (b : List ℕ) (sd : Sound n b) (s : ℕ) (h : List ℕ → L
       go (At k) e = set-other n b sd k (within k e) (h (pageAt b k)) (wide k e .size) j (λ z. d (e ∙ ap At z))
       go Nothing e = refl
 
-  pub on-reads : (g : Reading → Reading) → ((k : ℕ) → k < countOf b → readingOf (h (pageAt b k)) ≡ g (readingOf (pageAt b k)))
+  -- where the symbol's page is the first that has it
+  pub on-reads : pagePlace b s ≡ firstPlace b s → (g : Reading → Reading) → ((k : ℕ) → k < countOf b → readingOf (h (pageAt b k)) ≡ g (readingOf (pageAt b k)))
       → pagesIn (onPage s h b) ≡ onReading s g (pagesIn b)
-  unfolding pagesIn pagePlace readingOf
-  on-reads g reads = rw (kept-count b (onPage s h b) on-kept) (go (pagePlace b s) refl ∙ sym (on-place s g f (countOf b)))
+  unfolding pagesIn firstPlace readingOf
+  on-reads one g reads = rw (kept-count b (onPage s h b) on-kept) (go (pagePlace b s) refl ∙ ap (foundBy after none) one ∙ sym (on-place s g f (countOf b)))
     where
       f : ℕ → Reading
       f k = readingOf (pageAt b k)
 
+      none : List Reading
+      none = map f (range (countOf b) 0)
+
+      after : ℕ → List Reading
+      after k = map (setAt k (g (f k)) f) (range (countOf b) 0)
+
       go : (r : Found) → pagePlace b s ≡ r
-          → map (λ k. readingOf (pageAt (onPage s h b) k)) (range (countOf b) 0)
-          ≡ foundBy (λ k. map (setAt k (g (f k)) f) (range (countOf b) 0)) (map f (range (countOf b) 0)) (pagePlace b s)
+          → map (λ k. readingOf (pageAt (onPage s h b) k)) (range (countOf b) 0) ≡ foundBy after none (pagePlace b s)
       go (At k) e =
           rw e
           (map-set f (λ j. readingOf (pageAt (onPage s h b) j)) (countOf b) k (g (f k)) (ap readingOf (on-same k e) ∙ reads k (place-hit b s k e .0))

@@ -1,27 +1,27 @@
 -- What the code reads of a book: whether it is sound, a page's symbol, a line.
 -- Assumes nothing.
-use Prim.Native.Nat.{ℕ, _+_, _*_, _-_, _<_, _≤_}
+use Prim.Native.Nat.{ℕ, _+_, _*_, _-_, _/_, _%_, _<_, _≤_}
 use mathlib.Core.Path.{_≡_, refl, sym, ap, _∙_}
 use mathlib.Core.Bool.{Bool, true, false}
 use mathlib.Core.List.{List}
 use native.Mathlib.Omega.{arith}
-use lib.Dec.{eqb}
+use lib.Dec.{eqb, ltb}
 use lib.ListN.{length}
 use borrow.Author.Tests.{lt-ltb, le-ltb, eq-eqb, ne-eqb}
-use Rattle.field.specs.Field.{Bytes, be, part, field, beBytes}
+use Rattle.field.specs.Field.{Bytes, be, part, field, splice, beBytes}
 use Rattle.field.proofs.Laws.{field-join, field-lt, field-part, field-part-0, beBytes-field, part-all}
 use Rattle.lists.specs.Lists.{firstFrom}
 use Rattle.lists.specs.declared.Found.{Found}
-use Rattle.lists.specs.declared.Found.the-variants.{At, Nothing}
+use Rattle.lists.specs.declared.Found.the-variants.{At}
 use Rattle.lists.proofs.Searches.{first-start}
 use Rattle.lists.proofs.Tests.{Cut, equal, apart, cut}
 use Rattle.text.specs.Form.{letterGood, symbolLength}
 use Rattle.update.proofs.TableLaws.{cell-order}
 use Rattle.opening.specs.declared.LineState.the-variants.{Open, Closed}
-use Rattle.opening.specs.Opening.{symbolsOf, countOf, sound, lineIn, linesIn, pageAt, pagePlace, placeIf, opened}
+use Rattle.opening.specs.Opening.{symbolsOf, countOf, sound, lineIn, linesIn, pageAt, firstPlace, pagePlace, bucketOf, hintOf, isPlace, hinted, opened}
 use Rattle.opening.proofs.OpeningLaws.{Sound, sound-is, sound-of}
 use Rattle.opening.proofs.PageLaws.{place-hit}
-use Rattle.page.specs.Layout.{pageLength, pageSymbol}
+use Rattle.page.specs.Layout.{hintsAt, hintCount, pageLength, pageSymbol}
 use Rattle.opening.specs.Layout.{nAt, countAt, dayAt, firstPageAt, lineLength, openingLength, bookLength, lineCount, pageStart, lineAt, symbolsMost, mark}
 
 -- ---- a sound opening
@@ -92,7 +92,7 @@ symbol-joined p at h =
     rw (← k, ← j, e)
 
 -- the symbol's number from what is read of its bytes
-pub symbol-number : (s : List ℕ) (high middle low : ℕ) → length s ≡ symbolLength → high ≡ field s 0 8 → middle ≡ field s 8 2 → low ≡ field s dayAt 1
+pub symbol-number : (s : List ℕ) (high middle low : ℕ) → length s ≡ symbolLength → high ≡ field s 0 8 → middle ≡ field s 8 2 → low ≡ field s 10 1
     → be s ≡ high * 16777216 + (middle * 256 + low)
 unfolding field
 symbol-number s high middle low l h m o =
@@ -130,30 +130,51 @@ page-symbol b k v n t r ve re te = rw (ve, field-part-0 b (pageStart k) pageLeng
 abbrev pub hasSymbol : List ℕ → ℕ → ℕ → Bool
 hasSymbol b v k = eqb (pageSymbol (pageAt b k)) v
 
-pub find-start : (b : List ℕ) (v c : ℕ) → c ≡ field b countAt 1 → firstFrom (hasSymbol b v) 0 (c - 0) ≡ pagePlace b v
-unfolding pagePlace countOf
+pub find-start : (b : List ℕ) (v c : ℕ) → c ≡ field b countAt 1 → firstFrom (hasSymbol b v) 0 (c - 0) ≡ firstPlace b v
+unfolding firstPlace countOf
 find-start b v c e = first-start (hasSymbol b v) c ∙ ap (firstFrom (hasSymbol b v) 0) e
 
--- no page is counted
-pub none-counted : (b : List ℕ) (v c : ℕ) → c ≡ field b countAt 1 → c ≡ 0 → Nothing ≡ pagePlace b v
-unfolding pagePlace countOf firstFrom
-none-counted b v c e z = rw (← e, z)
+-- ---- the hinted page
 
--- the last page that is left
-pub last-place : (b : List ℕ) (v m : ℕ) (w : Found) → firstFrom (hasSymbol b v) m (m + 1 - m) ≡ w → placeIf b v m ≡ w
-unfolding firstFrom
-last-place b v m w e = let n : m + 1 - m ≡ 1 = omega arith in rw n at e
+-- the bucket from the first 8 bytes
+pub bucket-high : (high middle low : ℕ) → middle < 65536 → low < 256 → bucketOf (high * 16777216 + (middle * 256 + low)) ≡ high % hintCount
+bucket-high high middle low m l = let e : (high * 16777216 + (middle * 256 + low)) / 16777216 ≡ high = omega arith in ap (λ (k : ℕ). k % hintCount) e
 
--- a page that has the symbol, and one that has not
-module _ (b : List ℕ) (v k : ℕ) (w : Found) where
-  pub place-has : hasSymbol b v k ≡ true → At k ≡ w → placeIf b v k ≡ w
-  place-has h e = rw h e
+module _ (b : List ℕ) (v k : ℕ) where
+  pub place-counted : (c : ℕ) (r : Bool) → c ≡ field b countAt 1 → k < c → r ≡ eqb (field b (pageStart k) symbolLength) v → r ≡ isPlace b v k
+  unfolding isPlace countOf
+  place-counted c r ce h e =
+      let l : ltb k (field b countAt 1) ≡ true = lt-ltb k (field b countAt 1) (omega arith) in
+      rw l (sym (page-symbol b k v v r r refl e refl))
 
-  pub has-place : hasSymbol b v k ≡ true → placeIf b v k ≡ w → At k ≡ w
-  has-place h e = rw h at e
+  pub place-above : (c : ℕ) → c ≡ field b countAt 1 → c ≤ k → false ≡ isPlace b v k
+  unfolding isPlace countOf
+  place-above c ce h = let l : ltb k (field b countAt 1) ≡ false = le-ltb k (field b countAt 1) (omega arith) in rw l
 
-  pub lacks-place : hasSymbol b v k ≡ false → placeIf b v k ≡ w → Nothing ≡ w
-  lacks-place h e = rw h at e
+  module _ (v′ : ℕ) (ve : v′ ≡ v) (e : k ≡ hintOf b v) (r : Bool) (re : r ≡ isPlace b v′ k) where
+    pub hint-holds : r ≡ true → At k ≡ pagePlace b v
+    unfolding pagePlace
+    hint-holds t = rw (← e, ← ve, ← re, t)
+
+    pub hint-fails : (w : Found) → r ≡ false → w ≡ firstPlace b v′ → w ≡ pagePlace b v
+    unfolding pagePlace
+    hint-fails w t f = rw (← e, ← ve, ← re, t) f
+
+-- the byte that is read
+pub hint-read : (b : List ℕ) (v high k at : ℕ) → bucketOf v ≡ high % hintCount → at ≡ pageStart 0 + (hintsAt + high % hintCount) → k ≡ field b at 1 → k ≡ hintOf b v
+unfolding hintOf pageAt
+hint-read b v high k at e a r = r ∙ ap (λ (i : ℕ). field b i 1) a ∙ sym (field-part b (pageStart 0) pageLength (hintsAt + high % hintCount) 1 (omega arith)) ∙ ap (λ (i : ℕ). field (part b (pageStart 0) pageLength) (hintsAt + i) 1) (sym e)
+
+-- and the byte that is written
+pub hint-put : (b s b′ : List ℕ) (high k at : ℕ) → length s ≡ symbolLength → Bytes s → high ≡ field s 0 8 → at ≡ pageStart 0 + (hintsAt + high % hintCount) → b′ ≡ splice b at (beBytes 1 k) → b′ ≡ hinted (be s) k b
+unfolding hinted
+hint-put b s b′ high k at w y h a e =
+    let n : be s ≡ high * 16777216 + (field s 8 2 * 256 + field s 10 1) = symbol-number s high (field s 8 2) (field s 10 1) w h refl refl in
+    let q : bucketOf (be s) ≡ high % hintCount = ap bucketOf n ∙ bucket-high high (field s 8 2) (field s 10 1) (field-lt s 8 2 (omega arith) y) (field-lt s 10 1 (omega arith) y) in
+    e ∙ ap (λ (i : ℕ). splice b i (beBytes 1 k)) (a ∙ ap (λ (i : ℕ). pageStart 0 + (hintsAt + i)) (sym q))
+
+pub first-room : (b : List ℕ) → sound b ≡ true → bookLength 1 ≤ length b
+first-room b e = omega (arith, sound-of b e .size, sound-of b e .low)
 
 pub pages-room : (b : List ℕ) (n : ℕ) → sound b ≡ true → n ≡ field b nAt 1 → (n ≤ symbolsMost) × (length b ≡ bookLength n)
 unfolding symbolsOf

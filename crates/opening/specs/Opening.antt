@@ -1,6 +1,6 @@
 -- What the opening of a book says, the pages behind it, and what make and Start of Day leave.
 -- Assumes nothing.
-use Prim.Native.Nat.{ℕ, zero, suc, _+_, _%_}
+use Prim.Native.Nat.{ℕ, zero, suc, _+_, _/_, _%_, _^_}
 use mathlib.Core.Bool.{Bool, _&&_, cond}
 use mathlib.Core.List.{List, [], _∷_, _++_, map}
 use mathlib.Core.Option.{Option, none, some}
@@ -16,7 +16,7 @@ use Rattle.opening.specs.declared.Line.{Line}
 use Rattle.opening.specs.declared.LineState.{LineState}
 use Rattle.opening.specs.declared.LineState.the-variants.{Open, Closed}
 use Rattle.allowance.specs.Allowance.{Allowance, allowanceLength, allowanceIn}
-use Rattle.page.specs.Layout.{headLength, pageLength, pageSymbol}
+use Rattle.page.specs.Layout.{hintsAt, hintCount, headLength, pageLength, pageSymbol}
 use Rattle.opening.specs.Layout.{nAt, countAt, dayAt, firstPageAt, lineLength, lineCount, linesLength, allowanceAt, openingLength, bookLength, pageStart, lineAt, symbolsMost, mark}
 
 unfoldable pub symbolsOf : List ℕ → ℕ
@@ -86,13 +86,41 @@ setPage b k p = splice b (pageStart k) p
 unfoldable pub pagesIn : List ℕ → List Reading
 pagesIn b = map (λ k. readingOf (pageAt b k)) (range (countOf b) 0)
 
--- the first counted page of a symbol
-unfoldable pub pagePlace : List ℕ → ℕ → Found
-pagePlace b s = firstFrom (λ k. eqb (pageSymbol (pageAt b k)) s) 0 (countOf b)
+-- ---- where a symbol's page is
 
--- page k, if it has the symbol s
-abbrev pub placeIf : List ℕ → ℕ → ℕ → Found
-placeIf b s k = cond (eqb (pageSymbol (pageAt b k)) s) (At k) Nothing
+-- the first counted page of a symbol
+unfoldable pub firstPlace : List ℕ → ℕ → Found
+firstPlace b s = firstFrom (λ k. eqb (pageSymbol (pageAt b k)) s) 0 (countOf b)
+
+-- the bucket of a symbol: its first 8 bytes as one number, modulo the count of hints
+abbrev pub bucketOf : ℕ → ℕ
+bucketOf s = s / 256 ^ 3 % hintCount
+
+-- the first page's hint for a symbol, whatever byte it is
+unfoldable pub hintOf : List ℕ → ℕ → ℕ
+hintOf b s = field (pageAt b 0) (hintsAt + bucketOf s) 1
+
+-- page k is counted and has the symbol
+unfoldable pub isPlace : List ℕ → ℕ → ℕ → Bool
+isPlace b s k = ltb k (countOf b) && eqb (pageSymbol (pageAt b k)) s
+
+-- the hinted page if it is counted and has the symbol, else the first counted page that has it
+unfoldable pub pagePlace : List ℕ → ℕ → Found
+pagePlace b s = cond (isPlace b s (hintOf b s)) (At (hintOf b s)) (firstPlace b s)
+
+-- the book with page k as the hint for a symbol
+unfoldable pub hinted : ℕ → ℕ → List ℕ → List ℕ
+hinted s k b = splice b (pageStart 0 + (hintsAt + bucketOf s)) (beBytes 1 k)
+
+abbrev pub readingAt : List ℕ → Found → Option Reading
+readingAt b (At k) = some (readingOf (pageAt b k))
+readingAt b Nothing = none
+
+-- the reading of a symbol's page
+abbrev pub readingFor : List ℕ → ℕ → Option Reading
+readingFor b s = readingAt b (pagePlace b s)
+
+-- ---- pages changed
 
 -- the book with a page changed
 abbrev pub onPlace : (List ℕ → List ℕ) → List ℕ → Found → List ℕ

@@ -1,15 +1,16 @@
 // The opening of a book: its head, its lines, and where the page of a symbol is.
 ghost use mathlib.Core.Path.{_≡_};
 ghost use mathlib.Core.Bool.{true};
-ghost use Prim.Native.Nat.{_+_, _*_, _≤_, _<_};
+ghost use Prim.Native.Nat.{_+_, _*_, _%_, _≤_, _<_};
 ghost use lib.Dec.{eqb};
 ghost use lib.ListN.{length};
 ghost use Rattle.field.specs.Field.{be, field, part, splice};
 ghost use Rattle.block.specs.Sequence.{nextOf};
 ghost use Rattle.update.specs.Parts.{emptied};
-ghost use Rattle.opening.specs.Opening.{lineBytes, placeIf, opened, eachPage, lineAfter, pagePlace, restartLines, restarted, sound, linesIn, allowanceOn, onAllowance};
+ghost use Rattle.opening.specs.Opening.{lineBytes, opened, eachPage, lineAfter, firstPlace, isPlace, pagePlace, hinted, restartLines, restarted, sound, linesIn, allowanceOn, onAllowance};
 ghost use Rattle.allowance.specs.Allowance.{isUsedUp, chargedTo};
-ghost use Rattle.opening.specs.Layout.{openingLength, bookLength, countAt, lineCount, lineAt, symbolsMost, lineLength};
+ghost use Rattle.opening.specs.Layout.{openingLength, bookLength, pageStart, countAt, lineCount, lineAt, symbolsMost, lineLength};
+ghost use Rattle.page.specs.Layout.{hintsAt, hintCount};
 ghost use Rattle.text.specs.Form.{symbolLength};
 use allowance::Allowance;
 use lists::Found;
@@ -103,38 +104,61 @@ pub fn is_sound(book: &[u8]) -> bool
     len == Book::OPENING_LEN + n * Book::PAGE_LEN
 }
 
-/// The first counted page of the symbol whose 11 bytes are lent.
+/// The page of the symbol whose 11 bytes are lent: the hinted one if it is counted and has the symbol, else the first that has it.
 pub fn find(book: &[u8], symbol: &[u8]) -> Found
     requires { ⌜ (sound (now book) ≡ true) × (length (now symbol) ≡ symbolLength) ⌝ }
     ensures { λ r. ⌜ r ≡ pagePlace (now (book .entry)) (be (now (symbol .entry))) ⌝ }
 {
     let count = field::get8(book, Book::COUNT) as usize;
-    if count == 0 {
-        return Found::Nothing;
-    }
     let high = field::get64(symbol, 0);
     let middle = field::get16(symbol, 8);
     let low = field::get8(symbol, 10);
-    let k = place(book, count - 1, high, middle, low);
-    if has_symbol(
-        book,
-        Book::OPENING_LEN + k * Book::PAGE_LEN,
-        high,
-        middle,
-        low,
-    ) {
+    let k = field::get8(book, hint_at(high)) as usize;
+    if is_place(book, count, k, high, middle, low) {
         return Found::At(k);
     }
-    Found::Nothing
+    first(book, count, high, middle, low)
 }
 
-// The first page before the last one with the symbol of these 8, 2 and 1 bytes, else the last. Whether that has it is asked behind the loop, which so
-// stays one comparison a page.
-fn place(book: &[u8], last: usize, high: u64, middle: u16, low: u8) -> usize
-    requires { ⌜ (sound (now book) ≡ true) × (last + 1 ≡ field (now book) countAt 1) ⌝ }
-    ensures { λ r. ⌜ (r ≤ last) × (placeIf (now (book .entry)) (high * 16777216 + (middle * 256 + low)) r ≡ pagePlace (now (book .entry)) (high * 16777216 + (middle * 256 + low))) ⌝ }
+// Whether page k is counted and has the symbol of these 8, 2 and 1 bytes.
+fn is_place(book: &[u8], count: usize, k: usize, high: u64, middle: u16, low: u8) -> bool
+    requires { ⌜ (sound (now book) ≡ true) × (count ≡ field (now book) countAt 1) ⌝ }
+    ensures { λ r. ⌜ r ≡ isPlace (now (book .entry)) (high * 16777216 + (middle * 256 + low)) k ⌝ }
 {
-    for k in 0..last {
+    if k < count {
+        return has_symbol(
+            book,
+            Book::OPENING_LEN + k * Book::PAGE_LEN,
+            high,
+            middle,
+            low,
+        );
+    }
+    false
+}
+
+// Where the hint stands for symbols of these first 8 bytes: on the first page.
+fn hint_at(high: u64) -> usize
+    ensures { λ r. ⌜ (r ≡ pageStart 0 + (hintsAt + high % hintCount)) × (r < bookLength 1) ⌝ }
+{
+    Book::OPENING_LEN + Page::HINTS + (high % 251) as usize
+}
+
+/// Makes page k the hint for the symbol whose 11 bytes are lent.
+pub fn put_hint(book: &mut [u8], symbol: &[u8], k: u8)
+    requires { ⌜ (bookLength 1 ≤ length (now book)) × (length (now symbol) ≡ symbolLength) ⌝ }
+    ensures { λ _. ⌜ now (book .exit) ≡ hinted (be (now (symbol .entry))) k (now (book .entry)) ⌝ }
+{
+    let high = field::get64(symbol, 0);
+    field::put8(book, hint_at(high), k);
+}
+
+// The first counted page with the symbol of these 8, 2 and 1 bytes.
+fn first(book: &[u8], count: usize, high: u64, middle: u16, low: u8) -> Found
+    requires { ⌜ (sound (now book) ≡ true) × (count ≡ field (now book) countAt 1) ⌝ }
+    ensures { λ r. ⌜ r ≡ firstPlace (now (book .entry)) (high * 16777216 + (middle * 256 + low)) ⌝ }
+{
+    for k in 0..count {
         if has_symbol(
             book,
             Book::OPENING_LEN + k * Book::PAGE_LEN,
@@ -142,10 +166,10 @@ fn place(book: &[u8], last: usize, high: u64, middle: u16, low: u8) -> usize
             middle,
             low,
         ) {
-            return k;
+            return Found::At(k);
         }
     }
-    last
+    Found::Nothing
 }
 
 // Whether the 11 bytes at `at` are these 8, 2 and 1.

@@ -29,7 +29,7 @@ makerCount = 16
 
 -- ---- the page
 
--- the symbol stands first, behind it the round lot and the primary letter
+-- the symbol stands first, behind it the round lot, the primary letter and the hints
 abbrev pub symbolAt : ℕ
 symbolAt = 0
 
@@ -40,8 +40,15 @@ lotAt = symbolAt + symbolLength
 abbrev pub primaryAt : ℕ
 primaryAt = lotAt + 1
 
+-- hints where a symbol's page is, one for each bucket of symbols; only those of a book's first page are used
+abbrev pub hintsAt : ℕ
+hintsAt = primaryAt + 1
+
+abbrev pub hintCount : ℕ
+hintCount = 251
+
 abbrev pub headLength : ℕ
-headLength = primaryAt + 1
+headLength = hintsAt + hintCount
 
 abbrev pub entriesAt : ℕ
 entriesAt = headLength

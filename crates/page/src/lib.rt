@@ -15,7 +15,7 @@ use ranking::Side;
 use text::Maker;
 use text::Symbol;
 
-/// The bytes of a page: symbol, round lot and primary letter, six entries, a slot for each letter, the maker cells, the trading status.
+/// The bytes of a page: symbol, round lot, primary letter and hints, six entries, a slot for each letter, the maker cells, the trading status.
 /// specs/Layout.antt says the same.
 pub struct Page {}
 
@@ -25,8 +25,12 @@ impl Page {
     pub const LOT: usize = Page::SYMBOL + Symbol::LEN;
 
     pub const PRIMARY: usize = Page::LOT + 1;
-    /// Symbol, round lot and primary letter: what Start of Day keeps.
-    pub const HEAD: usize = Page::PRIMARY + 1;
+    /// Where pages are, one byte for each bucket of symbols. Only those of a book's first page are used.
+    pub const HINTS: usize = Page::PRIMARY + 1;
+
+    pub const HINT_COUNT: usize = 251;
+    /// Symbol, round lot, primary letter and hints: what Start of Day keeps.
+    pub const HEAD: usize = Page::HINTS + Page::HINT_COUNT;
 
     pub const ENTRIES: usize = Page::HEAD;
 

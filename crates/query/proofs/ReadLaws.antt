@@ -4,7 +4,6 @@ use Prim.Native.Nat.{ℕ, _+_, _-_, _<_, _≤_}
 use mathlib.Core.Path.{_≡_, refl, sym, ap, _∙_}
 use mathlib.Core.Bool.{Bool, true, false, _&&_, cond}
 use mathlib.Core.List.{List, []}
-use mathlib.Core.Option.{none, some}
 use native.Mathlib.Omega.{arith}
 use lib.Dec.{ltb}
 use lib.ListN.{length}
@@ -15,7 +14,7 @@ use Rattle.lists.specs.declared.Found.{Found}
 use Rattle.lists.specs.declared.Found.the-variants.{At, Nothing}
 use Rattle.text.specs.Form.{symbolGood}
 use Rattle.update.proofs.SearchLaws.{isAt}
-use Rattle.opening.specs.Opening.{sound, restIn, pageAt, pagesIn, pagePlace}
+use Rattle.opening.specs.Opening.{sound, restIn, pageAt, pagesIn, pagePlace, readingAt}
 use Rattle.line.specs.Line.{done}
 use Rattle.calls.specs.Call.{Call, read, numberOf, bare, published, answerOf, publishedOn, numberOn, answerOn, call}
 use Rattle.work.specs.Work.{listedOf}
@@ -26,9 +25,7 @@ use Rattle.entries.specs.Publication.{publicationLength}
 use Rattle.page.specs.Layout.{entriesAt, pageLength}
 use Rattle.opening.specs.Layout.{pageStart}
 use Rattle.update.specs.Parts.{readingOf}
-use Rattle.update.proofs.SearchLaws.{foundBy}
 use Rattle.calls.specs.Call.{entriesIn}
-use Rattle.work.proofs.PlaceLaws.{find-page}
 use Rattle.page.specs.Layout.{keptEntries}
 
 pub splice-none : (p : List ℕ) → splice p 0 [] ≡ p
@@ -39,7 +36,7 @@ module _ (b : List ℕ) where
   -- a read copies 96 bytes of the page
   pub published-at : (s k : ℕ) → pagePlace b s ≡ At k → publishedOn b s ≡ keptEntries (pageAt b k)
   unfolding readingOf
-  published-at s k e = ap entriesIn (find-page b s ∙ ap (foundBy (λ j. some (readingOf (pageAt b j))) none) e)
+  published-at s k e = ap (λ (f : Found). entriesIn (readingAt b f)) e
 
   module _ (x : List ℕ) (room : ℕ) where
     read-number : sound b ≡ true → numberOn b (read x room) ≡ cond (ltb room publicationLength) 9 (cond (symbolGood x && isAt (pagePlace b (be x))) 0 10)

@@ -1,22 +1,21 @@
 -- What two letters' parts and codes have to do with each other on one page: nothing. Parts in either order leave the same page, and no code moves.
 -- Assumes nothing.
-use Prim.Native.Nat.{ℕ}
+use Prim.Native.Nat.{ℕ, _+_, _≤_}
 use mathlib.Core.Path.{_≡_, refl, ap, _∙_}
 use mathlib.Core.Bool.{true, cond}
 use mathlib.Core.List.{List}
 use native.Mathlib.Omega.{arith}
 use lib.Dec.{eqb, ltb}
 use lib.ListN.{length}
-use Rattle.field.specs.Field.{be, field}
+use Rattle.field.specs.Field.{be, part, field}
 use Rattle.field.specs.Ascii.{D}
 use Rattle.lists.specs.Lists.{upper, isSome}
-use Rattle.text.specs.Form.{symbolLength}
 use Rattle.quote.specs.Quote.{emptyQuote}
 use Rattle.levels.specs.Levels.{oddCode}
 use Rattle.message.specs.declared.Message.{Message}
 use Rattle.message.specs.declared.Message.the-variants as says
 use Rattle.message.specs.Message.{oddOf, messageOf, Known, makerCode, statusCode, codeBy, codeOf, Part}
-use Rattle.page.specs.Layout.{symbolAt, lotAt, primaryAt, headLength, pageLength, pageSymbol, pageLot, pagePrimary}
+use Rattle.page.specs.Layout.{symbolAt, lotAt, primaryAt, headLength, pageLength, pageLot, pagePrimary}
 use Rattle.page.specs.Page.{makersIn, occupied}
 use Rattle.makers.specs.Makers.{findMaker}
 use Rattle.update.specs.Parts.{readingOf, knownBy}
@@ -48,9 +47,8 @@ module _ (e e′ : Known) (l : ℕ) (m : List ℕ) (listed : e .listed ≡ e′ 
 head-in : Covers head symbolAt headLength
 head-in i lo hi = in-within symbolAt headLength i lo hi
 
-symbol-read : Reads pageLength head (λ p. pageSymbol p)
-unfolding field
-symbol-read p q v w a = ap be (stretch head p q a symbolLength symbolAt (λ i lo hi. head-in i lo (omega arith)))
+head-read : (at m : ℕ) → at + m ≤ headLength → Reads pageLength head (λ p. part p at m)
+head-read at m h p q v w a = stretch head p q a m at (λ i lo hi. head-in i (omega arith) (omega arith))
 
 lot-read : Reads pageLength head (λ p. pageLot p)
 unfolding field
@@ -75,14 +73,14 @@ module _ (n l : ℕ) (u : upper l ≡ true) (r : Part) (x : Sent n l r) (p : Lis
   writes-size : length (writes r p) ≡ pageLength
   writes-size = part-local n l u r x .size p w
 
-  -- symbol and primary letter stay
-  head-stays : (f : List ℕ → ℕ) → Reads pageLength head f → f (changes r p) ≡ f p
+  -- the head stays
+  head-stays : {A : Type 0} (f : List ℕ → A) → Reads pageLength head f → f (changes r p) ≡ f p
   head-stays f k =
       refreshed-reads head f k entries-head (writes r p) writes-size
       ∙ local-reads pageLength (own n l) head (writes r) f (part-local n l u r x) k (own-head n l) p w
 
-  pub symbol-stays : pageSymbol (changes r p) ≡ pageSymbol p
-  symbol-stays = head-stays (λ p. pageSymbol p) symbol-read
+  pub head-part-stays : (at m : ℕ) → at + m ≤ headLength → part (changes r p) at m ≡ part p at m
+  head-part-stays at m h = head-stays (λ p. part p at m) (head-read at m h)
 
   pub primary-stays : pagePrimary (changes r p) ≡ pagePrimary p
   primary-stays = head-stays (λ p. pagePrimary p) primary-read

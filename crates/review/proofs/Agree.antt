@@ -17,6 +17,7 @@ use Rattle.page.specs.Page.{occupied}
 use Rattle.makers.specs.Makers.{findMaker}
 use Rattle.update.specs.Parts.{Reading, knownBy, knownOf}
 use Rattle.work.specs.Work.{Listed, isListed, listedWith, lotOf, primaryOf, findReading, listing, listedOf}
+use Rattle.calls.specs.Call.{lotIn}
 use Rattle.review.specs.Reviewer.{roundsOf, quoteOf, makerOf, makersOf, levelsOf, haltedOf, reviewedBy, knownTo}
 use Rattle.review.proofs.CellLaws.{Sole}
 use Rattle.review.proofs.TimeLaws.{held, held-letter, held-entries}
@@ -110,6 +111,13 @@ module _ (f : Listed → ℕ) where
 
 abbrev theLot : Listed → ℕ
 theLot x = x .lot
+
+pub lot-listed : (s : ℕ) (rs : List Reading) → lotOf s (listedOf rs) ≡ lotIn (findReading s rs)
+lot-listed s rs = find-listed theLot s rs ∙ go (findReading s rs)
+  where
+    go : (o : Option Reading) → listedIn theLot o ≡ lotIn o
+    go none = refl
+    go (some r) = refl
 
 abbrev thePrimary : Listed → ℕ
 thePrimary x = x .primary

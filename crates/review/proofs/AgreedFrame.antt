@@ -57,7 +57,7 @@ module _ (n : ℕ) (b : List ℕ) (v : Review) (a : Agrees n b v) (i : ℕ) (k :
   place-stays : (s : ℕ) → pagePlace after s ≡ pagePlace b s
   place-stays s =
       let h : Held after (reviewCall v (take i k room)) = call-agrees n b v (take i k room) z a .held in
-      place-is after s ∙ ap (placeIn s 0) (h .listed ∙ symbols-stay v i k room ∙ sym (a .held .listed)) ∙ sym (place-is b s)
+      place-is after s (h .core .once) ∙ ap (placeIn s 0) (h .listed ∙ symbols-stay v i k room ∙ sym (a .held .listed)) ∙ sym (place-is b s (a .held .core .once))
 
   taken-same : takenOn b i k room ≡ takenR v i k room
   taken-same = taken-view n b (v .history) (a .sound) (a .bytes) (a .held .core) i k room (bytes-every k z) ∙ ap (λ (w : Review). takenR w i k room) (view-is b v (a .held))

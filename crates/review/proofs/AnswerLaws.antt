@@ -1,7 +1,7 @@
 -- Each call's answer is the reviewer's.
 -- Assumes nothing.
 use Prim.Native.Nat.{ℕ}
-use mathlib.Core.Path.{_≡_, refl, sym, ap, _∙_}
+use mathlib.Core.Path.{_≡_, refl, sym, ap, _∙_, fun-ext}
 use mathlib.Core.Bool.{Bool, true, false, cond}
 use mathlib.Core.List.{List}
 use mathlib.Core.Option.{Option, none, some}
@@ -12,23 +12,27 @@ use Rattle.ranking.specs.declared.Side.{Side}
 use Rattle.ranking.specs.declared.Candidate.{Candidate}
 use Rattle.protection.specs.Protection.{protection}
 use Rattle.snapshot.specs.Snapshot.{Snapshot, shownOf, snapshotOf}
+use Rattle.block.specs.Written.{joined}
+use Rattle.venuerun.specs.Run.{neededOf, venueRun}
 use Rattle.sweep.specs.Sweep.{swept}
 use Rattle.block.specs.Block.{messagesOf}
+use Rattle.update.specs.Parts.{Reading}
 use Rattle.update.proofs.EntryLaws.{bytes-every}
 use Rattle.opening.specs.declared.Line.{Line}
 use Rattle.opening.specs.Opening.{linesIn, restIn, pagesIn}
 use Rattle.line.specs.Line.{done}
-use Rattle.calls.specs.Call.{Call, make, add, openLine, startDay, endDay, take, read, protected, convertLen, convert, snapshotLen, snapshot, tryOrder, setAllowance, tick, numberOf, Answer, bare, lineAnswer, published, askedSide, protectionTold, orderSide, stepsTold, sizeTold, snapshotTold, letterOf, answerOf, entriesIn, publishedOn, candidatesIn, candidatesOn, quotesFor, quotesOn, numberOn, answerOn, call}
-use Rattle.work.specs.Work.{Listed, isListed, findReading, listedOf, toldOn}
+use Rattle.calls.specs.Call.{Call, make, add, openLine, startDay, endDay, take, read, protected, convertLen, convert, snapshotLen, snapshot, tryOrder, setAllowance, tick, numberOf, Answer, bare, lineAnswer, published, askedSide, protectionTold, orderSide, stepsTold, sizeTold, snapshotTold, letterOf, answerOf, runTold, lotIn, lotOn, entriesIn, publishedOn, candidatesIn, candidatesOn, quotesFor, quotesOn, numberOn, answerOn, call}
+use Rattle.work.specs.Work.{Listed, isListed, lotOf, findReading, listedOf, toldOn}
 use Rattle.opening.proofs.OpeningLaws.{Sound, sound-is}
 use Rattle.opening.proofs.LineLaws.{line-upper, line-open}
 use Rattle.calls.proofs.NumberLaws.{number-same, read-done, protected-done, len-done, feed-done, order-done}
 use Rattle.review.specs.Reviewer.{parts, roundsOf, quoteOf, reviewed, candidatesR, toldR, Review, reviewAnswer}
 use Rattle.review.specs.Lists.{blockIsBytes}
-use Rattle.review.proofs.Agree.{good-reviewed, good-trading, Core, ReadingOf, missing, found, reading-of}
+use Rattle.review.proofs.Agree.{lot-listed, good-reviewed, good-trading, Core, ReadingOf, missing, found, reading-of}
 use Rattle.review.proofs.FeedLaws.{snapshot-same, held-shown}
 use Rattle.review.proofs.WorkLaws.{told-same}
 use Rattle.review.proofs.BytesLaws.{messages-bytes, told-done}
+use Rattle.review.proofs.OnceLaws.{once-reading}
 use Rattle.review.proofs.CallLaws.{Agrees, viewOf, view-is}
 
 module _ (n : ℕ) (b : List ℕ) (h : List (List ℕ)) (sd : Sound n b) (y : Bytes b) (c : Core (parts h) (pagesIn b)) where
@@ -37,7 +41,7 @@ module _ (n : ℕ) (b : List ℕ) (h : List (List ℕ)) (sd : Sound n b) (y : By
 
   -- a symbol that is listed is read as the history gives it
   read-same : (s : ℕ) → isListed s ls ≡ true → publishedOn b s ≡ reviewed h s
-  read-same s e = go (reading-of s (parts h) (pagesIn b) (c .good))
+  read-same s e = ap entriesIn (once-reading b (c .once) s) ∙ go (reading-of s (parts h) (pagesIn b) (c .good))
     where
       go : ReadingOf s (parts h) (pagesIn b) → entriesIn (findReading s (pagesIn b)) ≡ reviewed h s
       go (missing u v) = clash (sym e ∙ v)
@@ -45,7 +49,7 @@ module _ (n : ℕ) (b : List ℕ) (h : List (List ℕ)) (sd : Sound n b) (y : By
 
   -- and has the candidates that the history gives
   candidates-same : (s : ℕ) → isListed s ls ≡ true → candidatesOn b s ≡ candidatesR h s
-  candidates-same s e = go (reading-of s (parts h) (pagesIn b) (c .good))
+  candidates-same s e = ap candidatesIn (once-reading b (c .once) s) ∙ go (reading-of s (parts h) (pagesIn b) (c .good))
     where
       go : ReadingOf s (parts h) (pagesIn b) → candidatesIn (findReading s (pagesIn b)) ≡ candidatesR h s
       go (missing u v) = clash (sym e ∙ v)
@@ -54,7 +58,7 @@ module _ (n : ℕ) (b : List ℕ) (h : List (List ℕ)) (sd : Sound n b) (y : By
   -- and quotes that show the same
   quotes-same : (x e : List ℕ) (s : ℕ) → isListed s ls ≡ true → snapshotOf x e (quotesOn b s) ≡ snapshotOf x e (quoteOf (parts h) s)
   unfolding quoteOf
-  quotes-same x e s t = go (reading-of s (parts h) (pagesIn b) (c .good))
+  quotes-same x e s t = ap (λ (o : Option Reading). snapshotOf x e (quotesFor o)) (once-reading b (c .once) s) ∙ go (reading-of s (parts h) (pagesIn b) (c .good))
     where
       go : ReadingOf s (parts h) (pagesIn b) → snapshotOf x e (quotesFor (findReading s (pagesIn b))) ≡ snapshotOf x e (quoteOf (parts h) s)
       go (missing u v) = clash (sym t ∙ v)
@@ -66,14 +70,18 @@ module _ (n : ℕ) (b : List ℕ) (h : List (List ℕ)) (sd : Sound n b) (y : By
   pub feed-same : (x : List ℕ) → isListed (be x) ls ≡ true → snapshotOf x (publishedOn b (be x)) (quotesOn b (be x)) ≡ snapshotOf x (reviewed h (be x)) (quoteOf (parts h) (be x))
   feed-same x e = ap (λ (p : List ℕ). snapshotOf x p (quotesOn b (be x))) (read-same (be x) e) ∙ quotes-same x (reviewed h (be x)) (be x) e
 
+  -- and its round lot
+  lots-same : lotOn b ≡ (λ s. lotOf s ls)
+  lots-same = fun-ext (λ s. ap lotIn (once-reading b (c .once) s) ∙ sym (lot-listed s (pagesIn b)))
+
   pub told-line : (i : ℕ) (r : Line) (x : List ℕ) → linesIn b i ≡ some r → Bytes x → toldOn b (r .letter) (messagesOf x) ≡ toldR ls h (r .letter) (messagesOf x)
   told-line i r x e z =
-      told-done n (r .letter) (line-upper r (line-open b i r e .1)) (messagesOf x) b (messages-bytes x z) sd y
+      told-done n (r .letter) (line-upper r (line-open b i r e .1)) (messagesOf x) b (messages-bytes x z) sd y (c .once)
       ∙ told-same (r .letter) ls (messagesOf x) h (pagesIn b) refl c
 
   answer-same : (k : Call) → blockIsBytes k ≡ true
-      → answerOf (restIn b) ls (toldOn b) (publishedOn b) (candidatesOn b) (quotesOn b) (numberOf (restIn b) ls k) k
-      ≡ answerOf (restIn b) ls (toldR ls h) (reviewed h) (candidatesR h) (quoteOf (parts h)) (numberOf (restIn b) ls k) k
+      → answerOf (restIn b) (lotOn b) (toldOn b) (publishedOn b) (candidatesOn b) (quotesOn b) (numberOf (restIn b) ls k) k
+      ≡ answerOf (restIn b) (λ s. lotOf s ls) (toldR ls h) (reviewed h) (candidatesR h) (quoteOf (parts h)) (numberOf (restIn b) ls k) k
   unfolding answerOf restIn
   answer-same (make k) z = refl
   answer-same (add x l m) z = refl
@@ -106,7 +114,8 @@ module _ (n : ℕ) (b : List ℕ) (h : List (List ℕ)) (sd : Sound n b) (y : By
       go true e = ap told (candidates-same (be x) (protected-done (restIn b) ls x m v e .1))
       go false e = refl
   answer-same (convertLen x) z = refl
-  answer-same (convert x k) z = refl
+  answer-same (convert x k) z =
+      ap (λ (l : ℕ → ℕ). cond (done (numberOf (restIn b) ls (convert x k))) (runTold (numberOf (restIn b) ls (convert x k)) (neededOf x) (joined (venueRun l x))) (bare (numberOf (restIn b) ls (convert x k)))) lots-same
   answer-same (snapshotLen x) z = go (done (numberOf (restIn b) ls (snapshotLen x))) refl
     where
       told : Snapshot → Answer
@@ -138,7 +147,7 @@ module _ (n : ℕ) (b : List ℕ) (h : List (List ℕ)) (sd : Sound n b) (y : By
       go true e = ap told (candidates-same (be x) (order-done (restIn b) ls x m w k e .1))
       go false e = refl
 
-  answer-sound : (k : Call) → answerOn b k ≡ answerOf (restIn b) ls (toldOn b) (publishedOn b) (candidatesOn b) (quotesOn b) (numberOn b k) k
+  answer-sound : (k : Call) → answerOn b k ≡ answerOf (restIn b) (lotOn b) (toldOn b) (publishedOn b) (candidatesOn b) (quotesOn b) (numberOn b k) k
   unfolding answerOf
   answer-sound (make k) = refl
   answer-sound (add x l m) = rw (sound-is n b sd)
@@ -158,7 +167,7 @@ module _ (n : ℕ) (b : List ℕ) (h : List (List ℕ)) (sd : Sound n b) (y : By
 
   answer-view : (k : Call) → blockIsBytes k ≡ true → answerOn b k ≡ reviewAnswer (viewOf b h) k
   unfolding reviewAnswer
-  answer-view k z = answer-sound k ∙ ap (λ (q : ℕ). answerOf (restIn b) ls (toldOn b) (publishedOn b) (candidatesOn b) (quotesOn b) q k) (number-same n b sd k) ∙ answer-same k z
+  answer-view k z = answer-sound k ∙ ap (λ (q : ℕ). answerOf (restIn b) (lotOn b) (toldOn b) (publishedOn b) (candidatesOn b) (quotesOn b) q k) (number-same n b sd k) ∙ answer-same k z
 
 pub call-answer : (n : ℕ) (b : List ℕ) (v : Review) (k : Call) → blockIsBytes k ≡ true → Agrees n b v → call b k .answer ≡ reviewAnswer v k
 unfolding call

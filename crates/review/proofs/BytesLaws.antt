@@ -16,14 +16,17 @@ use Rattle.message.specs.Message.{symbolOf, oddAt, oddLength, messageOf, Known,
 use Rattle.message.proofs.SpokenLaws.{Spoken, refused, idle, finra, round, odd, maker, status, spoken, parts-refused, parts-whole, parts-round, parts-odd, parts-maker, parts-status}
 use Rattle.block.specs.Block.{countIn, messageAt, messagesFrom, messagesOf}
 use Rattle.update.specs.Parts.{Reading, knownOf}
-use Rattle.opening.specs.Opening.{pagesIn}
-use Rattle.work.specs.Work.{findReading, partOn, partsOn, codeOn, messageOn, messagesOn, flagsOf, publications, toldOn}
+use Rattle.opening.specs.Opening.{pagesIn, readingFor}
+use Rattle.work.specs.Work.{listedOf, partOn, partsOn, codeOn, messageOn, messagesOn, flagsOf, publications, toldOn}
 use Rattle.opening.proofs.OpeningLaws.{Sound}
 use Rattle.opening.proofs.PageLaws.{OpeningKept, opening-none, opening-then, kept-sound}
 use Rattle.work.proofs.PartLaws.{PartGood, PartDone, part-done}
 use Rattle.review.proofs.FitLaws.{quote-fits, name-fits, odd-message}
 use Rattle.review.proofs.CodeLaws.{takes-whole, OddTaken, round-taken, odd-taken, maker-taken}
-use Rattle.review.proofs.WorkLaws.{partsReading, messageReading, messagesReading, toldReading}
+use Rattle.review.proofs.WorkLaws.{partsReading, codeIn, messageReading, messagesReading, toldReading, parts-listed}
+use Rattle.review.proofs.PartLaws.{part-listed}
+use Rattle.review.proofs.Agree.{Apart}
+use Rattle.review.proofs.OnceLaws.{once-first, once-code}
 
 -- ---- the parts of a message that is taken are good
 
@@ -95,42 +98,51 @@ pub record Done (b b′ : List ℕ) (rs : List Reading) : Type 0 where
   pub pages : pagesIn b′ ≡ rs
   pub kept : OpeningKept b b′
 
+-- no symbol twice
+abbrev Once : List ℕ → Type 0
+Once b = Apart (listedOf (pagesIn b))
+
+once-by : (b b′ : List ℕ) → listedOf (pagesIn b′) ≡ listedOf (pagesIn b) → Once b → Once b′
+once-by b b′ e a = rw e a
+
 module _ (n : ℕ) where
-  parts-done : (ps : List Part) (b : List ℕ) → Sound n b → Bytes b → AllPartGood ps → Done b (partsOn ps b) (partsReading ps (pagesIn b))
+  parts-done : (ps : List Part) (b : List ℕ) → Sound n b → Bytes b → Once b → AllPartGood ps → Done b (partsOn ps b) (partsReading ps (pagesIn b))
   unfolding partsOn
-  parts-done [] b sd y g = record { pages = refl; kept = opening-none b }
-  parts-done (p ∷ ps) b sd y g =
-      let d : PartDone p b (partOn p b) = part-done n p b sd y (g .0) in
+  parts-done [] b sd y a g = record { pages = refl; kept = opening-none b }
+  parts-done (p ∷ ps) b sd y a g =
+      let d : PartDone p b (partOn p b) = part-done n p b sd y (once-first b a) (g .0) in
       let r : Done (partOn p b) (partsOn ps (partOn p b)) (partsReading ps (pagesIn (partOn p b))) =
-      parts-done ps (partOn p b) (kept-sound b (partOn p b) (d .kept) n sd) (d .kept .bytes y) (g .1) in
+      parts-done ps (partOn p b) (kept-sound b (partOn p b) (d .kept) n sd) (d .kept .bytes y) (once-by b (partOn p b) (ap listedOf (d .pages) ∙ part-listed p (pagesIn b)) a) (g .1) in
       record { pages = r .pages ∙ ap (partsReading ps) (d .pages); kept = opening-then b (partOn p b) (partsOn ps (partOn p b)) (d .kept) (r .kept) }
 
   module _ (letter : ℕ) (u : upper letter ≡ true) where
-    pub message-done : (m : List ℕ) (b : List ℕ) → Bytes m → Sound n b → Bytes b → Done b (messageOn letter m b) (messageReading letter m (pagesIn b))
-    message-done m b by sd y =
-        parts-done (partsOf (codeOn letter m b) m) b sd y (parts-good (knownOf (findReading (symbolOf m) (pagesIn b))) letter m u by (codeOn letter m b) refl)
+    pub message-done : (m : List ℕ) (b : List ℕ) → Bytes m → Sound n b → Bytes b → Once b → Done b (messageOn letter m b) (messageReading letter m (pagesIn b))
+    message-done m b by sd y a =
+        let d : Done b (messageOn letter m b) (partsReading (partsOf (codeOn letter m b) m) (pagesIn b)) =
+        parts-done (partsOf (codeOn letter m b) m) b sd y a (parts-good (knownOf (readingFor b (symbolOf m))) letter m u by (codeOn letter m b) refl) in
+        record { pages = d .pages ∙ ap (λ (c : ℕ). partsReading (partsOf c m) (pagesIn b)) (once-code b a letter m); kept = d .kept }
 
-    pub messages-done : (ms : List (List ℕ)) (b : List ℕ) → AllBytes ms → Sound n b → Bytes b → Done b (messagesOn letter ms b) (messagesReading letter ms (pagesIn b))
+    next-once : (m : List ℕ) (b : List ℕ) → Done b (messageOn letter m b) (messageReading letter m (pagesIn b)) → Once b → Once (messageOn letter m b)
+    next-once m b d a = once-by b (messageOn letter m b) (ap listedOf (d .pages) ∙ parts-listed (partsOf (codeIn letter m (pagesIn b)) m) (pagesIn b)) a
+
+    pub messages-done : (ms : List (List ℕ)) (b : List ℕ) → AllBytes ms → Sound n b → Bytes b → Once b → Done b (messagesOn letter ms b) (messagesReading letter ms (pagesIn b))
     unfolding messagesOn
-    messages-done [] b by sd y = record { pages = refl; kept = opening-none b }
-    messages-done (m ∷ ms) b by sd y =
-        let d : Done b (messageOn letter m b) (messageReading letter m (pagesIn b)) = message-done m b (by .0) sd y in
+    messages-done [] b by sd y a = record { pages = refl; kept = opening-none b }
+    messages-done (m ∷ ms) b by sd y a =
+        let d : Done b (messageOn letter m b) (messageReading letter m (pagesIn b)) = message-done m b (by .0) sd y a in
         let r : Done (messageOn letter m b) (messagesOn letter ms (messageOn letter m b)) (messagesReading letter ms (pagesIn (messageOn letter m b))) =
-        messages-done ms (messageOn letter m b) (by .1) (kept-sound b (messageOn letter m b) (d .kept) n sd) (d .kept .bytes y) in
+        messages-done ms (messageOn letter m b) (by .1) (kept-sound b (messageOn letter m b) (d .kept) n sd) (d .kept .bytes y) (next-once m b d a) in
         record {
           pages = r .pages ∙ ap (messagesReading letter ms) (d .pages);
           kept = opening-then b (messageOn letter m b) (messagesOn letter ms (messageOn letter m b)) (d .kept) (r .kept);
         }
 
-    pub told-done : (ms : List (List ℕ)) (b : List ℕ) → AllBytes ms → Sound n b → Bytes b → toldOn b letter ms ≡ toldReading (pagesIn b) letter ms
+    pub told-done : (ms : List (List ℕ)) (b : List ℕ) → AllBytes ms → Sound n b → Bytes b → Once b → toldOn b letter ms ≡ toldReading (pagesIn b) letter ms
     unfolding toldOn
-    told-done [] b by sd y = refl
-    told-done (m ∷ ms) b by sd y =
-        let d : Done b (messageOn letter m b) (messageReading letter m (pagesIn b)) = message-done m b (by .0) sd y in
+    told-done [] b by sd y a = refl
+    told-done (m ∷ ms) b by sd y a =
+        let d : Done b (messageOn letter m b) (messageReading letter m (pagesIn b)) = message-done m b (by .0) sd y a in
+        let c : codeOn letter m b ≡ codeIn letter m (pagesIn b) = once-code b a letter m in
         let r : toldOn (messageOn letter m b) letter ms ≡ toldReading (messageReading letter m (pagesIn b)) letter ms =
-        told-done ms (messageOn letter m b) (by .1) (kept-sound b (messageOn letter m b) (d .kept) n sd) (d .kept .bytes y) ∙ ap (λ (rs : List Reading). toldReading rs letter ms) (d .pages) in
-        λ i. record {
-          code = codeOn letter m b;
-          flags = flagsOf (publications (pagesIn b)) (publications (d .pages i));
-          partly = partlyTaken (codeOn letter m b) m;
-        } ∷ r i
+        told-done ms (messageOn letter m b) (by .1) (kept-sound b (messageOn letter m b) (d .kept) n sd) (d .kept .bytes y) (next-once m b d a) ∙ ap (λ (rs : List Reading). toldReading rs letter ms) (d .pages) in
+        λ i. record { code = c i; flags = flagsOf (publications (pagesIn b)) (publications (d .pages i)); partly = partlyTaken (c i) m } ∷ r i

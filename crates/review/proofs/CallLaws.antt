@@ -209,7 +209,7 @@ module _ (n : ℕ) (b : List ℕ) (h : List (List ℕ)) (sd : Sound n b) (y : By
           let f : LineFits r = line-fits n b sd y i r e in
           let l : i < lineCount = line-open b i r e .0 in
           let t : Done b b₁ (messagesReading (r .letter) (messagesOf x) (pagesIn b)) =
-          messages-done n (r .letter) (line-upper r (f .good)) (messagesOf x) b (messages-bytes x z) sd y in
+          messages-done n (r .letter) (line-upper r (f .good)) (messagesOf x) b (messages-bytes x z) sd y (c .once) in
           let s₁ : Sound n b₁ = kept-sound b b₁ (t .kept) n sd in
           let q : restIn b₁ ≡ restIn b = rest-by b b₁ (t .kept .front) in
           let b₂ : List ℕ = lined n b₁ s₁ i l (advanced r x) in

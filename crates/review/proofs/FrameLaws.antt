@@ -25,12 +25,12 @@ use Rattle.update.proofs.MakerLaws.{maker-kept}
 use Rattle.update.proofs.StatusLaws.{status-kept}
 use Rattle.message.proofs.SpokenLaws.{Shaped, AllShaped, shaped}
 use Rattle.opening.specs.declared.Line.{Line}
-use Rattle.opening.specs.Opening.{symbolsOf, sound, lineBytes, linesIn, onAllowance, restIn, pageAt, pagesIn, onPage}
+use Rattle.opening.specs.Opening.{symbolsOf, sound, lineBytes, linesIn, onAllowance, restIn, pageAt, pagesIn, readingFor, onPage}
 use Rattle.opening.specs.Layout.{allowanceAt, lineAt, lineCount}
 use Rattle.opening.proofs.AllowanceLaws.{length-allowance, allowed-page}
 use Rattle.line.specs.Line.{done, advanced, settled}
 use Rattle.calls.specs.Call.{take, letterOf, advanceOn, afterCall, numberOn, call}
-use Rattle.work.specs.Work.{listedOf, findReading, partOn, partsOn, codeOn, messageOn, messagesOn, toldOn}
+use Rattle.work.specs.Work.{listedOf, partOn, partsOn, codeOn, messageOn, messagesOn, toldOn}
 use Rattle.opening.proofs.OpeningLaws.{Sound, sound-of}
 use Rattle.opening.proofs.PageLaws.{kept-sound, place-hit, on-other}
 use Rattle.work.proofs.PartLaws.{part-kept}
@@ -110,7 +110,7 @@ parts-none c m s h = go (cut c 0) (partlyTaken c m) refl h
 module _ (n j letter : ℕ) (u : upper letter ≡ true) (s : ℕ) where
   message-framed : (m b : List ℕ) → Sound n b → s ≡ pageSymbol (pageAt b j) → (takes (codeOn letter m b) m ≡ true → touches m s ≡ false) → pageAt (messageOn letter m b) j ≡ pageAt b j
   message-framed m b sd q h =
-      parts-framed n j (partsOf (codeOn letter m b) m) b sd (shaped (knownOf (findReading (symbolOf m) (pagesIn b))) letter m u) s q (parts-none (codeOn letter m b) m s h)
+      parts-framed n j (partsOf (codeOn letter m b) m) b sd (shaped (knownOf (readingFor b (symbolOf m))) letter m u) s q (parts-none (codeOn letter m b) m s h)
 
   -- ---- the messages of a block
 

@@ -3,6 +3,7 @@ pub mod TimeLaws
 pub mod HistoryLaws
 pub mod SilentLaws
 pub mod Agree
+pub mod OnceLaws
 pub mod PartLaws
 pub mod FitLaws
 pub mod CodeLaws

@@ -16,13 +16,15 @@ use Rattle.lists.specs.declared.Found.the-variants.{At, Nothing}
 use Rattle.lists.proofs.Tests.{clash}
 use Rattle.lists.proofs.Members.{In}
 use Rattle.update.specs.Parts.{Reading, readingOf}
-use Rattle.opening.specs.Opening.{countOf, pageAt, pagesIn, pagePlace}
+use Rattle.opening.specs.Opening.{countOf, pageAt, pagesIn, firstPlace, pagePlace}
 use Rattle.work.specs.Work.{Listed, isListed, listedOf}
 use Rattle.opening.proofs.OpeningLaws.{Sound, length-page}
 use Rattle.update.proofs.SearchLaws.{isAt}
 use Rattle.opening.proofs.PageLaws.{place-hit}
 use Rattle.work.proofs.PlaceLaws.{listed-at}
 use Rattle.review.specs.Frame.{bytesAt, pageOf}
+use Rattle.review.proofs.Agree.{Apart}
+use Rattle.review.proofs.OnceLaws.{once-first}
 use Rattle.page.specs.Layout.{pageLength}
 
 abbrev pub placeIn : ℕ → ℕ → List Listed → Found
@@ -35,9 +37,9 @@ place-from f s zero i = refl
 place-from f s (suc n) i =
     ap (λ (x : Found). cond (eqb (f i .symbol) s) (At i) x) (ap (λ (j : ℕ). firstFrom (λ k. eqb (f k .symbol) s) j n) (add-one i) ∙ place-from f s n (suc i))
 
-pub place-is : (b : List ℕ) (s : ℕ) → pagePlace b s ≡ placeIn s 0 (listedOf (pagesIn b))
-unfolding pagePlace pagesIn readingOf
-place-is b s = place-from (λ k. readingOf (pageAt b k)) s (countOf b) 0
+pub place-is : (b : List ℕ) (s : ℕ) → Apart (listedOf (pagesIn b)) → pagePlace b s ≡ placeIn s 0 (listedOf (pagesIn b))
+unfolding firstPlace pagesIn readingOf
+place-is b s a = once-first b a s ∙ place-from (λ k. readingOf (pageAt b k)) s (countOf b) 0
 
 pub listed-in : (x : Listed) (xs : List Listed) → In x xs → isListed (x .symbol) xs ≡ true
 unfolding isListed

@@ -19,9 +19,9 @@ use Rattle.block.specs.Block.{messagesOf}
 use Rattle.block.specs.Written.{joined}
 use Rattle.venuerun.specs.Run.{neededOf, venueRun}
 use Rattle.opening.specs.declared.Line.{Line}
-use Rattle.opening.specs.Opening.{sound, Rest, restIn, pagesIn}
+use Rattle.opening.specs.Opening.{sound, Rest, restIn}
 use Rattle.line.specs.Line.{done, gapTold, advanced}
-use Rattle.calls.specs.Call.{Call, make, add, openLine, startDay, endDay, take, read, protected, convertLen, convert, snapshotLen, snapshot, tryOrder, setAllowance, tick, Answer, bare, protectionTold, askedSide, stepsTold, orderSide, fed, sizeTold, report, lineAnswer, runTold, listedLot, letterOf, answerOf, publishedOn, candidatesOn, quotesOn, makeGood, isMake, numberOn, call}
+use Rattle.calls.specs.Call.{Call, make, add, openLine, startDay, endDay, take, read, protected, convertLen, convert, snapshotLen, snapshot, tryOrder, setAllowance, tick, Answer, bare, protectionTold, askedSide, stepsTold, orderSide, fed, sizeTold, report, lineAnswer, runTold, lotOn, letterOf, answerOf, publishedOn, candidatesOn, quotesOn, makeGood, isMake, numberOn, call}
 use Rattle.calls.proofs.SnapshotLaws.{feed-answer, feed-keeps}
 use Rattle.quote.specs.declared.Quote.{Quote}
 use Rattle.snapshot.specs.Snapshot.{Snapshot, snapshotOf}
@@ -29,7 +29,7 @@ use Rattle.snapshot.specs.Feed.{feedBlocks, feedBytes}
 use Rattle.lists.specs.Lists.{member}
 use Rattle.lists.proofs.Tests.{clash}
 use Rattle.told.specs.Told.{quads}
-use Rattle.work.specs.Work.{Listed, listedOf, toldOn}
+use Rattle.work.specs.Work.{toldOn}
 use Rattle.told.specs.declared.Told.{Told}
 use Rattle.review.proofs.FitLaws.{odd-zero}
 use Rattle.opening.specs.Layout.{bookLength, symbolsMost}
@@ -72,7 +72,7 @@ of-each P f g (tryOrder s m w room) = f (tryOrder s m w room) refl
 of-each P f g (setAllowance n ss) = f (setAllowance n ss) refl
 of-each P f g tick = f tick refl
 
-module _ (r : Rest) (ls : List Listed) (ts : ℕ → List (List ℕ) → List Told) (p : ℕ → List ℕ) (cs : ℕ → Side → ℕ → Option Candidate) (qs : ℕ → ℕ → Quote) (k : ℕ) where
+module _ (r : Rest) (lot : ℕ → ℕ) (ts : ℕ → List (List ℕ) → List Told) (p : ℕ → List ℕ) (cs : ℕ → Side → ℕ → Option Candidate) (qs : ℕ → ℕ → Quote) (k : ℕ) where
   line-number : (b : List ℕ) (us : List Told) (o : Option Line) → lineAnswer k b us o .number ≡ k
   line-number b us none = refl
   line-number b us (some x) = go (done k)
@@ -81,7 +81,7 @@ module _ (r : Rest) (ls : List Listed) (ts : ℕ → List (List ℕ) → List To
       go true = refl
       go false = refl
 
-  answer-number : (c : Call) → asksRoom c ≡ false → answerOf r ls ts p cs qs k c .number ≡ k
+  answer-number : (c : Call) → asksRoom c ≡ false → answerOf r lot ts p cs qs k c .number ≡ k
   unfolding answerOf
   answer-number (make n) e = refl
   answer-number (add s n l) e = refl
@@ -108,7 +108,7 @@ module _ (r : Rest) (ls : List Listed) (ts : ℕ → List (List ℕ) → List To
       go false = refl
   answer-number (convert v room) e = go (done k)
     where
-      go : (t : Bool) → (cond {A = Answer} t (runTold k (neededOf v) (joined (venueRun (listedLot ls) v))) (bare k)) .number ≡ k
+      go : (t : Bool) → (cond {A = Answer} t (runTold k (neededOf v) (joined (venueRun lot v))) (bare k)) .number ≡ k
       go true = refl
       go false = refl
   answer-number (snapshotLen s) e = go (done k)
@@ -124,12 +124,12 @@ module _ (r : Rest) (ls : List Listed) (ts : ℕ → List (List ℕ) → List To
       go false = refl
 
 number-other : (b : List ℕ) (c : Call) → asksRoom c ≡ false → isMake c ≡ false
-    → (cond {A = Answer} (sound b) (answerOf (restIn b) (listedOf (pagesIn b)) (toldOn b) (publishedOn b) (candidatesOn b) (quotesOn b) (numberOn b c) c) (bare 1)) .number ≡ numberOn b c
+    → (cond {A = Answer} (sound b) (answerOf (restIn b) (lotOn b) (toldOn b) (publishedOn b) (candidatesOn b) (quotesOn b) (numberOn b c) c) (bare 1)) .number ≡ numberOn b c
 unfolding numberOn
 number-other b c w m = go (sound b) refl
   where
-    go : (t : Bool) → sound b ≡ t → (cond {A = Answer} t (answerOf (restIn b) (listedOf (pagesIn b)) (toldOn b) (publishedOn b) (candidatesOn b) (quotesOn b) (numberOn b c) c) (bare 1)) .number ≡ numberOn b c
-    go true e = answer-number (restIn b) (listedOf (pagesIn b)) (toldOn b) (publishedOn b) (candidatesOn b) (quotesOn b) (numberOn b c) c w
+    go : (t : Bool) → sound b ≡ t → (cond {A = Answer} t (answerOf (restIn b) (lotOn b) (toldOn b) (publishedOn b) (candidatesOn b) (quotesOn b) (numberOn b c) c) (bare 1)) .number ≡ numberOn b c
+    go true e = answer-number (restIn b) (lotOn b) (toldOn b) (publishedOn b) (candidatesOn b) (quotesOn b) (numberOn b c) c w
     go false e = rw (m, e)
 
 -- the number that a call answers
@@ -189,27 +189,27 @@ unfolding quads
 line-empty k b ts none e = (refl, refl, refl, refl, refl)
 line-empty k b ts (some r) e = rw e (refl, refl, refl, refl, refl)
 
-answer-empty : (r : Rest) (ls : List Listed) (ts : ℕ → List (List ℕ) → List Told) (p : ℕ → List ℕ) (cs : ℕ → Side → ℕ → Option Candidate) (qs : ℕ → ℕ → Quote) (k : ℕ) (c : Call) → done k ≡ false → Fills (answerOf r ls ts p cs qs k c)
+answer-empty : (r : Rest) (lot : ℕ → ℕ) (ts : ℕ → List (List ℕ) → List Told) (p : ℕ → List ℕ) (cs : ℕ → Side → ℕ → Option Candidate) (qs : ℕ → ℕ → Quote) (k : ℕ) (c : Call) → done k ≡ false → Fills (answerOf r lot ts p cs qs k c)
 unfolding answerOf
-answer-empty r ls ts p cs qs k (make n) e = (refl, refl, refl, refl, refl)
-answer-empty r ls ts p cs qs k (add s n l) e = (refl, refl, refl, refl, refl)
-answer-empty r ls ts p cs qs k (openLine i l) e = (refl, refl, refl, refl, refl)
-answer-empty r ls ts p cs qs k startDay e = (refl, refl, refl, refl, refl)
-answer-empty r ls ts p cs qs k endDay e = (refl, refl, refl, refl, refl)
-answer-empty r ls ts p cs qs k (take i b room) e = go (eqb k 9)
+answer-empty r lot ts p cs qs k (make n) e = (refl, refl, refl, refl, refl)
+answer-empty r lot ts p cs qs k (add s n l) e = (refl, refl, refl, refl, refl)
+answer-empty r lot ts p cs qs k (openLine i l) e = (refl, refl, refl, refl, refl)
+answer-empty r lot ts p cs qs k startDay e = (refl, refl, refl, refl, refl)
+answer-empty r lot ts p cs qs k endDay e = (refl, refl, refl, refl, refl)
+answer-empty r lot ts p cs qs k (take i b room) e = go (eqb k 9)
   where
     go : (t : Bool) → Fills (cond {A = Answer} t (bare k) (lineAnswer k b (ts (letterOf (r .lines i)) (messagesOf b)) (r .lines i)))
     go true = (refl, refl, refl, refl, refl)
     go false = line-empty k b (ts (letterOf (r .lines i)) (messagesOf b)) (r .lines i) e
-answer-empty r ls ts p cs qs k (read s room) e = (refl, rw e, refl, refl, refl)
-answer-empty r ls ts p cs qs k (protected s m x) e = rw e (refl, refl, refl, refl, refl)
-answer-empty r ls ts p cs qs k (convertLen v) e = rw e (refl, refl, refl, refl, refl)
-answer-empty r ls ts p cs qs k (convert v room) e = rw e (refl, refl, refl, refl, refl)
-answer-empty r ls ts p cs qs k (snapshotLen s) e = rw e (refl, refl, refl, refl, refl)
-answer-empty r ls ts p cs qs k (snapshot s room) e = rw e (refl, refl, refl, refl, refl)
-answer-empty r ls ts p cs qs k (tryOrder s m w room) e = rw e (refl, refl, refl, refl, refl)
-answer-empty r ls ts p cs qs k (setAllowance n ss) e = (refl, refl, refl, refl, refl)
-answer-empty r ls ts p cs qs k tick e = (refl, refl, refl, refl, refl)
+answer-empty r lot ts p cs qs k (read s room) e = (refl, rw e, refl, refl, refl)
+answer-empty r lot ts p cs qs k (protected s m x) e = rw e (refl, refl, refl, refl, refl)
+answer-empty r lot ts p cs qs k (convertLen v) e = rw e (refl, refl, refl, refl, refl)
+answer-empty r lot ts p cs qs k (convert v room) e = rw e (refl, refl, refl, refl, refl)
+answer-empty r lot ts p cs qs k (snapshotLen s) e = rw e (refl, refl, refl, refl, refl)
+answer-empty r lot ts p cs qs k (snapshot s room) e = rw e (refl, refl, refl, refl, refl)
+answer-empty r lot ts p cs qs k (tryOrder s m w room) e = rw e (refl, refl, refl, refl, refl)
+answer-empty r lot ts p cs qs k (setAllowance n ss) e = (refl, refl, refl, refl, refl)
+answer-empty r lot ts p cs qs k tick e = (refl, refl, refl, refl, refl)
 
 others-empty : (b : List ℕ) (c : Call) → asksRoom c ≡ false → done (call b c .answer .number) ≡ false → Fills (call b c .answer)
 unfolding call
@@ -218,9 +218,9 @@ others-empty b c w e = go (isMake c) (sound b)
     d : done (numberOn b c) ≡ false
     d = sym (ap done (number-told b c w)) ∙ e
 
-    go : (m s : Bool) → Fills (cond {A = Answer} m (bare (numberOn b c)) (cond {A = Answer} s (answerOf (restIn b) (listedOf (pagesIn b)) (toldOn b) (publishedOn b) (candidatesOn b) (quotesOn b) (numberOn b c) c) (bare 1)))
+    go : (m s : Bool) → Fills (cond {A = Answer} m (bare (numberOn b c)) (cond {A = Answer} s (answerOf (restIn b) (lotOn b) (toldOn b) (publishedOn b) (candidatesOn b) (quotesOn b) (numberOn b c) c) (bare 1)))
     go true s = (refl, refl, refl, refl, refl)
-    go false true = answer-empty (restIn b) (listedOf (pagesIn b)) (toldOn b) (publishedOn b) (candidatesOn b) (quotesOn b) (numberOn b c) c d
+    go false true = answer-empty (restIn b) (lotOn b) (toldOn b) (publishedOn b) (candidatesOn b) (quotesOn b) (numberOn b c) c d
     go false false = (refl, refl, refl, refl, refl)
 
 feed-empty : (b s : List ℕ) (room : ℕ) → done (call b (snapshot s room) .answer .number) ≡ false → Fills (call b (snapshot s room) .answer)

@@ -21,12 +21,12 @@ use Rattle.block.proofs.CheckLaws.{Passed, passed}
 use Rattle.update.specs.Parts.{knownOf}
 use Rattle.update.proofs.CellLaws.{member-below}
 use Rattle.opening.specs.declared.Line.{Line}
-use Rattle.opening.specs.Opening.{sound, Rest, restIn, pagesIn}
+use Rattle.opening.specs.Opening.{sound, Rest, restIn, pagesIn, readingFor}
 use Rattle.allowance.specs.Allowance.{isUsedUp}
 use Rattle.line.specs.Line.{blockNumber, onLine, done}
-use Rattle.calls.specs.Call.{take, numberOf, Answer, bare, lineAnswer, letterOf, answerOf, publishedOn, candidatesOn, quotesOn, numberOn, call}
+use Rattle.calls.specs.Call.{take, numberOf, Answer, bare, lineAnswer, letterOf, answerOf, lotOn, publishedOn, candidatesOn, quotesOn, numberOn, call}
 use Rattle.told.specs.Told.{quads, tally, isAccepted, isPartly, isRejected}
-use Rattle.work.specs.Work.{Listed, findReading, listedOf, flagsOf, publications, codeOn, messageOn, toldOn}
+use Rattle.work.specs.Work.{Listed, listedOf, flagsOf, publications, codeOn, messageOn, toldOn}
 use Rattle.told.specs.declared.Told.{Told}
 use Rattle.calls.proofs.NumberLaws.{unsound}
 use Rattle.calls.proofs.TakenLaws.{taken-passes}
@@ -77,7 +77,7 @@ told-clean b letter [] = tt
 told-clean b letter (m ∷ ms) = (
   record {
     apart = accepted-whole (codeOn letter m b) m;
-    code = code-known (knownOf (findReading (symbolOf m) (pagesIn b))) letter m;
+    code = code-known (knownOf (readingFor b (symbolOf m))) letter m;
     flags = flags-below (publications (pagesIn b)) (publications (pagesIn (messageOn letter m b)));
   },
   told-clean (messageOn letter m b) letter ms,
@@ -192,7 +192,7 @@ done-nine q d = go (cut q 9)
     go (apart t e) = t
 
 take-told : (b : List ℕ) (r : Rest) (ls : List Listed) (i : ℕ) (k : List ℕ) (room : ℕ) → done (numberOf r ls (take i k room)) ≡ true
-    → BlockTold k (answerOf r ls (toldOn b) (publishedOn b) (candidatesOn b) (quotesOn b) (numberOf r ls (take i k room)) (take i k room))
+    → BlockTold k (answerOf r (lotOn b) (toldOn b) (publishedOn b) (candidatesOn b) (quotesOn b) (numberOf r ls (take i k room)) (take i k room))
 unfolding answerOf numberOf done
 take-told b r ls i k room d = go (ltb room answerLength) (r .lines i) d
   where
@@ -211,6 +211,6 @@ block-told b i k room e = go (sound b) refl
     d = sym (ap done (number-told b (take i k room) refl)) ∙ e
 
     go : (t : Bool) → sound b ≡ t
-        → BlockTold k (cond {A = Answer} (sound b) (answerOf (restIn b) (listedOf (pagesIn b)) (toldOn b) (publishedOn b) (candidatesOn b) (quotesOn b) (cond (sound b) (numberOf (restIn b) (listedOf (pagesIn b)) (take i k room)) 1) (take i k room)) (bare 1))
+        → BlockTold k (cond {A = Answer} (sound b) (answerOf (restIn b) (lotOn b) (toldOn b) (publishedOn b) (candidatesOn b) (quotesOn b) (cond (sound b) (numberOf (restIn b) (listedOf (pagesIn b)) (take i k room)) 1) (take i k room)) (bare 1))
     go true s = let c : done (numberOf (restIn b) (listedOf (pagesIn b)) (take i k room)) ≡ true = rw s at d in rw s (take-told b (restIn b) (listedOf (pagesIn b)) i k room c)
     go false s = clash (sym d ∙ unsound b (take i k room) s refl)

@@ -258,7 +258,7 @@ reviewCall v c =
 
 unfoldable pub reviewAnswer : Review → Call → Answer
 reviewAnswer v c =
-    answerOf (v .rest) (v .symbols) (toldR (v .symbols) (v .history)) (reviewed (v .history)) (candidatesR (v .history)) (quoteOf (parts (v .history))) (numberOf (v .rest) (v .symbols) c) c
+    answerOf (v .rest) (λ s. lotOf s (v .symbols)) (toldR (v .symbols) (v .history)) (reviewed (v .history)) (candidatesR (v .history)) (quoteOf (parts (v .history))) (numberOf (v .rest) (v .symbols) c) c
 
 -- "It starts with the make that gave the fresh book"
 abbrev pub freshReview : ℕ → Review

@@ -1,6 +1,6 @@
 -- What the functions on a page owe, over plain values.
 -- Assumes nothing.
-use Prim.Native.Nat.{ℕ, _+_, _-_, _<_}
+use Prim.Native.Nat.{ℕ, suc, _+_, _-_, _<_}
 use mathlib.Core.Path.{_≡_, refl, sym, ap, ap₂, _∙_}
 use mathlib.Core.List.{List, [], _∷_, _++_, append-nil, append-assoc}
 use native.Mathlib.Omega.{arith}
@@ -9,9 +9,9 @@ use lib.Seq.{take-add, take-all}
 use Rattle.field.specs.Field.{Bytes, part, field, splice, beBytes}
 use Rattle.field.proofs.Laws.{splice-join, length-beBytes, beBytes-field, beBytes-one, part-put}
 use Rattle.entries.specs.Publication.{noEntry, noEntries, publicationLength}
-use Rattle.update.specs.Parts.{blankPage, emptied}
+use Rattle.update.specs.Parts.{blankPage, newHead, emptied}
 use Rattle.text.specs.Form.{symbolLength}
-use Rattle.page.specs.Layout.{entriesAt, slotsAt, quotesLength, pageLength, lotAt, primaryAt, headLength}
+use Rattle.page.specs.Layout.{entriesAt, slotsAt, quotesLength, pageLength, lotAt, primaryAt, hintsAt, hintCount, headLength}
 
 -- ---- Start of Day
 
@@ -36,6 +36,9 @@ empty-is p p′ p″ w e f =
 
 -- ---- a symbol is listed
 
+pub length-head : (s : List ℕ) (lot primary : ℕ) → length s ≡ symbolLength → length (newHead s lot primary) ≡ headLength
+length-head s lot primary e = length-append s (lot ∷ primary ∷ replicate hintCount 0) ∙ ap₂ _+_ e (ap (λ (k : ℕ). suc (suc k)) (length-replicate {A = ℕ} hintCount 0))
+
 module _ (p s : List ℕ) (lot primary : ℕ) (w : length p ≡ pageLength) (eleven : length s ≡ symbolLength) (b : Bytes s) (small : lot < 256) (letter : primary < 256) where
   head : List ℕ
   head = beBytes 8 (field s 0 8) ++ beBytes 2 (field s 8 2) ++ beBytes 1 (field s 10 1) ++ beBytes 1 lot ++ beBytes 1 primary
@@ -48,11 +51,11 @@ module _ (p s : List ℕ) (lot primary : ℕ) (w : length p ≡ pageLength) (ele
       (ap (λ (l : List ℕ). l ++ take 1 (drop 10 s)) (sym (take-add 8 2 s)) ∙ sym (take-add 10 1 s) ∙ take-all symbolLength s (omega arith))
       ∙ append-assoc s (lot ∷ []) (primary ∷ []))
 
-  pub list-is : (p1 p2 p3 p4 p5 p6 : List ℕ) (x y z : ℕ) → x ≡ field s 0 8 → y ≡ field s 8 2 → z ≡ field s 10 1
-      → p1 ≡ splice p 0 (beBytes 8 x) → p2 ≡ splice p1 8 (beBytes 2 y) → p3 ≡ splice p2 10 (beBytes 1 z) → p4 ≡ splice p3 lotAt (beBytes 1 lot) → p5 ≡ splice p4 primaryAt (beBytes 1 primary) → p6 ≡ emptied p5
-      → p6 ≡ blankPage (s ++ (lot ∷ primary ∷ []))
+  pub list-is : (p1 p2 p3 p4 p5 p6 p7 : List ℕ) (x y z : ℕ) → x ≡ field s 0 8 → y ≡ field s 8 2 → z ≡ field s 10 1
+      → p1 ≡ splice p 0 (beBytes 8 x) → p2 ≡ splice p1 8 (beBytes 2 y) → p3 ≡ splice p2 10 (beBytes 1 z) → p4 ≡ splice p3 lotAt (beBytes 1 lot) → p5 ≡ splice p4 primaryAt (beBytes 1 primary)
+      → p6 ≡ splice p5 hintsAt (replicate (headLength - hintsAt) 0) → p7 ≡ emptied p6 → p7 ≡ blankPage (newHead s lot primary)
   unfolding emptied head
-  list-is p1 p2 p3 p4 p5 p6 x y z ex ey ez e1 e2 e3 e4 e5 e6 =
+  list-is p1 p2 p3 p4 p5 p6 p7 x y z ex ey ez e1 e2 e3 e4 e5 e6 e7 =
       let a : p2 ≡ splice p 0 (beBytes 8 (field s 0 8) ++ beBytes 2 (field s 8 2)) = e2 ∙ rw (e1, ex, ey) (splice-join p 0 8 _ _ (length-beBytes 8 (field s 0 8))) in
       let n2 : length (beBytes 8 (field s 0 8) ++ beBytes 2 (field s 8 2)) ≡ 10 = length-append (beBytes 8 (field s 0 8)) (beBytes 2 (field s 8 2)) ∙ ap₂ _+_ (length-beBytes 8 (field s 0 8)) (length-beBytes 2 (field s 8 2)) in
       let c : p3 ≡ splice p 0 (beBytes 8 (field s 0 8) ++ beBytes 2 (field s 8 2) ++ beBytes 1 (field s 10 1)) = e3 ∙ rw (a, ez) (splice-join p 0 10 _ _ n2) in
@@ -62,5 +65,7 @@ module _ (p s : List ℕ) (lot primary : ℕ) (w : length p ≡ pageLength) (ele
       let d : p4 ≡ splice p 0 (s3 ++ beBytes 1 lot) = e4 ∙ rw c (splice-join p 0 symbolLength _ _ n3) in
       let n4 : length (s3 ++ beBytes 1 lot) ≡ primaryAt = length-append s3 (beBytes 1 lot) ∙ ap₂ _+_ n3 (length-beBytes 1 lot) in
       let f : p5 ≡ splice p 0 (s ++ (lot ∷ primary ∷ [])) = e5 ∙ rw d (splice-join p 0 primaryAt _ _ n4) ∙ ap (splice p 0) head-is in
-      let n5 : length (s ++ (lot ∷ primary ∷ [])) ≡ headLength = length-append s (lot ∷ primary ∷ []) ∙ ap (λ (k : ℕ). k + 2) eleven in
-      e6 ∙ ap blankPage (ap (λ (l : List ℕ). part l 0 headLength) f ∙ part-put p 0 (s ++ (lot ∷ primary ∷ [])) headLength n5 (omega arith))
+      let n5 : length (s ++ (lot ∷ primary ∷ [])) ≡ hintsAt = length-append s (lot ∷ primary ∷ []) ∙ ap (λ (k : ℕ). k + 2) eleven in
+      let g : p6 ≡ splice p 0 (newHead s lot primary) =
+      e6 ∙ rw f (splice-join p 0 hintsAt (s ++ (lot ∷ primary ∷ [])) (replicate hintCount 0) n5) ∙ ap (splice p 0) (append-assoc s (lot ∷ primary ∷ []) (replicate hintCount 0)) in
+      e7 ∙ ap blankPage (ap (λ (l : List ℕ). part l 0 headLength) g ∙ part-put p 0 (newHead s lot primary) headLength (length-head s lot primary eleven) (omega arith))

@@ -3,7 +3,7 @@
 -- Assumes nothing.
 use Prim.Native.Nat.{ℕ, _+_}
 use mathlib.Core.Bool.{Bool, true, false, cond}
-use mathlib.Core.List.{List, _++_}
+use mathlib.Core.List.{List, _∷_, _++_}
 use mathlib.Core.Option.{Option, none, some}
 use lib.ListN.{length, replicate}
 use Rattle.field.specs.Field.{part, splice, beBytes}
@@ -15,7 +15,7 @@ use Rattle.message.specs.Message.{Known}
 use Rattle.entries.specs.Entries.{Maker}
 use Rattle.entries.specs.Publication.{noEntries}
 use Rattle.page.specs.Page.{quotesIn, levelsFor, makersIn, occupied, haltedIn, refreshed}
-use Rattle.page.specs.Layout.{headLength, makerCount, quotesLength, pageSymbol, pageLot, pagePrimary, keptEntries, slotAt, statusAt}
+use Rattle.page.specs.Layout.{headLength, hintCount, makerCount, quotesLength, pageSymbol, pageLot, pagePrimary, keptEntries, slotAt, statusAt}
 use Rattle.makers.specs.Makers.{findMaker, makerOver, putMaker, markCells}
 
 -- ---- a page as what it says
@@ -91,9 +91,13 @@ statusOn x p = refreshed (putStatus x p)
 
 -- ---- a page with no quotes and six entries of none, which trades
 
--- head: symbol, round lot and primary letter
+-- head: symbol, round lot, primary letter and hints
 unfoldable pub blankPage : List ℕ → List ℕ
 blankPage head = head ++ (noEntries ++ replicate quotesLength 0)
+
+-- the head of a symbol that is listed: no hints
+abbrev pub newHead : List ℕ → ℕ → ℕ → List ℕ
+newHead symbol lot primary = symbol ++ (lot ∷ primary ∷ replicate hintCount 0)
 
 -- "Start of Day empties all quotes, makers and levels, makes every entry none"; T-10: "Start of Day ends every halt"
 unfoldable pub emptied : List ℕ → List ℕ

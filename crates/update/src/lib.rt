@@ -1,7 +1,6 @@
 // What a message does to the page of the symbol that it names.
 ghost use mathlib.Core.Path.{_≡_};
 ghost use mathlib.Core.Bool.{true};
-ghost use mathlib.Core.List.{[], _∷_, _++_};
 ghost use Prim.Native.Nat.{_+_, _-_, _≤_};
 ghost use lib.ListN.{length};
 ghost use Rattle.field.specs.Field.{field, part, splice};
@@ -13,7 +12,7 @@ ghost use Rattle.oddpart.specs.code.Part.{oddAnswer};
 ghost use Rattle.message.specs.Message.{oddWith, itemsLength};
 ghost use Rattle.entries.specs.Publication.{changeFlags};
 ghost use Rattle.page.specs.Page.{refreshed};
-ghost use Rattle.update.specs.Parts.{finraOn, blankPage, emptied};
+ghost use Rattle.update.specs.Parts.{finraOn, blankPage, newHead, emptied};
 ghost use Rattle.update.specs.code.Update.{flagged, oddCodeOn, oddTaken, roundLotOn, oddLotOn, makerQuoteOn, tradingStatusOn};
 ghost use Rattle.page.specs.Layout.{slotLength, pageLength, pageLot, keptEntries};
 ghost use Rattle.text.specs.Form.{symbolLength};
@@ -188,7 +187,7 @@ pub fn finra(page: &mut [u8], condition: u8) -> u8
     publication::renew(page)
 }
 
-/// Empties a page: no quotes, six entries of none, no halt. Symbol, round lot and primary letter stay.
+/// Empties a page: no quotes, six entries of none, no halt. Symbol, round lot, primary letter and hints stay.
 pub fn empty(page: &mut [u8])
     requires { ⌜ length (now page) ≡ pageLength ⌝ }
     ensures { λ _. ⌜ now (page .exit) ≡ emptied (now (page .entry)) ⌝ }
@@ -197,15 +196,16 @@ pub fn empty(page: &mut [u8])
     makers::clear(page, Page::SLOTS, Page::LEN);
 }
 
-/// Lists a symbol on a page: its 11 bytes, its round lot and its primary letter, no quotes and six entries of none, trading.
+/// Lists a symbol on a page: its 11 bytes, its round lot and its primary letter, no hints, no quotes and six entries of none, trading.
 pub fn list(page: &mut [u8], symbol: &[u8], lot: u8, primary: u8)
     requires { ⌜ (length (now page) ≡ pageLength) × (length (now symbol) ≡ symbolLength) ⌝ }
-    ensures { λ _. ⌜ now (page .exit) ≡ blankPage (now (symbol .entry) ++ (lot ∷ primary ∷ [])) ⌝ }
+    ensures { λ _. ⌜ now (page .exit) ≡ blankPage (newHead (now (symbol .entry)) lot primary) ⌝ }
 {
     field::put64(page, Page::SYMBOL, field::get64(symbol, 0));
     field::put16(page, Page::SYMBOL + 8, field::get16(symbol, 8));
     field::put8(page, Page::SYMBOL + 10, field::get8(symbol, 10));
     field::put8(page, Page::LOT, lot);
     field::put8(page, Page::PRIMARY, primary);
+    makers::clear(page, Page::HINTS, Page::HEAD);
     empty(page);
 }

@@ -8,8 +8,8 @@ use Rattle.lists.specs.Lists.{upper}
 use Rattle.message.specs.Message.{symbolOf, partsOf}
 use Rattle.update.specs.Parts.{knownOf}
 use Rattle.message.proofs.SpokenLaws.{shaped}
-use Rattle.opening.specs.Opening.{pagesIn}
-use Rattle.work.specs.Work.{findReading, codeOn, messageOn, messagesOn}
+use Rattle.opening.specs.Opening.{readingFor}
+use Rattle.work.specs.Work.{codeOn, messageOn, messagesOn}
 use Rattle.opening.proofs.OpeningLaws.{Sound}
 use Rattle.opening.proofs.PageLaws.{OpeningKept, opening-none, opening-then, kept-sound}
 use Rattle.work.proofs.PartLaws.{parts-kept}
@@ -18,7 +18,7 @@ use Rattle.work.proofs.PartLaws.{parts-kept}
 
 module _ (n letter : ℕ) (u : upper letter ≡ true) where
   pub message-kept : (m : List ℕ) (b : List ℕ) → Sound n b → OpeningKept b (messageOn letter m b)
-  message-kept m b sd = parts-kept n (partsOf (codeOn letter m b) m) b sd (shaped (knownOf (findReading (symbolOf m) (pagesIn b))) letter m u)
+  message-kept m b sd = parts-kept n (partsOf (codeOn letter m b) m) b sd (shaped (knownOf (readingFor b (symbolOf m))) letter m u)
 
   pub messages-kept : (ms : List (List ℕ)) (b : List ℕ) → Sound n b → OpeningKept b (messagesOn letter ms b)
   unfolding messagesOn

@@ -19,7 +19,7 @@ use Rattle.update.proofs.EntryLaws.{Kept}
 use Rattle.update.proofs.SlotLaws.{round-kept, round-reads, levels-for-good, odd-kept, odd-reads}
 use Rattle.update.proofs.MakerLaws.{maker-kept, maker-reads, finra-kept, finra-reads}
 use Rattle.update.proofs.StatusLaws.{status-kept, status-reads}
-use Rattle.opening.specs.Opening.{countOf, pageAt, pagesIn}
+use Rattle.opening.specs.Opening.{countOf, pageAt, pagesIn, firstPlace, pagePlace}
 use Rattle.work.specs.Work.{partOn, partsOn}
 use Rattle.opening.proofs.OpeningLaws.{Sound, length-page, bytes-page}
 use Rattle.opening.proofs.PageLaws.{OpeningKept, opening-none, opening-then, kept-sound, on-kept, on-reads, each-kept, each-reads}
@@ -53,37 +53,37 @@ pub record PartDone (r : Part) (b b′ : List ℕ) : Type 0 where
   pub pages : pagesIn b′ ≡ partReading r (pagesIn b)
   pub kept : OpeningKept b b′
 
--- in a sound book of bytes
-pub part-done : (n : ℕ) (r : Part) (b : List ℕ) → Sound n b → Bytes b → PartGood r → PartDone r b (partOn r b)
+-- in a sound book of bytes where each symbol's page is the first that has it
+pub part-done : (n : ℕ) (r : Part) (b : List ℕ) → Sound n b → Bytes b → ((s : ℕ) → pagePlace b s ≡ firstPlace b s) → PartGood r → PartDone r b (partOn r b)
 unfolding partOn partReading
-part-done n (roundPart s l q) b sd y (u, f) =
+part-done n (roundPart s l q) b sd y one (u, f) =
     let keeps : (p : List ℕ) → length p ≡ pageLength → Kept p (roundOn l q p) = λ p w. round-kept p w l u q in
     record {
-      pages = on-reads n b sd s (roundOn l q) keeps (roundReading l q) (λ k x. round-reads (pageAt b k) (length-page n b sd k (omega (arith, sd .count))) l u q (bytes-page b k y) f);
+      pages = on-reads n b sd s (roundOn l q) keeps (one s) (roundReading l q) (λ k x. round-reads (pageAt b k) (length-page n b sd k (omega (arith, sd .count))) l u q (bytes-page b k y) f);
       kept = on-kept n b sd s (roundOn l q) keeps;
     }
-part-done n (oddPart s l o) b sd y (u, f) =
+part-done n (oddPart s l o) b sd y one (u, f) =
     let keeps : (p : List ℕ) → length p ≡ pageLength → Kept p (oddOnPage l o p) = λ p w. odd-kept p w l u o in
     let wide : (k : ℕ) → k < countOf b → length (pageAt b k) ≡ pageLength = λ k x. length-page n b sd k (omega (arith, sd .count)) in
     record {
-      pages = on-reads n b sd s (oddOnPage l o) keeps (oddReading l o)
+      pages = on-reads n b sd s (oddOnPage l o) keeps (one s) (oddReading l o)
           (λ k x. odd-reads (pageAt b k) (wide k x) l u o f (levels-for-good (pageAt b k) (wide k x) (bytes-page b k y) l));
       kept = on-kept n b sd s (oddOnPage l o) keeps;
     }
-part-done n (makerPart s m q) b sd y (i, f, c) =
+part-done n (makerPart s m q) b sd y one (i, f, c) =
     let keeps : (p : List ℕ) → length p ≡ pageLength → Kept p (makerOn m q p) = λ p w. maker-kept m q p w in
     record {
-      pages = on-reads n b sd s (makerOn m q) keeps (makerReading m q) (λ k x. maker-reads m q (pageAt b k) (length-page n b sd k (omega (arith, sd .count))) (bytes-page b k y) i f c);
+      pages = on-reads n b sd s (makerOn m q) keeps (one s) (makerReading m q) (λ k x. maker-reads m q (pageAt b k) (length-page n b sd k (omega (arith, sd .count))) (bytes-page b k y) i f c);
       kept = on-kept n b sd s (makerOn m q) keeps;
     }
-part-done n (finraPart c) b sd y s =
+part-done n (finraPart c) b sd y one s =
     record {
       pages = each-reads n (finraOn c) (λ p w. finra-kept c p w) b sd (finraReading c) (λ p w. finra-reads c p w s);
       kept = each-kept n (finraOn c) (λ p w. finra-kept c p w) b sd;
     }
-part-done n (statusPart s x) b sd y h =
+part-done n (statusPart s x) b sd y one h =
     let keeps : (p : List ℕ) → length p ≡ pageLength → Kept p (statusOn x p) = λ p w. status-kept x p w in
     record {
-      pages = on-reads n b sd s (statusOn x) keeps (statusReading x) (λ k z. status-reads x (pageAt b k) (length-page n b sd k (omega (arith, sd .count))) h);
+      pages = on-reads n b sd s (statusOn x) keeps (one s) (statusReading x) (λ k z. status-reads x (pageAt b k) (length-page n b sd k (omega (arith, sd .count))) h);
       kept = on-kept n b sd s (statusOn x) keeps;
     }

@@ -1,14 +1,14 @@
--- The page of a symbol, as a search finds it: what is read there is what `findReading` finds, so a message is judged and a symbol read by that page alone.
+-- The page of a symbol: a message is judged and a symbol read by that page alone, and where no symbol is listed twice it is what `findReading` finds.
 -- Assumes nothing.
-use Prim.Native.Nat.{ℕ, _<_}
+use Prim.Native.Nat.{ℕ, _+_, _≤_, _<_}
 use mathlib.Core.Path.{_≡_, refl, sym, ap, _∙_}
 use mathlib.Core.Bool.{true, false, cond}
 use mathlib.Core.List.{List, [], _∷_}
-use mathlib.Core.Option.{Option, none, some}
+use mathlib.Core.Option.{none, some}
 use native.Mathlib.Omega.{arith}
 use lib.Dec.{eqb}
 use lib.ListN.{length}
-use borrow.Author.Tests.{eq-eqb}
+use Rattle.field.specs.Field.{be, part, field}
 use Rattle.field.proofs.Laws.{splice-part}
 use Rattle.lists.specs.declared.Found.{Found}
 use Rattle.lists.specs.declared.Found.the-variants.{At, Nothing}
@@ -16,15 +16,16 @@ use Rattle.lists.proofs.Tests.{Cut, equal, apart, cut}
 use Rattle.message.specs.Message.{symbolOf, codeOf}
 use Rattle.update.specs.Parts.{Reading, readingOf, knownOf}
 use Rattle.update.proofs.TableLaws.{cell-order}
-use Rattle.update.proofs.SearchLaws.{foundBy, isAt, first-same, first-is, firstBy, first-by}
-use Rattle.update.proofs.EntryLaws.{Kept, kept-symbol}
+use Rattle.update.proofs.SearchLaws.{foundBy, isAt, firstBy, first-by}
+use Rattle.update.proofs.EntryLaws.{Kept}
 use Rattle.update.proofs.RefreshLaws.{splice-over}
 use Rattle.update.proofs.WorkLaws.{pageCode}
-use Rattle.opening.specs.Opening.{countOf, pageAt, setPage, pagesIn, pagePlace, onPage}
+use Rattle.opening.specs.Opening.{countOf, pageAt, setPage, pagesIn, firstPlace, bucketOf, hintOf, pagePlace, readingAt, readingFor, onPage}
 use Rattle.work.specs.Work.{isListed, listedOf, findReading, codeOn}
 use Rattle.opening.proofs.OpeningLaws.{Sound, page-room, length-page, bytes-page}
-use Rattle.opening.proofs.PageLaws.{OpeningKept, kept-count, place-hit, set-kept, set-same, set-other}
-use Rattle.page.specs.Layout.{pageLength, pageSymbol}
+use Rattle.opening.proofs.PageLaws.{OpeningKept, kept-count, place-hit, place-at, place-by, set-kept, set-same, set-other}
+use Rattle.text.specs.Form.{symbolLength}
+use Rattle.page.specs.Layout.{symbolAt, hintsAt, headLength, pageLength}
 use Rattle.opening.specs.Layout.{pageStart}
 
 -- ---- the search and the readings
@@ -40,46 +41,46 @@ listed-is s [] = refl
 listed-is s (r ∷ rs) = ap (cond (eqb (r .symbol) s) true) (listed-is s rs)
 
 module _ (b : List ℕ) (s : ℕ) where
-  -- the reading of a symbol is that of the page that is found
-  pub find-page : findReading s (pagesIn b) ≡ foundBy (λ k. some (readingOf (pageAt b k))) none (pagePlace b s)
-  unfolding pagesIn pagePlace readingOf
-  find-page = find-is s (pagesIn b) ∙ first-by (λ (r : Reading). eqb (r .symbol) s) (λ k. readingOf (pageAt b k)) some none (countOf b) 0
+  -- where the symbol's page is the first that has it, its reading is the first of the symbol
+  pub find-page : pagePlace b s ≡ firstPlace b s → readingFor b s ≡ findReading s (pagesIn b)
+  unfolding pagesIn firstPlace readingOf
+  find-page one =
+      ap (readingAt b) one ∙ go (firstPlace b s)
+      ∙ sym (find-is s (pagesIn b) ∙ first-by (λ (r : Reading). eqb (r .symbol) s) (λ k. readingOf (pageAt b k)) some none (countOf b) 0)
+    where
+      go : (r : Found) → readingAt b r ≡ foundBy (λ k. some (readingOf (pageAt b k))) none r
+      go (At k) = refl
+      go Nothing = refl
 
   -- a symbol is listed exactly if its page is found
   pub listed-at : isListed s (listedOf (pagesIn b)) ≡ isAt (pagePlace b s)
-  unfolding pagesIn pagePlace readingOf
-  listed-at = listed-is s (pagesIn b) ∙ first-by (λ (r : Reading). eqb (r .symbol) s) (λ k. readingOf (pageAt b k)) (λ r. true) false (countOf b) 0 ∙ go (pagePlace b s)
+  unfolding pagesIn firstPlace readingOf
+  listed-at =
+      listed-is s (pagesIn b) ∙ first-by (λ (r : Reading). eqb (r .symbol) s) (λ k. readingOf (pageAt b k)) (λ r. true) false (countOf b) 0 ∙ go (firstPlace b s) ∙ sym (place-at b s)
     where
       go : (r : Found) → foundBy (λ k. true) false r ≡ isAt r
       go (At k) = refl
       go Nothing = refl
-
-  -- page k is found exactly if it is the first counted page of the symbol
-  pub place-is : (k : ℕ) → k < countOf b → pageSymbol (pageAt b k) ≡ s → ((j : ℕ) → j < k → eqb (pageSymbol (pageAt b j)) s ≡ false) → pagePlace b s ≡ At k
-  unfolding pagePlace
-  place-is k h e f = first-is (λ j. eqb (pageSymbol (pageAt b j)) s) (countOf b) 0 k (omega arith) (omega arith) (eq-eqb (pageSymbol (pageAt b k)) s e) (λ j l u. f j u)
 
 -- ---- a message is judged by its page alone
 
 module _ (letter : ℕ) (m : List ℕ) (b : List ℕ) where
   pub code-at : (k : ℕ) → pagePlace b (symbolOf m) ≡ At k → codeOn letter m b ≡ pageCode letter m (pageAt b k)
   unfolding knownOf
-  code-at k e =
-      ap (λ (r : Option Reading). codeOf (knownOf r) letter m) (find-page b (symbolOf m) ∙ ap (foundBy (λ j. some (readingOf (pageAt b j))) none) e)
+  code-at k e = ap (λ (r : Found). codeOf (knownOf (readingAt b r)) letter m) e
 
   -- and one whose symbol is not listed by nothing
   pub code-nowhere : pagePlace b (symbolOf m) ≡ Nothing → codeOn letter m b ≡ codeOf (knownOf none) letter m
-  code-nowhere e =
-      ap (λ (r : Option Reading). codeOf (knownOf r) letter m) (find-page b (symbolOf m) ∙ ap (foundBy (λ j. some (readingOf (pageAt b j))) none) e)
+  code-nowhere e = ap (λ (r : Found). codeOf (knownOf (readingAt b r)) letter m) e
 
 -- ---- a page changed twice
 
 module _ (n : ℕ) (b : List ℕ) (sd : Sound n b) where
-  -- where every page's symbol stays, a search finds the same page
-  pub place-same : (b′ : List ℕ) (s : ℕ) → OpeningKept b b′ → ((j : ℕ) → j < countOf b → pageSymbol (pageAt b′ j) ≡ pageSymbol (pageAt b j)) → pagePlace b′ s ≡ pagePlace b s
-  unfolding pagePlace
+  -- where every page's head stays, a symbol's page stays where it is
+  pub place-same : (b′ : List ℕ) (s : ℕ) → OpeningKept b b′ → ((j at m : ℕ) → j < n → at + m ≤ headLength → part (pageAt b′ j) at m ≡ part (pageAt b j) at m) → pagePlace b′ s ≡ pagePlace b s
+  unfolding hintOf field
   place-same b′ s k h =
-      rw (kept-count b b′ k) (first-same (λ j. eqb (pageSymbol (pageAt b′ j)) s) (λ j. eqb (pageSymbol (pageAt b j)) s) (countOf b) 0 (λ j l u. ap (λ (z : ℕ). eqb z s) (h j (omega arith))))
+      place-by b b′ s (kept-count b b′ k) (λ j l. ap be (h j symbolAt symbolLength (omega (arith, sd .count)) (omega arith))) (ap be (h 0 (hintsAt + bucketOf s) 1 (omega (arith, sd .low)) (omega arith)))
 
   -- the page that stands there written again: nothing changed
   pub set-none : (k : ℕ) → k < n → setPage b k (pageAt b k) ≡ b
@@ -99,14 +100,14 @@ module _ (n : ℕ) (b : List ℕ) (sd : Sound n b) where
 
     module _ (p : List ℕ) (kept : Kept (pageAt b k) p) where
       after-set : pagePlace (setPage b k p) s ≡ At k
-      after-set = place-same (setPage b k p) s (set-kept n b sd k below p (kept .size) (λ y. kept .bytes (bytes-page b k y))) symbols ∙ e
+      after-set = place-same (setPage b k p) s (set-kept n b sd k below p (kept .size) (λ y. kept .bytes (bytes-page b k y))) heads ∙ e
         where
-          symbols : (j : ℕ) → j < countOf b → pageSymbol (pageAt (setPage b k p) j) ≡ pageSymbol (pageAt b j)
-          symbols j h = go (cut k j)
+          heads : (j at m : ℕ) → j < n → at + m ≤ headLength → part (pageAt (setPage b k p) j) at m ≡ part (pageAt b j) at m
+          heads j at m h l = go (cut k j)
             where
-              go : Cut k j → pageSymbol (pageAt (setPage b k p) j) ≡ pageSymbol (pageAt b j)
-              go (equal t q) = rw (sym q) (ap (λ (z : List ℕ). pageSymbol z) (set-same n b sd k below p (kept .size)) ∙ kept-symbol (pageAt b k) p kept)
-              go (apart t q) = ap (λ (z : List ℕ). pageSymbol z) (set-other n b sd k below p (kept .size) j q)
+              go : Cut k j → part (pageAt (setPage b k p) j) at m ≡ part (pageAt b j) at m
+              go (equal t q) = rw (sym q) (ap (λ (z : List ℕ). part z at m) (set-same n b sd k below p (kept .size)) ∙ kept .head at m l)
+              go (apart t q) = ap (λ (z : List ℕ). part z at m) (set-other n b sd k below p (kept .size) j q)
 
       over : (q : List ℕ) → length q ≡ pageLength → setPage (setPage b k p) k q ≡ setPage b k q
       unfolding setPage

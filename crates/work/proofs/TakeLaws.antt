@@ -14,8 +14,8 @@ use Rattle.message.specs.Message.{symbolOf, messageOf, Known, codeBy, codeOf}
 use Rattle.update.specs.Parts.{knownOf}
 use Rattle.update.proofs.WorkLaws.{pageCode, pageAfter}
 use Rattle.update.proofs.UpdateLaws.{told, updatedBy, update-is}
-use Rattle.opening.specs.Opening.{pageAt, setPage, pagesIn, pagePlace}
-use Rattle.work.specs.Work.{findReading, flagsOf, publications, codeOn, messageOn}
+use Rattle.opening.specs.Opening.{pageAt, setPage, pagesIn, pagePlace, readingFor}
+use Rattle.work.specs.Work.{flagsOf, publications, codeOn, messageOn}
 use Rattle.opening.proofs.OpeningLaws.{Sound}
 use Rattle.work.proofs.PlaceLaws.{code-at, code-nowhere, on-at, on-nowhere}
 use Rattle.work.proofs.WorkLaws.{saidOn, message-on}
@@ -134,7 +134,7 @@ module _ (n : ℕ) (b : List ℕ) (sd : Sound n b) (letter : ℕ) (u : upper let
   unfolding codeOf
   worked-else h =
       record {
-        code-is = code-else (knownOf (findReading (symbolOf m) (pagesIn b))) (messageOf letter m) h;
+        code-is = code-else (knownOf (readingFor b (symbolOf m))) (messageOf letter m) h;
         flags-are = message-flags n b sd letter u m;
         book-is = message-on n b sd letter u m;
       }

@@ -20,8 +20,8 @@ use Rattle.update.proofs.EntryLaws.{Kept}
 use Rattle.update.proofs.SlotLaws.{round-kept, odd-kept}
 use Rattle.message.proofs.SpokenLaws.{Spoken, refused, idle, finra, round, odd, maker, status, spoken, parts-refused, parts-whole, parts-round, parts-odd, parts-maker, parts-status}
 use Rattle.update.proofs.WorkLaws.{pageCode, pageAfter}
-use Rattle.opening.specs.Opening.{symbolsOf, pageAt, setPage, pagesIn, pagePlace, onPage, eachPage}
-use Rattle.work.specs.Work.{findReading, partOn, partsOn, codeOn, messageOn}
+use Rattle.opening.specs.Opening.{symbolsOf, pageAt, setPage, readingFor, pagePlace, onPage, eachPage}
+use Rattle.work.specs.Work.{partOn, partsOn, codeOn, messageOn}
 use Rattle.opening.proofs.OpeningLaws.{Sound, length-page}
 use Rattle.opening.proofs.PageLaws.{place-hit}
 use Rattle.work.proofs.PlaceLaws.{code-at, set-none, on-at, on-twice, on-nowhere}
@@ -98,7 +98,7 @@ module _ (n : ℕ) (b : List ℕ) (sd : Sound n b) (s : ℕ) (code : List ℕ �
 
 module _ (n : ℕ) (b : List ℕ) (sd : Sound n b) (letter : ℕ) (u : upper letter ≡ true) (m : List ℕ) where
   abbrev e : Known
-  e = knownOf (findReading (symbolOf m) (pagesIn b))
+  e = knownOf (readingFor b (symbolOf m))
 
   message-by : (c : ℕ) → ((k : ℕ) → pagePlace b (symbolOf m) ≡ At k → pageCode letter m (pageAt b k) ≡ c)
       → (x : Message) → codeBy e letter m x ≡ c → Spoken letter m x → partsOn (partsOf c m) b ≡ saidOn letter m b x

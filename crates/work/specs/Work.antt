@@ -10,7 +10,7 @@ use Rattle.message.specs.Message.{symbolOf, codeOf, Part, roundPart, oddPart, m
 use Rattle.entries.specs.Publication.{changeFlags}
 use Rattle.update.specs.Parts.{Reading, knownOf, roundOn, oddOnPage, makerOn, finraOn, statusOn}
 use Rattle.told.specs.declared.Told.{Told}
-use Rattle.opening.specs.Opening.{symbolsOf, pagesIn, onPage, eachPage}
+use Rattle.opening.specs.Opening.{symbolsOf, pagesIn, readingFor, onPage, eachPage}
 
 -- a listed symbol with its round lot and, by document 02, T-10, its primary letter
 pub record Listed : Type 0 where
@@ -63,7 +63,7 @@ partsOn (r ∷ rs) b = partsOn rs (partOn r b)
 
 -- the code of a message on a line with that letter, and the book after it
 abbrev pub codeOn : ℕ → List ℕ → List ℕ → ℕ
-codeOn letter m b = codeOf (knownOf (findReading (symbolOf m) (pagesIn b))) letter m
+codeOn letter m b = codeOf (knownOf (readingFor b (symbolOf m))) letter m
 
 abbrev pub messageOn : ℕ → List ℕ → List ℕ → List ℕ
 messageOn letter m b = partsOn (partsOf (codeOn letter m b) m) b

@@ -9,15 +9,15 @@ const FIRST_PAGE: usize = 11;
 /// Where a page has what.
 const LOT: usize = 11;
 const PRIMARY: usize = 12;
-const SLOTS: usize = 109;
+const SLOTS: usize = 360;
 const SLOT_LEN: usize = 201;
 const LEVELS: usize = 41;
 const SIDE_LEN: usize = 80;
-const CELLS: usize = 5335;
+const CELLS: usize = 5586;
 const CELL_LEN: usize = 45;
 const MAKERS: usize = 16;
-const STATUS: usize = 6055;
-const PAGE_LEN: usize = 6056;
+const STATUS: usize = 6306;
+const PAGE_LEN: usize = 6307;
 
 /// Bid is 0, offer is 1.
 pub const SIDE_NAMES: [&str; 2] = ["bid", "offer"];

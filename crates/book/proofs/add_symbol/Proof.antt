@@ -43,12 +43,20 @@ cast-list c = omega (arith, counted (c .before .before .before .before .before) 
 list-requires : tie.Need-list-requires
 list-requires c κs = (omega (arith, counted (c .before .before .before .before .before) .room), counted (c .before .before .before .before .before) .eleven)
 
+put-hint-requires : tie.Need-put-hint-requires
+put-hint-requires c κs =
+    let p = c .before .before .before .before .before .before .before in
+    let g = p .before .before in
+    (omega (arith, counted g .first), counted g .eleven)
+
 returns-2 : tie.Need-returns-2
 returns-2 c =
-    let p = c .before .before .before .before .before .before in
+    let h = c .before .before in
+    let m = h .before .before .before .before in
+    let p = m .before .before .before .before in
     let g = p .before .before in
     let n = g .before .before in
-    carried-out _ _ refl _ (sym (n .if1 .left) ∙ n .before .judge-symbol .ensures) (add-after _ _ _ _ _ _ _ (counted g .eleven) (g .get8 .ensures) (p .put8 .ensures) (c .before .before .list .ensures))
+    carried-out _ _ refl _ (sym (n .if1 .left) ∙ n .before .judge-symbol .ensures) (add-after _ _ _ _ _ _ _ _ _ (counted g .eleven) (g .get8 .ensures) (p .put8 .ensures) (m .list .ensures) refl (h .put-hint .ensures))
 
 pub add-symbol-spec : {M : Type 1} → statement M
 add-symbol-spec =
@@ -69,5 +77,6 @@ add-symbol-spec =
     part-list-end
     cast-list
     list-requires
+    put-hint-requires
     (λ c. search needs)
     returns-2)

@@ -7,17 +7,11 @@ use Rattle.field.specs.Field.{be}
 use Rattle.venueform.specs.declared.Layout.{Layout}
 use Rattle.venueform.specs.declared.Layout.the-variants.{Quote, Other}
 use Rattle.venueform.specs.Form.{layoutOf, symbolIn}
-use Rattle.opening.specs.Opening.{pagesIn}
-use Rattle.work.specs.Work.{listedOf}
-use Rattle.calls.specs.Call.{listedLot}
-
--- a symbol's lot in the book
-abbrev pub lotIn : List ℕ → ℕ → ℕ
-lotIn b = listedLot (listedOf (pagesIn b))
+use Rattle.calls.specs.Call.{lotOn}
 
 -- an odd-lot quote has no size to divide
 abbrev pub lotBy : List ℕ → List ℕ → Layout → ℕ
-lotBy b m (Quote f) = cond (f .round) (lotIn b (be (symbolIn f m))) 0
+lotBy b m (Quote f) = cond (f .round) (lotOn b (be (symbolIn f m))) 0
 lotBy b m Other = 0
 
 unfoldable pub lotFor : List ℕ → List ℕ → ℕ

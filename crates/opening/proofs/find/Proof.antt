@@ -1,50 +1,42 @@
-use Prim.Native.Nat.{_+_, _*_, _≤_, _<_}
-use mathlib.Core.Path.{_≡_, refl, sym, ap, _∙_}
+use denote.Ref.{now}
+use Prim.Native.Nat.{_+_, _*_, _<_}
+use mathlib.Core.Path.{_≡_, sym, ap, _∙_}
 use native.Mathlib.Omega.{arith}
-use lib.ListN.{length}
 use Rattle.field.specs.Field.{be}
-use Rattle.opening.specs.Opening.{pagePlace}
-use Rattle.opening.proofs.ReadLaws.{opening-room, counted-room, symbol-number, page-symbol, none-counted, has-place, lacks-place}
+use Rattle.opening.specs.Opening.{bucketOf, hintOf}
+use Rattle.opening.proofs.ReadLaws.{opening-room, first-room, symbol-number, bucket-high, hint-read, hint-holds, hint-fails}
 use borrow.Author.Needs.{needs}
 use Rattle.opening.proofs.find.Statement.{statement}
 use Rattle.opening.proofs.find.Tie as tie
-use Rattle.page.specs.Layout.{pageLength}
-use Rattle.opening.specs.Layout.{pageStart, symbolsMost}
 
 get8-requires : tie.Need-get8-requires
 get8-requires c κs = omega (arith, opening-room _ (c .before .before .pre .0))
 
-returns : tie.Need-returns
-returns c = none-counted _ _ _ (c .before .get8 .ensures) (c .if1 .taken)
-
-room : (c : tie.After-place) → (pageStart (c .place .result) + pageLength ≤ length (c .before .before .before .before .before .before .before .before .args .book .now)) × (c .place .result < symbolsMost)
-room c =
-    let i = c .before .before .before .before in
-    let g = i .before in
-    counted-room _ _ _ (g .before .before .before .pre .0) (g .get8 .ensures) (omega (arith, c .place .ensures .0, i .if1 .left))
-
-mul-has-symbol : tie.Need-mul-has-symbol
-mul-has-symbol c = omega (arith, room c .1)
-
-add-has-symbol : tie.Need-add-has-symbol
-add-has-symbol c = omega (arith, room c .1)
-
-has-symbol-requires : tie.Need-has-symbol-requires
-has-symbol-requires c κs = omega (arith, room c .0)
+get8-requires-3 : tie.Need-get8-requires-3
+get8-requires-3 c κs = omega (arith, c .hint-at .ensures .1, first-room _ (c .before .before .before .before .before .before .before .pre .0))
 
 -- the symbol's bytes as one number
-number : (c : tie.After-get82) → be (c .before .before .before .before .before .before .before .args .symbol .now) ≡ c .before .before .get64 .result * 16777216 + (c .before .get16 .result * 256 + c .get82 .result)
-number c = symbol-number _ _ _ _ (c .before .before .before .before .before .before .before .pre .1) (c .before .before .get64 .ensures) (c .before .get16 .ensures) (c .get82 .ensures)
+number : (c : tie.After-get82) → be (c .before .before .before .before .before .before .args .symbol .now) ≡ c .before .before .get64 .result * 16777216 + (c .before .get16 .result * 256 + c .get82 .result)
+number c = symbol-number _ _ _ _ (c .before .before .before .before .before .before .pre .1) (c .before .before .get64 .ensures) (c .before .get16 .ensures) (c .get82 .ensures)
+
+-- the hint is that of its bucket
+hint : (c : tie.After-get83) → c .get83 .result ≡ hintOf (c .before .before .before .before .before .before .before .before .args .book .now) (be (c .before .before .before .before .before .before .before .before .args .symbol .now))
+hint c =
+    let l = c .before .before in
+    let m : l .before .get16 .result < 65536 = search needs in
+    let o : l .get82 .result < 256 = search needs in
+    hint-read _ _ _ _ _ (ap bucketOf (number l) ∙ bucket-high _ _ _ m o) (c .before .hint-at .ensures .0) (c .get83 .ensures)
+
+returns : tie.Need-returns
+returns c =
+    let h = c .before .before in
+    hint-holds _ _ _ _ (sym (number (h .before .before))) (hint h) _ (c .before .is-place .ensures) (c .if1 .taken)
 
 returns-2 : tie.Need-returns-2
 returns-2 c =
-    let p = c .before .before in
-    has-place _ _ _ _ (page-symbol _ _ _ _ _ _ refl (c .before .has-symbol .ensures) (c .if2 .taken)) (p .place .ensures .1 ∙ ap (pagePlace _) (sym (number (p .before))))
-
-returns-3 : tie.Need-returns-3
-returns-3 c =
-    let p = c .before .before in
-    lacks-place _ _ _ _ (page-symbol _ _ _ _ _ _ refl (c .before .has-symbol .ensures) (c .if2 .left)) (p .place .ensures .1 ∙ ap (pagePlace _) (sym (number (p .before))))
+    let i = c .before in
+    let h = i .before .before in
+    hint-fails _ _ _ _ (sym (number (h .before .before))) (hint h) _ (i .before .is-place .ensures) _ (i .if1 .left) (c .first .ensures)
 
 pub find-spec : {M : Type 1} → statement M
 find-spec =
@@ -52,14 +44,13 @@ find-spec =
     (tie.spec
     get8-requires
     (λ c. search needs)
-    returns
     (λ c κs. search needs)
     (λ c κs. search needs)
     (λ c κs. search needs)
+    (λ c κs. search needs)
+    get8-requires-3
     (λ c. search needs)
     (λ c κs. search needs)
-    mul-has-symbol
-    add-has-symbol
-    has-symbol-requires
-    returns-2
-    returns-3)
+    returns
+    (λ c κs. search needs)
+    returns-2)

@@ -5,12 +5,12 @@ use std::ops::Range;
 use second::generate::Random;
 
 use super::layout::{
-    in_page, line, moved, page, CELLS, CELL_LEN, CONTENTS, COUNT, ENTRIES, LEVELS, LEVEL_LEN,
-    LINES, N, OPENING_LEN, PAGE_LEN, PRIMARY, SLOTS, SLOT_LEN, STATUS, SYMBOL,
+    in_page, line, moved, page, CELLS, CELL_LEN, CONTENTS, COUNT, ENTRIES, HINTS, LEVELS,
+    LEVEL_LEN, LINES, N, OPENING_LEN, PAGE_LEN, PRIMARY, SLOTS, SLOT_LEN, STATUS, SYMBOL,
 };
 
 /// Damages a book: its opening, its length, its lines, its symbols, its pages, their entries, times or
-/// statuses alone, or all of it.
+/// statuses alone, its hints, or all of it.
 pub fn damage(random: &mut Random, memory: &mut Vec<u8>) {
     let pages = (memory.len() - OPENING_LEN) / PAGE_LEN;
     let at = random.below(pages);
@@ -21,7 +21,7 @@ pub fn damage(random: &mut Random, memory: &mut Vec<u8>) {
         }
         1 => {
             let lengths = [
-                0, 1, 8, 15, 846, 847, 848, 975, 976, 977, 7031, 7032, 7033, 13088,
+                0, 1, 8, 15, 846, 847, 848, 975, 976, 977, 7282, 7283, 7284, 13590,
             ];
             memory.resize(random.pick(&lengths), 0x51);
         }
@@ -60,6 +60,12 @@ pub fn damage(random: &mut Random, memory: &mut Vec<u8>) {
                 let any = random.byte();
                 page[PRIMARY] = random.usually(50, &[page[PRIMARY]], &[b'N', b'D', any]);
                 page[STATUS] = random.usually(50, b"H", &[0, b'T', b'h', any]);
+            }
+        }
+        13 => {
+            for hint in &mut memory[in_page(0, HINTS)] {
+                let (page, any) = (random.below(pages) as u8, random.byte());
+                *hint = random.usually(70, &[page], &[any]);
             }
         }
         _ => shuffle(random, &mut memory[page(at)]),

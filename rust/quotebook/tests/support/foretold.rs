@@ -7,8 +7,8 @@ use second::{build, Call, Converted, Protected, Report, SnapshotSize, Tried};
 
 use super::guarded::Guarded;
 use super::layout::{
-    in_page, is_book, is_letter, line, listed_page, page, record, ALLOWANCE, CHARGES, COUNT, DAY,
-    ENTRIES, LINES, LOT, N, OPENING_LEN, PAGE_LEN, PRIMARY, SHARES, SYMBOL,
+    hint, in_page, is_book, is_letter, line, listed_page, page, record, ALLOWANCE, CHARGES, COUNT,
+    DAY, ENTRIES, HINTS, LINES, LOT, N, OPENING_LEN, PAGE_LEN, PRIMARY, SHARES, SYMBOL,
 };
 use super::reading::Reading;
 
@@ -356,7 +356,21 @@ impl Left<'_> {
         ensure(added[SYMBOL] == *symbol, "the symbol is not written")?;
         ensure(u32::from(added[LOT]) == round_lot, "the lot is not written")?;
         ensure(added[PRIMARY] == primary, "the letter is not written")?;
-        ensure(is_blank(added), "the page is not empty")
+        ensure(is_blank(added), "the page is not empty")?;
+        // No hints on the page itself; that of the symbol, on the first page, tells where it is.
+        let mut hinted = self.before.to_vec();
+        hinted[in_page(count, HINTS)].fill(0);
+        hinted[hint(symbol)] = count as u8;
+        self.check_hints(&hinted)
+    }
+
+    /// The hints of every page are those of another book.
+    fn check_hints(&self, other: &[u8]) -> Result<(), String> {
+        for at in 0..usize::from(self.after[N]) {
+            let same = self.after[in_page(at, HINTS)] == other[in_page(at, HINTS)];
+            ensure(same, format!("the hints of page {at}"))?;
+        }
+        Ok(())
     }
 
     fn check_line(&self, at: usize, letter: u8, expected: (u32, u64)) -> Result<(), String> {
@@ -373,7 +387,7 @@ impl Left<'_> {
         for at in 0..usize::from(self.after[N]) {
             ensure(is_blank(&self.after[page(at)]), format!("page {at} stands"))?;
         }
-        Ok(())
+        self.check_hints(self.before)
     }
 
     fn check_charges_kept(&self) -> Result<(), String> {
@@ -468,7 +482,8 @@ impl Left<'_> {
             let followed = pages.follow(message, answer[1], answer[2]);
             followed.map_err(|what| format!("message {i}: {what}"))?;
         }
-        pages.check(self.after)
+        pages.check(self.after)?;
+        self.check_hints(self.before)
     }
 }
 

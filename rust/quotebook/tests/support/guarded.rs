@@ -8,8 +8,8 @@ use quotebook::{lent, Number};
 use second::{build, Converted, Protected, QuoteBook, Report, SnapshotSize, Tried};
 
 use super::layout::{
-    self, byte, in_page, line, moved, page, ALLOWANCE, CHARGES, CONTENTS, COUNT, DAY, LINES, N,
-    OPENING_LEN,
+    self, byte, hint, in_page, line, moved, page, ALLOWANCE, CHARGES, CONTENTS, COUNT, DAY, LINES,
+    N, OPENING_LEN,
 };
 
 /// Answered instead of the call's number if memory was written that may not be. No call of a book
@@ -183,7 +183,7 @@ impl QuoteBook for Guarded {
             return self.settle(number, &[], kept);
         }
         let added = page(usize::from(self.before[COUNT]));
-        self.settle(number, &[byte(COUNT), added], kept)
+        self.settle(number, &[byte(COUNT), added, byte(hint(symbol))], kept)
     }
 
     fn open_line(&mut self, line_number: u32, letter: u8) -> u8 {

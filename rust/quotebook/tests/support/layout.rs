@@ -13,25 +13,26 @@ pub const OPENING_LEN: usize = 976;
 pub const ALLOWANCE: usize = 847;
 pub const SHARES: usize = 848;
 pub const CHARGES: usize = 912;
-pub const PAGE_LEN: usize = 6056;
+pub const PAGE_LEN: usize = 6307;
 
-/// Within a page: the symbol, the round lot, the primary letter, the six entries, and all that
-/// follows the primary letter.
+/// Within a page: the symbol, the round lot, the primary letter, the hints (only those of the first
+/// page are used), the six entries, and all that follows the hints.
 pub const SYMBOL: Range<usize> = 0..11;
 pub const LOT: usize = 11;
 pub const PRIMARY: usize = 12;
-pub const ENTRIES: Range<usize> = 13..109;
-pub const CONTENTS: Range<usize> = 13..PAGE_LEN;
+pub const HINTS: Range<usize> = 13..264;
+pub const ENTRIES: Range<usize> = 264..360;
+pub const CONTENTS: Range<usize> = 264..PAGE_LEN;
 /// A slot for each letter: a quote, then four odd lot bids and four odd lot offers.
-pub const SLOTS: Range<usize> = 109..5335;
+pub const SLOTS: Range<usize> = 360..5586;
 pub const SLOT_LEN: usize = 201;
 pub const LEVELS: usize = 41;
 pub const LEVEL_LEN: usize = 20;
 /// A cell for each of sixteen makers: the name, then a quote.
-pub const CELLS: Range<usize> = 5335..6055;
+pub const CELLS: Range<usize> = 5586..6306;
 pub const CELL_LEN: usize = 45;
 /// H while the symbol is halted.
-pub const STATUS: usize = 6055;
+pub const STATUS: usize = 6306;
 
 /// One byte of the opening.
 pub fn byte(at: usize) -> Range<usize> {
@@ -96,10 +97,17 @@ pub fn is_book(memory: &[u8]) -> bool {
         && memory.len() == OPENING_LEN + PAGE_LEN * usize::from(memory[N])
 }
 
-/// The first listed page of a symbol.
+/// Where the hint of a symbol stands in a book.
+pub fn hint(symbol: &[u8]) -> usize {
+    in_page(0, HINTS).start + (number(&symbol[..8]) % 251) as usize
+}
+
+/// The page of a symbol: the hinted one if it is listed and has the symbol, else the first that has it.
 pub fn listed_page(book: &[u8], symbol: &[u8]) -> Option<usize> {
     let listed = 0..usize::from(book[COUNT]);
-    listed
-        .into_iter()
-        .find(|&at| &book[in_page(at, SYMBOL)] == symbol)
+    let has = |&at: &usize| &book[in_page(at, SYMBOL)] == symbol;
+    let hinted = symbol.get(..8).map(|_| usize::from(book[hint(symbol)]));
+    hinted
+        .filter(|at| listed.contains(at) && has(at))
+        .or_else(|| listed.clone().find(has))
 }

@@ -5,21 +5,21 @@ use mathlib.Core.Bool.{Bool}
 use native.Mathlib.Omega.{arith}
 use lib.ListN.{length}
 use Rattle.lists.specs.Lists.{firstFrom}
-use Rattle.lists.proofs.Searches.{first-found, first-again}
-use Rattle.opening.specs.Opening.{pagePlace}
-use Rattle.opening.proofs.ReadLaws.{counted-room, page-symbol, hasSymbol, find-start, last-place, place-has}
+use Rattle.lists.proofs.Searches.{first-found, first-again, first-end}
+use Rattle.opening.specs.Opening.{firstPlace}
+use Rattle.opening.proofs.ReadLaws.{counted-room, page-symbol, hasSymbol, find-start}
 use borrow.Author.Needs.{needs}
-use Rattle.opening.proofs.place.Statement.{statement}
-use Rattle.opening.proofs.place.Tie as tie
+use Rattle.opening.proofs.first.Statement.{statement}
+use Rattle.opening.proofs.first.Tie as tie
 use Rattle.page.specs.Layout.{pageLength}
 use Rattle.opening.specs.Layout.{pageStart, symbolsMost}
 
 abbrev Inv-loop : tie.InvT-loop
-Inv-loop book last high middle low k₀ k =
-    (k ≤ last) × (firstFrom (hasSymbol book (high * 16777216 + (middle * 256 + low))) k (last + 1 - k) ≡ pagePlace book (high * 16777216 + (middle * 256 + low)))
+Inv-loop book count high middle low k₀ k =
+    (k ≤ count) × (firstFrom (hasSymbol book (high * 16777216 + (middle * 256 + low))) k (count - k) ≡ firstPlace book (high * 16777216 + (middle * 256 + low)))
 
 abbrev μ-loop : tie.MeasureT-loop
-μ-loop book last high middle low k₀ k = last - k
+μ-loop book count high middle low k₀ k = count - k
 
 loop-holds : tie.Need-loop-holds Inv-loop μ-loop
 loop-holds c = (search needs, find-start _ _ _ (c .before .pre .1))
@@ -43,22 +43,18 @@ has c t e = page-symbol _ _ _ _ _ _ refl (c .has-symbol .ensures) e
 returns : tie.Need-returns Inv-loop μ-loop
 returns c =
     let l = c .before .before in
-    let t = has (c .before) _ (c .if1 .taken) in
-    (search needs, place-has _ _ _ _ t (first-found _ _ _ _ (omega (arith, l .loop-test .taken)) (l .before .loop .inv .1) t))
+    first-found _ _ _ _ (l .loop-test .taken) (l .before .loop .inv .1) (has (c .before) _ (c .if1 .taken))
 
 loop-again : tie.Need-loop-again Inv-loop μ-loop
 loop-again c =
     let l = c .before .before in
-    (search needs, first-again _ _ _ _ (omega (arith, l .loop-test .taken)) (l .before .loop .inv .1) (has (c .before) _ (c .if1 .left)))
+    (search needs, first-again _ _ _ _ (l .loop-test .taken) (l .before .loop .inv .1) (has (c .before) _ (c .if1 .left)))
 
 returns-2 : tie.Need-returns-2 Inv-loop μ-loop
-returns-2 c =
-    let s = c .before .before .before in
-    let e : c .before .loop .k ≡ s .args .last = omega (arith, c .loop-test .left, c .before .loop .inv .0) in
-    (search needs, last-place _ _ _ _ (rw e at (c .before .loop .inv .1)))
+returns-2 c = first-end _ _ _ _ (c .loop-test .left) (c .before .loop .inv .1)
 
-pub place-spec : {M : Type 1} → statement M
-place-spec =
+pub first-spec : {M : Type 1} → statement M
+first-spec =
     tie.close
     (tie.spec
     Inv-loop
