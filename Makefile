@@ -10,13 +10,14 @@
 # make bench-shelf   measures shelves of books: 64 to 6,400 symbols, one thread and several
 # make shelf-mistakes   plants mistakes in the shelf, one at a time: its tests have to find each
 # make fuzz   compares library, engine and reviewer on a million random calls, and the writers: make fuzz CALLS=5000000 SEED=7
+# make damaged-pages   compares the entries of 200,000 damaged pages with a plain walk of every quote: make damaged-pages PAGES=1000000 SEED=7
 # make kills  kills a recording process a thousand times at random places and checks what is restored from its log: make kills KILLS=5000 SEED=7
 # make compare-definitions   has the prover compute the definitions on random lists with the second implementation's answers
 # make wrong-definitions   plants every wrong definition, not only those of the gate
 # make listing   prints the machine code that the tests look at
 # make counts   counts what docs/ASSURANCE.md tells
 
-.PHONY: demo test lib install reproduce bench bench-shelf shelf-mistakes command sample long-audit fuzz kills compare-definitions wrong-definitions listing counts
+.PHONY: demo test lib install reproduce bench bench-shelf shelf-mistakes command sample long-audit fuzz damaged-pages kills compare-definitions wrong-definitions listing counts
 
 PREFIX ?= /usr/local
 archive = target/staticlib/libquotebook.a
@@ -103,6 +104,10 @@ shelf-mistakes: $(archive)
 
 fuzz: $(archive)
 	@cargo run --release --offline --quiet --manifest-path rust/Cargo.toml -p quotebook --example fuzz -- $(CALLS) $(SEED)
+
+PAGES ?= 200000
+damaged-pages: $(archive)
+	@cargo run --release --offline --quiet --manifest-path rust/Cargo.toml -p quotebook --example pages -- $(PAGES) $(SEED)
 
 kills: $(archive)
 	@cargo run --release --offline --quiet --manifest-path rust/Cargo.toml -p quotebook --example kills -- $(KILLS) $(SEED)

@@ -29,12 +29,12 @@ extern "C" {
 
 /* The version of this header, 10000 * major + 100 * minor + patch. That of the linked library is qb_version(): compare the two where they
  * are installed apart. What may change from version to version is in docs/CHANGES.md. */
-#define QB_LIBRARY_VERSION 10200
+#define QB_LIBRARY_VERSION 10300
 
 /* Sizes in bytes. A book for n symbols has QB_OPENING_LEN + n * QB_PAGE_LEN. */
 enum {
     QB_OPENING_LEN = 976,
-    QB_PAGE_LEN = 6307,
+    QB_PAGE_LEN = 6723,
     QB_SYMBOL_LEN = 11,
     QB_BLOCK_MAX = 1000,     /* no block is longer */
     QB_RUN_MAX = 3600,       /* no run of blocks that a venue's block is converted to is longer */

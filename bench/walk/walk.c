@@ -1,9 +1,10 @@
 // The same walk in plain C, over the same bytes: the yardstick of walk.rs. Letters in order, both sides together, D with its makers' best at
-// its place, one odd cell for each letter and side, which ranks as T-07 says; what put the national leader ahead (T-08).
+// its place, one odd cell for each letter and side, which ranks as T-07 says; what put the national leader ahead (T-08). It looks at every quote; a
+// letter's side whose key is not its own has none.
 #include <stdint.h>
 #include <string.h>
 
-enum { SLOTS = 360, SLOT = 201, CELLS = 5586, CELL = 45, ENTRIES = 264, STATUS = 6306 };
+enum { SLOTS = 360, SLOT = 201, CELLS = 5586, CELL = 45, ENTRIES = 264, STATUS = 6306, KEYS = 6307, ROW = 104 };
 
 typedef struct {
     uint64_t price, time;
@@ -22,6 +23,12 @@ static inline uint64_t low64(const uint8_t *p) { uint64_t v; memcpy(&v, p, 8); r
 static inline uint32_t low32(const uint8_t *p) { uint32_t v; memcpy(&v, p, 4); return v; }
 
 static inline uint64_t rank(int bid, uint64_t price) { return bid ? price : 0 - price; }
+
+// the key of a price that counts: of a bid the price, at most 2^32 - 1, of an offer 2^32 less that
+static inline uint32_t key(int bid, uint64_t price) {
+    uint32_t k = price < UINT32_MAX ? price : UINT32_MAX;
+    return bid ? k : 0 - k;
+}
 
 static inline int admits(int bid, uint8_t c) {
     switch (c) {
@@ -43,11 +50,11 @@ static inline int ranks(int bid, uint8_t condition, uint32_t name, const Best *f
     return name == 'D' ? finra->price != 0 : condition == 0 || admits(bid, condition);
 }
 
-// a side of a quote, whose condition must admit it; with a FINRA best a letter's odd lots, which must rank
-static inline void take(const uint8_t *p, int bid, uint8_t condition, uint32_t name, const Best *finra, Best *b) {
+// a side of a quote, whose condition must admit it; with a FINRA best a letter's odd lots, which must rank and have their key at k
+static inline void take(const uint8_t *p, const uint8_t *k, int bid, uint8_t condition, uint32_t name, const Best *finra, Best *b) {
     uint64_t price = low64(p), r = rank(bid, price), top = rank(bid, b->price);
     if (r < top || price == 0) return;
-    if (finra ? !ranks(bid, condition, name, finra) : !admits(bid, condition)) return;
+    if (finra ? !ranks(bid, condition, name, finra) || low32(k) != key(bid, price) : !admits(bid, condition)) return;
     uint32_t size = low32(p + 8);
     uint64_t time = low64(p + 12);
     if (size == 0) return;
@@ -67,11 +74,11 @@ static inline void lead(int bid, Best x, Best *b) {
     else if (b->decided < x.decided) b->decided = x.decided;
 }
 
-// a letter's quote
-static inline void take_lead(const uint8_t *p, int bid, uint8_t condition, uint32_t name, Best *b) {
+// a letter's quote, with its key at k
+static inline void take_lead(const uint8_t *p, const uint8_t *k, int bid, uint8_t condition, uint32_t name, Best *b) {
     uint64_t price = low64(p);
     uint32_t size = low32(p + 8);
-    if (price == 0 || size == 0 || !admits(bid, condition)) return;
+    if (price == 0 || size == 0 || !admits(bid, condition) || low32(k) != key(bid, price)) return;
     lead(bid, (Best){price, low64(p + 12), size, name, condition, 0}, b);
 }
 
@@ -87,8 +94,8 @@ static inline void take_makers(const uint8_t *page, Best e[6]) {
         const uint8_t *c = page + CELLS + i * CELL;
         if (c[4] != 'L' && c[4] != 'R') continue;
         uint32_t name = get32(c);
-        take(c + 5, 1, c[4], name, 0, &e[2]);
-        take(c + 25, 0, c[4], name, 0, &e[3]);
+        take(c + 5, 0, 1, c[4], name, 0, &e[2]);
+        take(c + 25, 0, 0, c[4], name, 0, &e[3]);
     }
 }
 
@@ -96,18 +103,18 @@ static inline void walk(const uint8_t *page, Best e[6]) {
     Best none = {0}, odd[2] = {none, none};
     for (int i = 0; i < 6; i++) e[i] = none;
     for (uint32_t l = 'A'; l <= 'Z'; l++) {
-        const uint8_t *s = page + SLOTS + (l - 'A') * SLOT;
+        const uint8_t *s = page + SLOTS + (l - 'A') * SLOT, *k = page + KEYS + (l - 'A') * 4;
         if (l == 'S') continue;
         if (l == 'D') {
             take_makers(page, e);
             take_d(1, &e[2], &e[0]);
             take_d(0, &e[3], &e[1]);
         } else {
-            take_lead(s + 1, 1, s[0], l, &e[0]);
-            take_lead(s + 21, 0, s[0], l, &e[1]);
+            take_lead(s + 1, k, 1, s[0], l, &e[0]);
+            take_lead(s + 21, k + ROW, 0, s[0], l, &e[1]);
         }
-        take(s + 41, 1, s[0], l, &e[2], &odd[0]);
-        take(s + 121, 0, s[0], l, &e[3], &odd[1]);
+        take(s + 41, k + 2 * ROW, 1, s[0], l, &e[2], &odd[0]);
+        take(s + 121, k + 3 * ROW, 0, s[0], l, &e[3], &odd[1]);
     }
     if (rank(1, e[0].price) < rank(1, odd[0].price)) e[4] = odd[0];
     if (rank(0, e[1].price) < rank(0, odd[1].price)) e[5] = odd[1];

@@ -1,6 +1,6 @@
 // Measures the proved walk beside the same walk in C over the same bytes: 64 pages picked at random, 16 letters quoting, a third of them
-// with odd lots, 4 makers; nanoseconds for each walk, lowest and median of interleaved rounds. First both are compared on such pages
-// and on pages of any bytes, also stopped behind each letter (T-04), where the C walk gets a page without the later letters.
+// with odd lots, 4 makers, all with their own keys; nanoseconds for each walk, lowest and median of interleaved rounds. First both are compared on such pages
+// and on pages of any bytes, most sides of half of them with their own keys, also stopped behind each letter (T-04), where the C walk gets a page without the later letters.
 use std::time::Instant;
 
 extern "C" {
@@ -11,7 +11,9 @@ extern "C" {
     fn c_renew(page: *mut u8) -> u8;
 }
 
-const LEN: usize = 6307;
+const STATUS: usize = 6306;
+const KEYS: usize = 6307;
+const LEN: usize = 6723;
 
 struct Random(u64);
 
@@ -41,6 +43,25 @@ fn quote(r: &mut Random, page: &mut [u8], at: usize, condition: u8) {
     level(page, at + 21, offer, 1 + r.below(20), time);
 }
 
+// of so many of a hundred sides the key becomes its own: of a bid the price, at most 2^32 - 1, of an offer 2^32 less that, 0 if the side does not count
+fn give_keys(r: &mut Random, page: &mut [u8], percent: u64) {
+    for l in 0..26 {
+        let slot = 360 + l * 201;
+        let c = page[slot];
+        let (both, bid, offer) = (b"ABHORW".contains(&c), c == b'F', c == b'E');
+        for (row, (at, counts)) in [(1, both || bid), (21, both || offer), (41, true), (121, true)].into_iter().enumerate() {
+            let level = &page[slot + at..slot + at + 12];
+            let price = u64::from_le_bytes(level[..8].try_into().unwrap()).min(u32::MAX as u64) as u32;
+            let key = if row % 2 == 0 { price } else { price.wrapping_neg() };
+            let key = if counts && level[8..] != [0; 4] { key } else { 0 };
+            if r.below(100) < percent {
+                let to = KEYS + 104 * row + 4 * l;
+                page[to..to + 4].copy_from_slice(&key.to_le_bytes());
+            }
+        }
+    }
+}
+
 fn made(r: &mut Random) -> Vec<u8> {
     let mut page = vec![0u8; LEN];
     let mut letters: Vec<usize> = (0..26).filter(|l| *l != 3 && *l != 18).collect();
@@ -66,20 +87,22 @@ fn made(r: &mut Random) -> Vec<u8> {
         }
         quote(r, &mut page, at + 4, b'R');
     }
+    give_keys(r, &mut page, 100);
     page
 }
 
-// pages of any bytes, mostly small numbers so that ties and zeros are met
+// pages of any bytes, with prices of one byte, the lowest or the highest, so that ties and zeros are met
 fn any(r: &mut Random) -> Vec<u8> {
     let most = [2, 3, 256, 100][r.below(4) as usize];
     let mut page: Vec<u8> = (0..LEN).map(|_| r.below(most) as u8).collect();
     if r.below(4) == 0 {
-        page[LEN - 1] = b'H'; // halted
+        page[STATUS] = b'H'; // halted
     }
+    let first = 1 - r.below(2) as usize;
     for at in (0..26).map(|l| 360 + l * 201).chain((0..16).map(|k| 5590 + k * 45)) {
         page[at] = b"ABHOWEFCNURRRRRLL\0"[r.below(18) as usize];
         for side in 0..2 {
-            for b in 0..7 {
+            for b in first..first + 7 {
                 page[at + 1 + 20 * side + b] = 0;
                 if at < 5586 {
                     page[at + 41 + 80 * side + b] = 0;
@@ -87,6 +110,8 @@ fn any(r: &mut Random) -> Vec<u8> {
             }
         }
     }
+    let percent = [100, 90, 50, 0][r.below(4) as usize];
+    give_keys(r, &mut page, percent);
     page
 }
 
@@ -95,7 +120,7 @@ fn cut(page: &[u8], last: u8) -> Vec<u8> {
     let mut page = page.to_vec();
     page[360 + usize::from(last + 1 - b'A') * 201..5586].fill(0);
     if last < b'D' {
-        page[5586..LEN - 1].fill(0);
+        page[5586..STATUS].fill(0);
     }
     page
 }

@@ -6,18 +6,24 @@ use mathlib.Core.Bool.{Bool, true, false, _&&_, cond}
 use mathlib.Core.List.{List, []}
 use mathlib.Core.Option.{some}
 use native.Mathlib.Omega.{arith}
-use lib.Dec.{lit<, leb, ltb}
+use lib.Dec.{lit<, eqb, leb, ltb}
 use lib.ListN.{length}
 use borrow.Author.Tests.{lt-ltb, le-ltb}
 use Rattle.field.specs.Field.{Bytes, be, part}
+use Rattle.field.specs.Low.{low}
 use Rattle.field.proofs.Laws.{length-part, bytes-part}
 use Rattle.lists.specs.Lists.{upper}
 use Rattle.lists.specs.declared.Found.{Found}
 use Rattle.lists.specs.declared.Found.the-variants.{At, Nothing}
 use Rattle.lists.proofs.Tests.{upper-low}
 use Rattle.text.specs.Form.{symbolGood, symbolLength}
-use Rattle.quote.specs.Quote.{noQuote, quoteIn, QuoteFits, quoteLength}
+use Rattle.ranking.specs.declared.Side.{Side}
+use Rattle.ranking.specs.declared.Side.the-variants.{Bid, Offer}
+use Rattle.quote.specs.declared.Level.{Level}
+use Rattle.quote.specs.declared.Quote.{Quote}
+use Rattle.quote.specs.Quote.{noLevel, noQuote, quoteIn, LevelFits, QuoteFits, quoteLength}
 use Rattle.quote.proofs.QuoteLaws.{quote-fits}
+use Rattle.keys.specs.Keys.{keyLength, quoteKey}
 use Rattle.entries.specs.Publication.{publicationLength}
 use Rattle.snapshot.specs.Snapshot.{Snapshot, snapshotOf}
 use Rattle.snapshot.specs.Feed.{feedLongest, feedBlocks, feedBytes}
@@ -25,8 +31,8 @@ use Rattle.snapshot.specs.Receiver.{everyMessage, decoded, carried}
 use Rattle.snapshot.specs.Sizes.{feedCount, feedLength}
 use Rattle.snapshot.proofs.RoundLaws.{Whole, length-feed, count-feed, blocks-short, decoded-back}
 use Rattle.snapshot.proofs.ShownLaws.{whole-of}
-use Rattle.page.specs.Layout.{entriesAt, pageLength, slotAt, keptEntries}
-use Rattle.page.specs.Page.{quotesIn}
+use Rattle.page.specs.Layout.{entriesAt, pageLength, slotAt, quoteKeyAt, keptEntries}
+use Rattle.page.specs.Page.{agreed, agreedQuote, quotesIn}
 use Rattle.update.specs.Parts.{readingOf}
 use Rattle.update.proofs.SearchLaws.{isAt}
 use Rattle.opening.specs.Opening.{sound, restIn, pageAt, pagesIn, pagePlace, readingAt}
@@ -52,13 +58,28 @@ either false a = refl
 abbrev pub outcome : List ℕ → Answer → Outcome
 outcome b a = record { bytes = b; answer = a }
 
+-- a quote that fits still does where a key is not its own
+agreed-fits : (kb ko : ℕ) (q : Quote) → QuoteFits q → QuoteFits (agreedQuote kb ko q)
+unfolding agreedQuote agreed
+agreed-fits kb ko q h = record { condition = h .condition; bid = side (eqb kb (quoteKey Bid q)) (q .bid) (h .bid); offer = side (eqb ko (quoteKey Offer q)) (q .offer) (h .offer) }
+  where
+    side : (t : Bool) (v : Level) → LevelFits v → LevelFits (cond t v noLevel)
+    side true v h = h
+    side false v h = record { price = lit< tt; size = lit< tt; time = lit< tt }
+
 -- in a page of bytes every letter's quote fits
 page-fits : (p : List ℕ) → length p ≡ pageLength → Bytes p → (l : ℕ) → QuoteFits (quotesIn p l)
 unfolding quotesIn
 page-fits p w y l = go (upper l) refl
   where
-    go : (t : Bool) → upper l ≡ t → QuoteFits (cond t (quoteIn (part p (slotAt l) quoteLength)) noQuote)
-    go true u = quote-fits (part p (slotAt l) quoteLength) (length-part p (slotAt l) quoteLength (omega (arith, upper-low l u .0, upper-low l u .1))) (bytes-part p (slotAt l) quoteLength y)
+    key : Side → ℕ
+    key s = low p (quoteKeyAt s l) keyLength
+
+    stored : upper l ≡ true → QuoteFits (quoteIn (part p (slotAt l) quoteLength))
+    stored u = quote-fits (part p (slotAt l) quoteLength) (length-part p (slotAt l) quoteLength (omega (arith, upper-low l u .0, upper-low l u .1))) (bytes-part p (slotAt l) quoteLength y)
+
+    go : (t : Bool) → upper l ≡ t → QuoteFits (cond t (agreedQuote (key Bid) (key Offer) (quoteIn (part p (slotAt l) quoteLength))) noQuote)
+    go true u = agreed-fits (key Bid) (key Offer) (quoteIn (part p (slotAt l) quoteLength)) (stored u)
     go false u =
         record {
           condition = lit< tt;

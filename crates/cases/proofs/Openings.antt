@@ -73,19 +73,19 @@ unfolding asked
 offset-847 rest = refl
 
 -- a byte too few, a byte too many
-pub a-byte-too-few : noBook (book mark 1 0 0 976 (replicate 7267 0))
+pub a-byte-too-few : noBook (book mark 1 0 0 976 (replicate 7683 0))
 unfolding asked
 a-byte-too-few = refl
 
-pub a-byte-too-many : noBook (book mark 1 0 0 976 (replicate 7269 0))
+pub a-byte-too-many : noBook (book mark 1 0 0 976 (replicate 7685 0))
 unfolding asked
 a-byte-too-many = refl
 
 -- a book of one symbol: 3, 7, Start and End by the day, 9, 9, 10, 78, 78, 10, 10, 10, 84, a tick that is done; none listed, the day closed; then one listed, the day open
-pub sound-closed : asked (book mark 1 0 0 976 (replicate 7268 0)) ≡ 3 ∷ 7 ∷ 0 ∷ 12 ∷ 9 ∷ 9 ∷ 10 ∷ 78 ∷ 78 ∷ 10 ∷ 10 ∷ 10 ∷ 84 ∷ 0 ∷ []
+pub sound-closed : asked (book mark 1 0 0 976 (replicate 7684 0)) ≡ 3 ∷ 7 ∷ 0 ∷ 12 ∷ 9 ∷ 9 ∷ 10 ∷ 78 ∷ 78 ∷ 10 ∷ 10 ∷ 10 ∷ 84 ∷ 0 ∷ []
 unfolding asked
 sound-closed = refl
 
-pub sound-full-open : asked (book mark 1 1 1 976 (replicate 7268 0)) ≡ 3 ∷ 7 ∷ 11 ∷ 0 ∷ 9 ∷ 9 ∷ 10 ∷ 78 ∷ 78 ∷ 10 ∷ 10 ∷ 10 ∷ 84 ∷ 0 ∷ []
+pub sound-full-open : asked (book mark 1 1 1 976 (replicate 7684 0)) ≡ 3 ∷ 7 ∷ 11 ∷ 0 ∷ 9 ∷ 9 ∷ 10 ∷ 78 ∷ 78 ∷ 10 ∷ 10 ∷ 10 ∷ 84 ∷ 0 ∷ []
 unfolding asked
 sound-full-open = refl

@@ -10,19 +10,19 @@ use native.Mathlib.Numerals.{add-one}
 use borrow.Author.Tests.{ne-eqb, eq-eqb}
 use lib.Dec.{eqb}
 use lib.ListN.{length, take, drop, length-append}
-use Rattle.field.specs.Field.{part, field, splice}
+use Rattle.field.specs.Field.{field, splice}
 use Rattle.field.specs.Ascii.{A, D, S, Z}
 use Rattle.field.proofs.Laws.{field-part-0, splice-join}
 use Rattle.field.proofs.ZeroLaws.{splice-nothing}
 use Rattle.lists.specs.Lists.{member, range, collect, consOption}
 use Rattle.lists.proofs.Searches.{less-one}
-use Rattle.lists.proofs.Tests.{is-upper}
 use Rattle.block.specs.Written.{joined}
 use Rattle.text.specs.Form.{symbolLength}
 use Rattle.quote.specs.declared.Quote.{Quote}
 use Rattle.quote.specs.Quote.{isQuoted, quoteIn, quoteLength}
 use Rattle.page.specs.Layout.{slotAt, letterCount}
 use Rattle.page.specs.Page.{quotesIn}
+use Rattle.slots.proofs.ReadLaws.{quote-condition}
 use Rattle.snapshot.specs.Snapshot.{Shown, shownOf, isShown, shownAt, shownFrom}
 use Rattle.snapshot.specs.Feed.{participant, participantLength}
 use Rattle.snapshot.proofs.MessageLaws.{length-participant}
@@ -40,14 +40,10 @@ module _ (p : List ℕ) (l : ℕ) where
   unfolding isShown member
   shown-s e = rw e
 
-  pub quotes-at : A ≤ l → l ≤ Z → quotesIn p l ≡ quoteIn (part p (slotAt l) quoteLength)
-  unfolding quotesIn
-  quotes-at a z = rw (is-upper l a z)
-
   pub shown-quoted : (c : ℕ) (t : Bool) → A ≤ l → l ≤ Z → (l ≡ D → ⊥) → (l ≡ S → ⊥) → c ≡ field p (slotAt l) 1 → t ≡ isQuoted c → t ≡ isShown (quotesIn p) l
   unfolding isShown member quoteIn
   shown-quoted c t a z d s e q =
-      q ∙ ap isQuoted (e ∙ sym (field-part-0 p (slotAt l) quoteLength 1 (omega arith))) ∙ rw (ne-eqb l D d, ne-eqb l S s, quotes-at a z)
+      q ∙ ap isQuoted (e ∙ sym (field-part-0 p (slotAt l) quoteLength 1 (omega arith))) ∙ rw (ne-eqb l D d, ne-eqb l S s, quote-condition p l a z)
 
 -- ---- a count and one letter more
 
@@ -158,10 +154,10 @@ module _ (s : List ℕ) (n : length s ≡ symbolLength) where
     pub room-shown : (at k : ℕ) → isShown (quotesIn p) l ≡ true → at + participantLength * length (consOption o []) ≤ k → at + participantLength ≤ k
     room-shown at k t h = let r : at + participantLength * 1 ≤ k = rw t at h in omega arith
 
-    pub put-shown : (at : ℕ) (q : Quote) (b b′ : List ℕ) → A ≤ l → l ≤ Z → isShown (quotesIn p) l ≡ true → q ≡ quoteIn (part p (slotAt l) quoteLength) → b′ ≡ splice b at (participant s (shownOf l q))
+    pub put-shown : (at : ℕ) (q : Quote) (b b′ : List ℕ) → isShown (quotesIn p) l ≡ true → q ≡ quotesIn p l → b′ ≡ splice b at (participant s (shownOf l q))
         → (b′ ≡ splice b at (joined (ofP s (consOption o [])))) × (at + participantLength ≡ at + participantLength * length (consOption o []))
-    put-shown at q b b′ a z t e w =
-        rw t (w ∙ ap (λ (k : Quote). splice b at (participant s (shownOf l k))) (e ∙ sym (quotes-at p l a z)) ∙ ap (splice b at) (sym (append-nil (participant s (shownOf l (quotesIn p l))))), omega arith)
+    put-shown at q b b′ t e w =
+        rw t (w ∙ ap (λ (k : Quote). splice b at (participant s (shownOf l k))) e ∙ ap (splice b at) (sym (append-nil (participant s (shownOf l (quotesIn p l))))), omega arith)
 
     pub put-hidden : (at : ℕ) (b : List ℕ) → isShown (quotesIn p) l ≡ false
         → (b ≡ splice b at (joined (ofP s (consOption o [])))) × (at ≡ at + participantLength * length (consOption o []))

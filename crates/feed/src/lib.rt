@@ -17,7 +17,6 @@ ghost use Rattle.feed.specs.code.Blocks.{Lent, onlyLength, secondLength,
 use feedform::Feed;
 use page::Letter;
 use page::Page;
-use quote::Quote;
 
 /// How many blocks and bytes a snapshot has.
 pub struct Size {
@@ -123,7 +122,7 @@ fn put_letter(output: &mut [u8], at: usize, symbol: &[u8], page: &[u8], letter: 
     ensures { λ r. ⌜ (now (output .exit) ≡ splice (now (output .entry)) at (joined (ofP (now (symbol .entry)) (consOption (shownAt (quotesIn (now (page .entry))) letter) [])))) × (r ≡ at + participantLength * length (consOption (shownAt (quotesIn (now (page .entry))) letter) [])) ⌝ }
 {
     if is_shown(page, letter) {
-        let quote = Quote::get(page, page::slot_at(letter));
+        let quote = slots::quote(page, letter);
         feedform::put_participant(output, at, symbol, letter as u8, quote);
         return at + Feed::PARTICIPANT;
     }

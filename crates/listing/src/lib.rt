@@ -1,6 +1,7 @@
 // Functions of the rooms below, exported one by one so that their machine code can be read. Nothing links against this crate.
 ghost use Prim.Native.Nat.{_+_, _≤_};
 ghost use lib.ListN.{length};
+ghost use Rattle.keysets.specs.Sets.{keysLength};
 
 #[no_mangle]
 pub extern "C" fn listing_get16(s: &[u8], at: usize) -> u16
@@ -57,4 +58,25 @@ pub extern "C" fn listing_check_block(block: &[u8]) -> u8 {
         block::Checked::Pass(c) => 0,
         block::Checked::Refused(number) => number,
     }
+}
+
+#[no_mangle]
+pub extern "C" fn listing_top(page: &[u8], at: usize) -> u32
+    requires { ⌜ at + keysLength ≤ length (now page) ⌝ }
+{
+    keysets::top(page, at)
+}
+
+#[no_mangle]
+pub extern "C" fn listing_same(page: &[u8], at: usize, k: u32) -> u32
+    requires { ⌜ at + keysLength ≤ length (now page) ⌝ }
+{
+    keysets::same(page, at, k)
+}
+
+#[no_mangle]
+pub extern "C" fn listing_above(page: &[u8], at: usize, k: u32) -> u32
+    requires { ⌜ at + keysLength ≤ length (now page) ⌝ }
+{
+    keysets::above(page, at, k)
 }

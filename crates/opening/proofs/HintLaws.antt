@@ -18,7 +18,9 @@ use Rattle.entries.specs.Publication.{publicationLength}
 use Rattle.quote.specs.Quote.{quoteLength}
 use Rattle.levels.specs.Levels.{levelsLength}
 use Rattle.text.specs.Form.{symbolLength}
-use Rattle.page.specs.Layout.{symbolAt, lotAt, primaryAt, hintsAt, headLength, entriesAt, slotAt, cellAt, cellLength, statusAt, pageLength}
+use Rattle.page.specs.Layout.{symbolAt, lotAt, primaryAt, hintsAt, headLength, entriesAt, slotAt, cellAt, cellLength, statusAt, quoteKeyAt, firstKeyAt, pageLength}
+use Rattle.page.proofs.KeyLaws.{quote-keys-low, first-keys-low}
+use Rattle.keys.specs.Keys.{keyLength}
 use Rattle.opening.specs.Layout.{pageStart}
 
 -- no reading of a page reads its hints
@@ -33,9 +35,9 @@ hint-unread p a x w lo hi =
       lot = before lotAt 1 (omega arith) i;
       primary = before primaryAt 1 (omega arith) i;
       halted = halted-same p q (behind statusAt 1 (omega arith)) i;
-      quotes = quotes-same p q (λ l u. behind (slotAt l) quoteLength (omega arith)) i;
+      quotes = quotes-same p q (λ l u s. behind (quoteKeyAt s l) keyLength (omega (arith, quote-keys-low s))) (λ l u. behind (slotAt l) quoteLength (omega arith)) i;
       cells = makers-same p q (λ k h. behind (cellAt k) cellLength (omega arith)) i;
-      levels = levels-same p q (λ l u. behind (slotAt l + quoteLength) levelsLength (omega arith)) i;
+      levels = levels-same p q (λ l u s. behind (firstKeyAt s l) keyLength (omega (arith, first-keys-low s))) (λ l u. behind (slotAt l + quoteLength) levelsLength (omega arith)) i;
       entries = behind entriesAt publicationLength (omega arith) i;
     }
 

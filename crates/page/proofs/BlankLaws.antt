@@ -14,8 +14,11 @@ use Rattle.field.specs.Field.{be, part, field}
 use Rattle.field.specs.Low.{le, low}
 use Rattle.quote.specs.Quote.{noQuote, levelIn, quoteIn, quoteLength}
 use Rattle.levels.specs.Levels.{noLevels, ranked, cellsIn, sideIn, levelsIn, levelsLength}
-use Rattle.page.specs.Page.{quotesIn, levelsFor, makerIn, makersIn}
-use Rattle.page.specs.Layout.{slotsAt, cellLength, pageLength, makerCount, slotAt, cellAt}
+use Rattle.ranking.specs.declared.Side.the-variants.{Bid, Offer}
+use Rattle.keys.specs.Keys.{keyLength}
+use Rattle.page.proofs.KeyLaws.{no-quote-agreed, no-levels-agreed}
+use Rattle.page.specs.Page.{agreedQuote, agreedLevels, quotesIn, levelsFor, makerIn, makersIn}
+use Rattle.page.specs.Layout.{slotsAt, cellLength, pageLength, makerCount, slotAt, cellAt, quoteKeyAt, firstKeyAt}
 
 pub no-quote-read : quoteIn (replicate quoteLength 0) ≡ noQuote
 unfolding quoteIn levelIn part field be low le
@@ -34,16 +37,22 @@ module _ (p : List ℕ) (z : (at w : ℕ) → slotsAt ≤ at → at + w ≤ page
   unfolding quotesIn
   blank-quotes = fun-ext (λ l. go l (upper l) refl)
     where
-      go : (l : ℕ) (t : Bool) → upper l ≡ t → cond t (quoteIn (part p (slotAt l) quoteLength)) noQuote ≡ noQuote
-      go l true u = ap quoteIn (z (slotAt l) quoteLength (omega arith) (omega (arith, upper-low l u .0, upper-low l u .1))) ∙ no-quote-read
+      go : (l : ℕ) (t : Bool) → upper l ≡ t
+          → cond t (agreedQuote (low p (quoteKeyAt Bid l) keyLength) (low p (quoteKeyAt Offer l) keyLength) (quoteIn (part p (slotAt l) quoteLength))) noQuote ≡ noQuote
+      go l true u =
+          rw (z (slotAt l) quoteLength (omega arith) (omega (arith, upper-low l u .0, upper-low l u .1)), no-quote-read)
+          (no-quote-agreed (low p (quoteKeyAt Bid l) keyLength) (low p (quoteKeyAt Offer l) keyLength))
       go l false u = refl
 
   pub blank-levels : levelsFor p ≡ (λ l. noLevels)
   unfolding levelsFor
   blank-levels = fun-ext (λ l. go l (upper l) refl)
     where
-      go : (l : ℕ) (t : Bool) → upper l ≡ t → cond t (levelsIn (part p (slotAt l + quoteLength) levelsLength)) noLevels ≡ noLevels
-      go l true u = ap levelsIn (z (slotAt l + quoteLength) levelsLength (omega arith) (omega (arith, upper-low l u .0, upper-low l u .1))) ∙ no-levels-read
+      go : (l : ℕ) (t : Bool) → upper l ≡ t
+          → cond t (agreedLevels (low p (firstKeyAt Bid l) keyLength) (low p (firstKeyAt Offer l) keyLength) (levelsIn (part p (slotAt l + quoteLength) levelsLength))) noLevels ≡ noLevels
+      go l true u =
+          rw (z (slotAt l + quoteLength) levelsLength (omega arith) (omega (arith, upper-low l u .0, upper-low l u .1)), no-levels-read)
+          (no-levels-agreed (low p (firstKeyAt Bid l) keyLength) (low p (firstKeyAt Offer l) keyLength))
       go l false u = refl
 
   pub blank-makers : makersIn p ≡ map (λ k. none) (range makerCount 0)

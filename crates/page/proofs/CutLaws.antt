@@ -15,13 +15,17 @@ use Rattle.lists.proofs.Ranges.{map-range}
 use Rattle.field.specs.Field.{Bytes, be, part, field, splice}
 use Rattle.field.proofs.Laws.{length-splice, bytes-splice, part-before, part-behind}
 use Rattle.field.proofs.ZeroLaws.{length-zeros, bytes-zeros, part-zeroed, splice-nothing}
+use Rattle.field.specs.Low.{low}
+use Rattle.ranking.specs.declared.Side.the-variants.{Bid, Offer}
 use Rattle.quote.specs.Quote.{noQuote, quoteIn, quoteLength}
 use Rattle.levels.specs.Levels.{noLevels, levelsIn, levelsLength}
+use Rattle.keys.specs.Keys.{keyLength}
+use Rattle.page.proofs.KeyLaws.{quote-keys-low, first-keys-low, quote-same, level-same, no-quote-agreed, no-levels-agreed}
 use Rattle.entries.specs.Entries.{Maker}
 use Rattle.page.specs.Page.{quotesIn, levelsFor, makerIn, makersIn, haltedIn}
 use Rattle.page.specs.Cut.{noneBehind, noMakers, cut}
 use Rattle.page.proofs.BlankLaws.{no-quote-read, no-levels-read, no-maker-read}
-use Rattle.page.specs.Layout.{slotLength, cellsAt, cellLength, pageLength, makerCount, slotAt, cellAt, statusAt}
+use Rattle.page.specs.Layout.{slotLength, cellsAt, cellLength, pageLength, makerCount, slotAt, cellAt, statusAt, quoteKeyAt, firstKeyAt}
 use Rattle.field.specs.Ascii.{A, D, H, Z}
 
 -- ---- what is left of a page
@@ -70,25 +74,35 @@ module _ (p : List ℕ) (w : length p ≡ pageLength) (l : ℕ) (lo : A ≤ l) (
       go true c = bytes-splice (splice p (slotAt (l + 1)) (replicate ((Z - l) * slotLength) 0)) (cellAt 0) (replicate (makerCount * cellLength) 0) c (bytes-zeros (makerCount * cellLength))
       go false c = c
 
+  cut-behind : (at m : ℕ) → statusAt ≤ at → part (cut l p) at m ≡ part p at m
+  unfolding cut noMakers
+  cut-behind at m h = go (ltb l D) ∙ behind-cells at m (omega arith)
+    where
+      go : (t : Bool) → part (cond t (splice (noneBehind l p) (cellAt 0) (replicate (makerCount * cellLength) 0)) (noneBehind l p)) at m ≡ part (noneBehind l p) at m
+      go true = part-behind (noneBehind l p) (cellAt 0) (replicate (makerCount * cellLength) 0) at m (omega (arith, length-zeros (makerCount * cellLength)))
+      go false = refl
+
   -- ---- as it is read
 
   module _ (j : ℕ) (a : A ≤ j) (z : j ≤ l) where
     pub cut-quote : quotesIn (cut l p) j ≡ quotesIn p j
-    unfolding quotesIn
-    cut-quote = ap (λ (b : List ℕ). cond (upper j) (quoteIn b) noQuote) (cut-front (slotAt j) quoteLength (omega arith))
+    cut-quote = quote-same p (cut l p) j (λ s. cut-behind (quoteKeyAt s j) keyLength (omega (arith, quote-keys-low s))) (cut-front (slotAt j) quoteLength (omega arith))
 
     pub cut-levels : levelsFor (cut l p) j ≡ levelsFor p j
-    unfolding levelsFor
-    cut-levels = ap (λ (b : List ℕ). cond (upper j) (levelsIn b) noLevels) (cut-front (slotAt j + quoteLength) levelsLength (omega arith))
+    cut-levels = level-same p (cut l p) j (λ s. cut-behind (firstKeyAt s j) keyLength (omega (arith, first-keys-low s))) (cut-front (slotAt j + quoteLength) levelsLength (omega arith))
 
   module _ (j : ℕ) (a : l < j) (z : j ≤ Z) where
     pub cut-no-quote : quotesIn (cut l p) j ≡ noQuote
     unfolding quotesIn
-    cut-no-quote = rw (is-upper j (omega arith) (omega arith), cut-zero (slotAt j) quoteLength (omega arith) (omega arith)) no-quote-read
+    cut-no-quote =
+        rw (is-upper j (omega arith) (omega arith), cut-zero (slotAt j) quoteLength (omega arith) (omega arith), no-quote-read)
+        (no-quote-agreed (low (cut l p) (quoteKeyAt Bid j) keyLength) (low (cut l p) (quoteKeyAt Offer j) keyLength))
 
     pub cut-no-levels : levelsFor (cut l p) j ≡ noLevels
     unfolding levelsFor
-    cut-no-levels = rw (is-upper j (omega arith) (omega arith), cut-zero (slotAt j + quoteLength) levelsLength (omega arith) (omega arith)) no-levels-read
+    cut-no-levels =
+        rw (is-upper j (omega arith) (omega arith), cut-zero (slotAt j + quoteLength) levelsLength (omega arith) (omega arith), no-levels-read)
+        (no-levels-agreed (low (cut l p) (firstKeyAt Bid j) keyLength) (low (cut l p) (firstKeyAt Offer j) keyLength))
 
   pub cut-makers : D ≤ l → makersIn (cut l p) ≡ makersIn p
   unfolding makersIn cut
@@ -104,14 +118,6 @@ module _ (p : List ℕ) (w : length p ≡ pageLength) (l : ℕ) (lo : A ≤ l) (
       (λ k a z. ap makerIn (part-zeroed (noneBehind l p) (cellAt 0) (makerCount * cellLength) (cellAt k) cellLength (omega (arith, behind-length)) (omega arith) (omega arith)) ∙ no-maker-read))
 
   -- a cut page is halted if the page is
-  cut-behind : (at m : ℕ) → statusAt ≤ at → part (cut l p) at m ≡ part p at m
-  unfolding cut noMakers
-  cut-behind at m h = go (ltb l D) ∙ behind-cells at m (omega arith)
-    where
-      go : (t : Bool) → part (cond t (splice (noneBehind l p) (cellAt 0) (replicate (makerCount * cellLength) 0)) (noneBehind l p)) at m ≡ part (noneBehind l p) at m
-      go true = part-behind (noneBehind l p) (cellAt 0) (replicate (makerCount * cellLength) 0) at m (omega (arith, length-zeros (makerCount * cellLength)))
-      go false = refl
-
   pub cut-halted : haltedIn (cut l p) ≡ haltedIn p
   unfolding haltedIn field
   cut-halted = ap (λ (x : List ℕ). eqb (be x) H) (cut-behind statusAt 1 (omega arith))

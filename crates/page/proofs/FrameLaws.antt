@@ -2,22 +2,23 @@
 -- Assumes nothing.
 use Prim.Native.Nat.{ℕ, _+_, _≤_}
 use mathlib.Core.Path.{_≡_, sym, ap, ap₂, _∙_, fun-ext}
-use mathlib.Core.Bool.{cond}
 use mathlib.Core.List.{List, map}
 use mathlib.Core.Option.{Option}
 use native.Mathlib.Omega.{arith}
 use lib.Dec.{eqb}
 use lib.ListN.{length}
-use Rattle.lists.specs.Lists.{range, upper}
+use Rattle.lists.specs.Lists.{range}
 use Rattle.field.specs.Field.{be, part, field, splice}
 use Rattle.field.proofs.Laws.{length-splice, part-behind, part-put, splice-part}
-use Rattle.quote.specs.Quote.{noQuote, quoteIn, quoteLength}
-use Rattle.levels.specs.Levels.{noLevels, levelsIn, levelsLength}
+use Rattle.quote.specs.Quote.{quoteLength}
+use Rattle.levels.specs.Levels.{levelsLength}
+use Rattle.keys.specs.Keys.{keyLength}
+use Rattle.page.proofs.KeyLaws.{quote-keys-low, first-keys-low, quote-same, level-same}
 use Rattle.entries.specs.Entries.{Maker, entriesOf, unlessHalted}
 use Rattle.entries.specs.Publication.{publication, publicationLength}
 use Rattle.page.specs.Page.{quotesIn, levelsFor, makerIn, makersIn, occupied, pageEntries, haltedIn, publishedEntries, refreshed}
 use Rattle.entries.proofs.LengthLaws.{length-publication}
-use Rattle.page.specs.Layout.{entriesAt, slotsAt, cellLength, keptEntries, makerCount, slotAt, cellAt, statusAt}
+use Rattle.page.specs.Layout.{entriesAt, slotsAt, cellLength, keptEntries, makerCount, slotAt, cellAt, statusAt, quoteKeyAt, firstKeyAt}
 use Rattle.field.specs.Ascii.{H}
 
 -- ---- 96 bytes written in the entries' place
@@ -27,12 +28,14 @@ module _ (p b : List ℕ) (h : length b ≡ publicationLength) where
   part-kept at w l = part-behind p entriesAt b at w (omega arith)
 
   pub quotes-kept : quotesIn (splice p entriesAt b) ≡ quotesIn p
-  unfolding quotesIn
-  quotes-kept = fun-ext (λ l. ap (λ (x : List ℕ). cond (upper l) (quoteIn x) noQuote) (part-kept (slotAt l) quoteLength (omega arith)))
+  quotes-kept =
+      fun-ext
+      (λ l. quote-same p (splice p entriesAt b) l (λ s. part-kept (quoteKeyAt s l) keyLength (omega (arith, quote-keys-low s))) (part-kept (slotAt l) quoteLength (omega arith)))
 
   pub levels-kept : levelsFor (splice p entriesAt b) ≡ levelsFor p
-  unfolding levelsFor
-  levels-kept = fun-ext (λ l. ap (λ (x : List ℕ). cond (upper l) (levelsIn x) noLevels) (part-kept (slotAt l + quoteLength) levelsLength (omega arith)))
+  levels-kept =
+      fun-ext
+      (λ l. level-same p (splice p entriesAt b) l (λ s. part-kept (firstKeyAt s l) keyLength (omega (arith, first-keys-low s))) (part-kept (slotAt l + quoteLength) levelsLength (omega arith)))
 
   pub makers-kept : makersIn (splice p entriesAt b) ≡ makersIn p
   unfolding makersIn

@@ -1,5 +1,4 @@
+pub mod KeyLaws
 pub mod BlankLaws
-pub mod Cases
-pub mod Closed
 pub mod CutLaws
 pub mod FrameLaws

@@ -1,4 +1,5 @@
--- A symbol's page: its head, the six entries, a slot for each letter A to Z, the makers' cells, its trading status. Every place and length of it is named here.
+-- A symbol's page: its head, the six entries, a slot for each letter A to Z, the makers' cells, its trading status, the keys of its letters. Every place and
+-- length of it is named here.
 -- Assumes nothing.
 use Prim.Native.Nat.{ℕ, _+_, _*_, _-_}
 use mathlib.Core.List.{List}
@@ -9,6 +10,7 @@ use Rattle.ranking.specs.declared.Side.the-variants.{Bid, Offer}
 use Rattle.text.specs.Form.{symbolLength, nameLength}
 use Rattle.quote.specs.Quote.{bidAt, offerAt, quoteLength}
 use Rattle.levels.specs.Levels.{sideLength, levelsLength}
+use Rattle.keys.specs.Keys.{keyLength}
 use Rattle.entries.specs.Publication.{entryLength, publicationLength}
 
 -- ---- a slot: the letter's quote, then its levels
@@ -63,8 +65,23 @@ cellsAt = slotsAt + letterCount * slotLength
 abbrev pub statusAt : ℕ
 statusAt = cellsAt + makerCount * cellLength
 
+-- the keys: a row of 26 for the letters' bids, one for their offers, one for their best odd bids, one for their best odd offers
+abbrev pub keysAt : ℕ
+keysAt = statusAt + 1
+
+abbrev pub keyRow : ℕ
+keyRow = letterCount * keyLength
+
+abbrev pub quoteKeysAt : Side → ℕ
+quoteKeysAt Bid = keysAt
+quoteKeysAt Offer = keysAt + keyRow
+
+abbrev pub firstKeysAt : Side → ℕ
+firstKeysAt Bid = keysAt + 2 * keyRow
+firstKeysAt Offer = keysAt + 3 * keyRow
+
 abbrev pub pageLength : ℕ
-pageLength = statusAt + 1
+pageLength = keysAt + 4 * keyRow
 
 -- from the slots to the end: zeros on a page without quotes, which trades
 abbrev pub quotesLength : ℕ
@@ -81,6 +98,13 @@ slotAt l = slotsAt + (l - A) * slotLength
 -- where maker cell k starts
 abbrev pub cellAt : ℕ → ℕ
 cellAt k = cellsAt + k * cellLength
+
+-- where the key of a side of a letter's quote stands, and that of its first level
+abbrev pub quoteKeyAt : Side → ℕ → ℕ
+quoteKeyAt s l = quoteKeysAt s + keyLength * (l - A)
+
+abbrev pub firstKeyAt : Side → ℕ → ℕ
+firstKeyAt s l = firstKeysAt s + keyLength * (l - A)
 
 -- where a side's level stands in a quote, and its first level among the levels of a letter
 abbrev pub inQuote : Side → ℕ

@@ -4,18 +4,19 @@ ghost use mathlib.Core.List.{[], _∷_};
 ghost use Prim.Native.Nat.{_≤_, _<_};
 ghost use Rattle.lists.specs.Lists.{member};
 ghost use lib.ListN.{length};
-ghost use Rattle.page.specs.Layout.{inQuote, inLevels, slotAt, cellAt, makerCount, pageLength};
+ghost use Rattle.page.specs.Layout.{inQuote, inLevels, slotAt, cellAt, quoteKeysAt, firstKeysAt, firstKeyAt, quoteKeyAt, makerCount, pageLength};
 ghost use Rattle.page.specs.Page.{haltedIn};
 ghost use Rattle.field.specs.Ascii as ascii;
 ghost use Rattle.quote.specs.Quote.{offerAt};
 ghost use Rattle.levels.specs.Levels.{sideLength};
+use keys::Keys;
 use levels::Levels;
 use quote::Quote;
 use ranking::Side;
 use text::Maker;
 use text::Symbol;
 
-/// The bytes of a page: symbol, round lot, primary letter and hints, six entries, a slot for each letter, the maker cells, the trading status.
+/// The bytes of a page: symbol, round lot, primary letter and hints, six entries, a slot for each letter, the maker cells, the trading status, the keys.
 /// specs/Layout.antt says the same.
 pub struct Page {}
 
@@ -41,7 +42,12 @@ impl Page {
     /// H while the symbol is halted.
     pub const STATUS: usize = Page::CELLS + Page::MAKERS * Cell::LEN;
 
-    pub const LEN: usize = Page::STATUS + 1;
+    /// Four rows of keys: the letters' bids, their offers, their best odd bids, their best odd offers.
+    pub const KEYS: usize = Page::STATUS + 1;
+
+    pub const KEY_ROW: usize = Letter::COUNT * Keys::LEN;
+
+    pub const LEN: usize = Page::KEYS + 4 * Page::KEY_ROW;
     /// The six entries of a publication: name 4, price 8, size 4.
     pub const ENTRY_LEN: usize = 16;
 
@@ -139,4 +145,40 @@ pub fn in_levels(side: Side) -> usize
         Side::Bid => 0,
         Side::Offer => Levels::LEN,
     }
+}
+
+/// Where the row of keys of the letters' quotes stands.
+pub fn quote_keys(side: Side) -> usize
+    ensures { λ r. ⌜ (r ≡ quoteKeysAt side) × (r ≤ pageLength) ⌝ }
+{
+    match side {
+        Side::Bid => Page::KEYS,
+        Side::Offer => Page::KEYS + Page::KEY_ROW,
+    }
+}
+
+/// Where the row of keys of the letters' first levels stands.
+pub fn first_keys(side: Side) -> usize
+    ensures { λ r. ⌜ (r ≡ firstKeysAt side) × (r ≤ pageLength) ⌝ }
+{
+    match side {
+        Side::Bid => Page::KEYS + 2 * Page::KEY_ROW,
+        Side::Offer => Page::KEYS + 3 * Page::KEY_ROW,
+    }
+}
+
+/// Where the key of a side of a letter's quote stands.
+pub fn quote_key_at(side: Side, letter: usize) -> usize
+    requires { ⌜ (ascii.A ≤ letter) × (letter ≤ ascii.Z) ⌝ }
+    ensures { λ r. ⌜ r ≡ quoteKeyAt side letter ⌝ }
+{
+    quote_keys(side) + Keys::LEN * (letter - Letter::A)
+}
+
+/// Where the key of a letter's first level stands.
+pub fn first_key_at(side: Side, letter: usize) -> usize
+    requires { ⌜ (ascii.A ≤ letter) × (letter ≤ ascii.Z) ⌝ }
+    ensures { λ r. ⌜ r ≡ firstKeyAt side letter ⌝ }
+{
+    first_keys(side) + Keys::LEN * (letter - Letter::A)
 }

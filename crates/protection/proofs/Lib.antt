@@ -1,4 +1,3 @@
-pub mod Cases
 pub mod HaltLaws
 pub mod ProtectionLaws
 pub mod StepLaws

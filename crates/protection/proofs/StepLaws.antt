@@ -19,15 +19,18 @@ use Rattle.lists.specs.declared.Found.the-variants.{At, Nothing}
 use Rattle.ranking.specs.declared.Side.{Side}
 use Rattle.ranking.specs.declared.Side.the-variants.{Bid, Offer}
 use Rattle.ranking.specs.declared.Candidate.{Candidate}
+use Rattle.quote.specs.declared.Level.{Level}
 use Rattle.quote.specs.declared.Quote.{Quote}
 use Rattle.quote.specs.Quote.{sideOf, admits, counts, levelCandidate, candidateOf, levelIn, quoteIn, quoteLength, levelLength}
 use Rattle.quote.proofs.QuoteLaws.{level-at}
 use Rattle.text.specs.Form.{nameLength}
 use Rattle.entries.specs.Entries.{asD, makerCandidate, finraBest, letterCandidate, candidates}
-use Rattle.page.specs.Page.{makerIn, makersIn, occupied}
-use Rattle.page.specs.Layout.{cellLength, slotAt, cellAt, inQuote, makerCount, letterCount}
+use Rattle.keys.specs.Keys.{keyLength, sideKey, quoteKey}
+use Rattle.page.specs.Page.{agreed, quotesIn, makerIn, makersIn, occupied}
+use Rattle.page.specs.Layout.{cellLength, slotAt, cellAt, quoteKeyAt, inQuote, makerCount, letterCount}
+use Rattle.slots.proofs.ReadLaws.{quote-sides, quote-condition as kept-condition}
 use Rattle.walk.specs.code.Walk.{makerAt}
-use Rattle.walk.proofs.ReadLaws.{quote-side, quote-condition, quotes-at}
+use Rattle.walk.proofs.ReadLaws.{quote-side, quote-condition}
 use Rattle.walk.proofs.StepLaws.{maker-r, maker-other}
 use Rattle.walk.proofs.WalkLaws.{finra-is}
 use Rattle.protection.specs.declared.Protection.{Protection}
@@ -84,11 +87,64 @@ module _ (s : Side) (x : ℕ) where
     quote-by : (n : ℕ) → answersYes s x (candidateOf s n (quoteIn (part p at quoteLength))) ≡ (t && admits s (field p at 1))
     quote-by n = quote-is n (quoteIn (part p at quoteLength)) ∙ rw (et, eo, quote-side p at s, quote-condition p at)
 
-    pub quote-short : (n : ℕ) → t ≡ false → false ≡ answersYes s x (candidateOf s n (quoteIn (part p at quoteLength)))
-    quote-short n h = sym (quote-by n ∙ rw h)
+-- ---- a side of a letter's quote
 
-    pub quote-admitted : (n c : ℕ) (r : Bool) → t ≡ true → c ≡ field p at 1 → r ≡ admits s c → r ≡ answersYes s x (candidateOf s n (quoteIn (part p at quoteLength)))
-    quote-admitted n c r h ec er = er ∙ ap (admits s) ec ∙ sym (quote-by n ∙ rw h)
+-- a level whose key is not its own is none
+level-agreed : (s : Side) (x : ℕ) (t : Bool) (v : Level) → levelYes s x (agreed t v) ≡ (t && levelYes s x v)
+unfolding levelYes agreed
+level-agreed s x true v = refl
+level-agreed s x false v = and-false (reaches s x 0)
+
+module _ (s : Side) (x : ℕ) (p : List ℕ) (l : ℕ) (lo : A ≤ l) (hi : l ≤ Z) where
+  abbrev answer : Bool
+  answer = answersYes s x (candidateOf s 0 (quotesIn p l))
+
+  abbrev stored : Quote
+  stored = quoteIn (part p (slotAt l) quoteLength)
+
+  -- the key that stands on the page
+  abbrev key : ℕ
+  key = low p (quoteKeyAt s l) keyLength
+
+  agreed-is : answer ≡ ((eqb key (quoteKey s stored) && levelYes s x (sideOf s stored)) && admits s (stored .condition))
+  agreed-is =
+      quote-is s x 0 (quotesIn p l)
+      ∙ rw (quote-sides p l lo hi s, kept-condition p l lo hi, level-agreed s x (eqb key (quoteKey s stored)) (sideOf s stored))
+
+  module _ (a o : ℕ) (ea : a ≡ slotAt l) (eo : o ≡ inQuote s) (t : Bool) (et : t ≡ levelYes s x (levelIn (part p (a + o) levelLength))) where
+    abbrev level : Level
+    level = levelIn (part p (a + o) levelLength)
+
+    side-is : level ≡ sideOf s stored
+    side-is = rw (ea, eo) (quote-side p (slotAt l) s)
+
+    told-is : levelYes s x (sideOf s stored) ≡ t
+    told-is = ap (levelYes s x) (sym side-is) ∙ sym et
+
+    pub letter-short : t ≡ false → false ≡ answer
+    letter-short h = sym (agreed-is ∙ rw (told-is, h, and-false (eqb key (quoteKey s stored))))
+
+    module _ (c : ℕ) (u : Bool) (ec : c ≡ field p a 1) (eu : u ≡ admits s c) where
+      condition-is : stored .condition ≡ c
+      condition-is = sym (ec ∙ ap (λ (i : ℕ). field p i 1) ea ∙ quote-condition p (slotAt l))
+
+      letter-is : answer ≡ ((eqb key (sideKey s c level) && t) && u)
+      letter-is =
+          agreed-is ∙ (λ j. (eqb key (sideKey s (condition-is j) (sym side-is j)) && levelYes s x (sym side-is j)) && admits s (condition-is j))
+          ∙ (λ j. (eqb key (sideKey s c level) && sym et j) && sym eu j)
+
+      pub letter-closed : u ≡ false → false ≡ answer
+      letter-closed h = sym (letter-is ∙ (λ j. (eqb key (sideKey s c level) && t) && h j) ∙ and-false (eqb key (sideKey s c level) && t))
+
+      pub letter-keyed : (v : Level) (k b y : ℕ) (r : Bool) → t ≡ true → u ≡ true → v ≡ level → k ≡ sideKey s c v → b ≡ quoteKeyAt s l → y ≡ low p b keyLength → r ≡ eqb y k → r ≡ answer
+      letter-keyed v k b y r ht hu ev ek eb ey er = er ∙ sym (letter-is ∙ (λ j. (eqb key (sideKey s c level) && ht j) && hu j) ∙ go (eqb key (sideKey s c level)) ∙ same)
+        where
+          go : (w : Bool) → ((w && true) && true) ≡ w
+          go true = refl
+          go false = refl
+
+          same : eqb key (sideKey s c level) ≡ eqb y k
+          same = rw (← ev, ← ek, ← eb, ← ey)
 
 -- ---- a maker
 
@@ -141,11 +197,9 @@ module _ (s : Side) (x : ℕ) (p : List ℕ) where
   unfolding letterYes pageCandidates candidates letterCandidate
   letter-s l e = rw e
 
-  pub letter-other : (l a : ℕ) (r : Bool) → A ≤ l → l ≤ Z → (l ≡ D → ⊥) → (l ≡ S → ⊥) → a ≡ slotAt l → r ≡ answersYes s x (candidateOf s 0 (quoteIn (part p a quoteLength)))
-      → r ≡ letterYes p s x l
+  pub letter-other : (l : ℕ) (r : Bool) → (l ≡ D → ⊥) → (l ≡ S → ⊥) → r ≡ answersYes s x (candidateOf s 0 (quotesIn p l)) → r ≡ letterYes p s x l
   unfolding letterYes pageCandidates candidates letterCandidate
-  letter-other l a r lo hi n m ea er =
-      er ∙ rw (ne-eqb l D n, ne-eqb l S m, quotes-at p l lo hi, ea) (quote-is s x 0 (quoteIn (part p (slotAt l) quoteLength)) ∙ sym (quote-is s x l (quoteIn (part p (slotAt l) quoteLength))))
+  letter-other l r n m er = er ∙ rw (ne-eqb l D n, ne-eqb l S m) (quote-is s x 0 (quotesIn p l) ∙ sym (quote-is s x l (quotesIn p l)))
 
   -- ---- the search
 

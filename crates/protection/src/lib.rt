@@ -5,14 +5,16 @@ ghost use lib.ListN.{length};
 ghost use Rattle.field.specs.Field.{part};
 ghost use Rattle.field.specs.Ascii as ascii;
 ghost use Rattle.lists.specs.Lists.{firstFrom};
-ghost use Rattle.quote.specs.Quote.{levelIn, quoteIn, candidateOf, quoteLength, levelLength};
+ghost use Rattle.quote.specs.Quote.{levelIn, candidateOf, levelLength};
 ghost use Rattle.page.specs.Layout.{pageLength, makerCount};
+ghost use Rattle.page.specs.Page.{quotesIn};
 ghost use Rattle.protection.specs.Protection.{reaches, answersYes, pageCandidates, pageTrading, protection};
 ghost use Rattle.protection.specs.code.Search.{levelYes, makerYes, letterYes};
 use lists::Found;
 use page::Cell;
 use page::Letter;
 use page::Page;
+use quote::Level;
 use ranking::Side;
 
 /// Whether a price is protected, and how many letters were looked at: the position of the letter that answered yes, or 26.
@@ -55,13 +57,20 @@ fn level_yes(page: &[u8], at: usize, side: Side, price: u64) -> bool
     false
 }
 
-// Whether the side of the quote at `at` counts and reaches the price.
-fn quote_yes(page: &[u8], at: usize, side: Side, price: u64) -> bool
-    requires { ⌜ at + quoteLength ≤ length (now page) ⌝ }
-    ensures { λ r. ⌜ r ≡ answersYes side price (candidateOf side 0 (quoteIn (part (now (page .entry)) at quoteLength))) ⌝ }
+// Whether the side of a letter's quote counts and reaches the price. Its key is read last.
+fn quote_yes(page: &[u8], letter: usize, side: Side, price: u64) -> bool
+    requires { ⌜ length (now page) ≡ pageLength ⌝ }
+    requires { ⌜ (ascii.A ≤ letter) × (letter ≤ ascii.Z) ⌝ }
+    ensures { λ r. ⌜ r ≡ answersYes side price (candidateOf side 0 (quotesIn (now (page .entry)) letter)) ⌝ }
 {
-    if level_yes(page, at + page::in_quote(side), side, price) {
-        return quote::admits(side, field::get8(page, at));
+    let at = page::slot_at(letter);
+    let level = at + page::in_quote(side);
+    if level_yes(page, level, side, price) {
+        let condition = field::get8(page, at);
+        if quote::admits(side, condition) {
+            let own = keys::quote_key(side, condition, Level::get(page, level));
+            return field::low32(page, page::quote_key_at(side, letter)) == own;
+        }
     }
     false
 }
@@ -116,7 +125,7 @@ fn letter_yes(page: &[u8], letter: usize, side: Side, price: u64) -> bool
     if letter == Letter::S {
         return false;
     }
-    quote_yes(page, page::slot_at(letter), side, price)
+    quote_yes(page, letter, side, price)
 }
 
 // Looks at the letters of a page from A and stops at the first whose national candidate bids the price or more, or offers it or less.

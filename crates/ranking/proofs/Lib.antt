@@ -3,3 +3,4 @@ pub mod RankingLaws
 pub mod ChoiceLaws
 pub mod Bridge
 pub mod LeadLaws
+pub mod ChosenLaws

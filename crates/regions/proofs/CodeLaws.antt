@@ -22,7 +22,7 @@ use Rattle.update.specs.Parts.{readingOf, knownBy}
 use Rattle.update.proofs.WorkLaws.{pageCode}
 use Rattle.regions.proofs.RegionLaws.{in-within, Covers, stretch, Reads, local-reads}
 use Rattle.regions.proofs.RefreshLaws.{refreshed-reads, refresh-swap}
-use Rattle.regions.proofs.OwnLaws.{head, own, seen, slot-own, cells-own, head-seen, own-seen, own-head, own-entries, own-apart, entries-head, entries-seen, seen-apart}
+use Rattle.regions.proofs.OwnLaws.{head, own, seen, places-own, cells-own, head-seen, own-seen, own-head, own-entries, own-apart, entries-head, entries-seen, seen-apart}
 use Rattle.regions.proofs.PartLaws.{writes, changes, Sent, levels-read, makers-read, part-local}
 use Rattle.regions.proofs.SentLaws.{Speaks, speaks}
 
@@ -62,7 +62,7 @@ code-read : (n l : ℕ) (m : List ℕ) → Reads pageLength (seen n l) (pageCode
 unfolding knownBy readingOf
 code-read n l m p q v w a =
     code-same (knownBy (readingOf p)) (knownBy (readingOf q)) l m refl (lot-read p q v w (λ i h. a i (head-seen n l i h))) (primary-read p q v w (λ i h. a i (head-seen n l i h)))
-    (levels-read l p q v w (λ i h. a i (own-seen n l i (slot-own n l i h))))
+    (levels-read l p q v w (λ i h. a i (own-seen n l i (places-own n l i h))))
     (λ e.
     let c : makersIn p ≡ makersIn q = makers-read p q v w (λ i h. a i (own-seen n l i (cells-own n l e i h))) in
     ((λ i. length (occupied (c i))), (λ i. λ x. isSome (findMaker x (c i)))))

@@ -15,24 +15,31 @@ use Rattle.lists.specs.declared.Found.{Found}
 use Rattle.lists.specs.declared.Found.the-variants.{At, Nothing}
 use Rattle.lists.proofs.Tests.{upper-low}
 use Rattle.quote.specs.declared.Quote.{Quote}
-use Rattle.quote.specs.Quote.{emptyQuote, noQuote, quoteIn, quoteBytes, quoteOver, quoteLength}
+use Rattle.quote.specs.declared.Level.{Level}
+use Rattle.quote.specs.Quote.{emptyQuote, quoteBytes, quoteOver, quoteLength}
 use Rattle.quote.proofs.QuoteLaws.{length-quote}
-use Rattle.levels.specs.Levels.{Odd, idleOdd, levelsIn, levelsBytes, levelsLength, noLevels}
-use Rattle.levels.proofs.SideLaws.{length-levels}
+use Rattle.ranking.specs.declared.Side.{Side}
+use Rattle.ranking.specs.declared.Side.the-variants.{Bid, Offer}
+use Rattle.levels.specs.Levels.{Standing, Odd, idleOdd, cellsBytes, sideLength, levelsLength}
+use Rattle.levels.proofs.SideLaws.{length-cells}
+use Rattle.keys.specs.Keys.{keyLength, quoteKey}
+use Rattle.field.specs.Low.{leBytes}
+use Rattle.field.proofs.LowLaws.{length-leBytes}
+use Rattle.page.proofs.KeyLaws.{quote-keys-high, first-keys-high, quote-same, level-same}
 use Rattle.message.specs.Message.{Part, roundPart, oddPart, makerPart, finraPart, statusPart}
 use Rattle.message.proofs.SpokenLaws.{Shaped}
 use Rattle.entries.specs.Entries.{Maker}
-use Rattle.page.specs.Layout.{slotLength, cellLength, makerCount, cellsAt, pageLength, slotAt, cellAt, statusAt}
-use Rattle.page.specs.Page.{quotesIn, levelsFor, makerIn, makersIn, refreshed}
+use Rattle.page.specs.Layout.{slotLength, cellLength, makerCount, cellsAt, pageLength, slotAt, cellAt, statusAt, quoteKeyAt, firstKeyAt, inLevels}
+use Rattle.page.specs.Page.{firstKey, quotesIn, levelsFor, withKey, withQuote, withSide, makerIn, makersIn, refreshed}
 use Rattle.makers.specs.Makers.{named, findMaker, cellOf, makerPlace, freePlace, cellFor, putAt, putMakerBy, putMaker, makerOver, markCell, markCells}
-use Rattle.update.specs.Parts.{putRound, roundOn, putLevels, putOdd, oddOnPage, makerOn, finraOn, putStatus, statusOn}
+use Rattle.update.specs.Parts.{putRound, roundOn, afterOdd, putLevels, putOdd, oddOnPage, makerOn, finraOn, putStatus, statusOn}
 use Rattle.update.proofs.EntryLaws.{makers-same}
 use Rattle.update.proofs.SearchLaws.{first-same}
-use Rattle.update.proofs.SlotLaws.{afterOdd}
+use Rattle.update.proofs.SlotLaws.{side-inside}
 use Rattle.update.proofs.CellLaws.{length-for, mark-length}
 use Rattle.update.proofs.MakerLaws.{maker-hit, free-hit}
 use Rattle.regions.proofs.RegionLaws.{in-within, Covers, stretch, Reads, Local, local-none, local-then, local-wider, local-choose, local-splice}
-use Rattle.regions.proofs.OwnLaws.{slotOf, cells, status, own, slot-own, cells-own, status-own}
+use Rattle.regions.proofs.OwnLaws.{slotOf, placesOf, cells, status, own, places-own, cells-own, status-own, slot-place, quote-key-place, first-key-place}
 
 -- ---- a part: what it writes, then the entries
 
@@ -92,45 +99,87 @@ sent-shaped P l u (makerPart s m q) e = tt
 sent-shaped P l u (finraPart c) e = tt
 sent-shaped P l u (statusPart s x) e = tt
 
--- ---- a slot
+-- ---- a letter's quote and levels: its slot and its keys
 
 module _ (l : ℕ) where
-  quote-in : Covers (slotOf l) (slotAt l) quoteLength
-  quote-in i lo hi = in-within (slotAt l) slotLength i lo (omega arith)
+  quote-in : Covers (placesOf l) (slotAt l) quoteLength
+  quote-in i lo hi = slot-place l i (in-within (slotAt l) slotLength i lo (omega arith))
 
-  levels-in : Covers (slotOf l) (slotAt l + quoteLength) levelsLength
-  levels-in i lo hi = in-within (slotAt l) slotLength i (omega arith) (omega arith)
+  levels-in : Covers (placesOf l) (slotAt l + quoteLength) levelsLength
+  levels-in i lo hi = slot-place l i (in-within (slotAt l) slotLength i (omega arith) (omega arith))
 
-  pub quotes-read : Reads pageLength (slotOf l) (λ p. quotesIn p l)
-  unfolding quotesIn
-  quotes-read p q v w a = ap (λ (x : List ℕ). cond (upper l) (quoteIn x) noQuote) (stretch (slotOf l) p q a quoteLength (slotAt l) quote-in)
+  quote-key-in : (s : Side) → Covers (placesOf l) (quoteKeyAt s l) keyLength
+  quote-key-in s i lo hi = quote-key-place s l i (in-within (quoteKeyAt s l) keyLength i lo hi)
 
-  pub levels-read : Reads pageLength (slotOf l) (λ p. levelsFor p l)
-  unfolding levelsFor
-  levels-read p q v w a = ap (λ (x : List ℕ). cond (upper l) (levelsIn x) noLevels) (stretch (slotOf l) p q a levelsLength (slotAt l + quoteLength) levels-in)
+  first-key-in : (s : Side) → Covers (placesOf l) (firstKeyAt s l) keyLength
+  first-key-in s i lo hi = first-key-place s l i (in-within (firstKeyAt s l) keyLength i lo hi)
+
+  pub quotes-read : Reads pageLength (placesOf l) (λ p. quotesIn p l)
+  quotes-read p q v w a =
+      quote-same q p l (λ s. stretch (placesOf l) p q a keyLength (quoteKeyAt s l) (quote-key-in s)) (stretch (placesOf l) p q a quoteLength (slotAt l) quote-in)
+
+  pub levels-read : Reads pageLength (placesOf l) (λ p. levelsFor p l)
+  levels-read p q v w a =
+      level-same q p l (λ s. stretch (placesOf l) p q a keyLength (firstKeyAt s l) (first-key-in s)) (stretch (placesOf l) p q a levelsLength (slotAt l + quoteLength) levels-in)
 
   module _ (u : upper l ≡ true) where
     slot-end : slotAt l + slotLength ≤ pageLength
     slot-end = omega (arith, upper-low l u .0, upper-low l u .1)
 
-    round-local : (s : ℕ) (q : Quote) → Local pageLength (slotOf l) (writes (roundPart s l q))
+    -- the same bytes, whatever stands there
+    bytes-local : (a w : ℕ) (b : List ℕ) → a + w ≤ pageLength → Covers (placesOf l) a w → length b ≡ w → Local pageLength (placesOf l) (λ p. splice p a b)
+    bytes-local a w b top c n = local-splice pageLength (placesOf l) a w (λ p. b) top c (λ p h. n) (λ p q v w a. refl)
+
+    quote-key-local : (s : Side) (k : ℕ) → Local pageLength (placesOf l) (withKey (quoteKeyAt s l) k)
+    quote-key-local s k =
+        bytes-local (quoteKeyAt s l) keyLength (leBytes keyLength k) (omega (arith, quote-keys-high s, upper-low l u .0, upper-low l u .1)) (quote-key-in s) (length-leBytes keyLength k)
+
+    first-key-local : (s : Side) (k : ℕ) → Local pageLength (placesOf l) (withKey (firstKeyAt s l) k)
+    first-key-local s k =
+        bytes-local (firstKeyAt s l) keyLength (leBytes keyLength k) (omega (arith, first-keys-high s, upper-low l u .0, upper-low l u .1)) (first-key-in s) (length-leBytes keyLength k)
+
+    quote-local : (q : Quote) → Local pageLength (placesOf l) (withQuote l q)
+    unfolding withQuote
+    quote-local q =
+        local-then pageLength (placesOf l) (λ p. withKey (quoteKeyAt Bid l) (quoteKey Bid q) (splice p (slotAt l) (quoteBytes q))) (withKey (quoteKeyAt Offer l) (quoteKey Offer q))
+        (local-then pageLength (placesOf l) (λ p. splice p (slotAt l) (quoteBytes q)) (withKey (quoteKeyAt Bid l) (quoteKey Bid q))
+        (bytes-local (slotAt l) quoteLength (quoteBytes q) (omega (arith, slot-end)) quote-in (length-quote q)) (quote-key-local Bid (quoteKey Bid q)))
+        (quote-key-local Offer (quoteKey Offer q))
+
+    round-local : (s : ℕ) (q : Quote) → Local pageLength (placesOf l) (writes (roundPart s l q))
     unfolding putRound
     round-local s q =
-        local-splice pageLength (slotOf l) (slotAt l) quoteLength (λ p. quoteBytes (quoteOver (quotesIn p l) q)) (omega (arith, slot-end)) quote-in
-        (λ p w. length-quote (quoteOver (quotesIn p l) q)) (λ p x v w a. λ k. quoteBytes (quoteOver (quotes-read p x v w a k) q))
+        local-choose pageLength (placesOf l) (withQuote l) (λ p. quoteOver (quotesIn p l) q) (λ p x v w a. λ k. quoteOver (quotes-read p x v w a k) q)
+        (λ p. quote-local (quoteOver (quotesIn p l) q))
 
-    levels-local : (o : Odd) → Local pageLength (slotOf l) (putLevels l o)
-    unfolding putLevels
+    side-in : (s : Side) → Covers (placesOf l) (slotAt l + quoteLength + inLevels s) sideLength
+    side-in s i lo hi = slot-place l i (in-within (slotAt l) slotLength i (omega arith) (omega (arith, side-inside s)))
+
+    -- a side of its levels
+    side-local : (s : Side) (vs : List Level) → Local pageLength (placesOf l) (withSide s l vs)
+    unfolding withSide
+    side-local s vs =
+        local-then pageLength (placesOf l) (λ p. splice p (slotAt l + quoteLength + inLevels s) (cellsBytes 4 vs)) (withKey (firstKeyAt s l) (firstKey s vs))
+        (bytes-local (slotAt l + quoteLength + inLevels s) sideLength (cellsBytes 4 vs) (omega (arith, slot-end, side-inside s)) (side-in s) (length-cells 4 vs))
+        (first-key-local s (firstKey s vs))
+
+    bothPut : Standing → List ℕ → List ℕ
+    bothPut v p = withSide Offer l (v .offers) (withSide Bid l (v .bids) p)
+
+    levels-local : (o : Odd) → Local pageLength (placesOf l) (putLevels l o)
+    unfolding putLevels bothPut
     levels-local o =
-        local-splice pageLength (slotOf l) (slotAt l + quoteLength) levelsLength (λ p. levelsBytes (afterOdd o (levelsFor p l))) (omega (arith, slot-end)) levels-in
-        (λ p w. length-levels (afterOdd o (levelsFor p l))) (λ p x v w a. λ k. levelsBytes (afterOdd o (levels-read p x v w a k)))
+        local-choose pageLength (placesOf l) bothPut (λ p. afterOdd o (levelsFor p l)) (λ p x v w a. λ k. afterOdd o (levels-read p x v w a k))
+        (λ p.
+        local-then pageLength (placesOf l) (withSide Bid l (afterOdd o (levelsFor p l) .bids)) (withSide Offer l (afterOdd o (levelsFor p l) .offers))
+        (side-local Bid (afterOdd o (levelsFor p l) .bids)) (side-local Offer (afterOdd o (levelsFor p l) .offers)))
 
-    odd-local : (s : ℕ) (o : Odd) → Local pageLength (slotOf l) (writes (oddPart s l o))
+    odd-local : (s : ℕ) (o : Odd) → Local pageLength (placesOf l) (writes (oddPart s l o))
     unfolding putOdd
     odd-local s o = go (idleOdd o)
       where
-        go : (t : Bool) → Local pageLength (slotOf l) (λ p. cond t p (putLevels l o p))
-        go true = local-none pageLength (slotOf l)
+        go : (t : Bool) → Local pageLength (placesOf l) (λ p. cond t p (putLevels l o p))
+        go true = local-none pageLength (placesOf l)
         go false = levels-local o
 
 -- ---- the makers' cells
@@ -210,10 +259,10 @@ module _ (n l : ℕ) (u : upper l ≡ true) where
   pub part-local : (r : Part) → Sent n l r → Local pageLength (own n l) (writes r)
   part-local (roundPart s k q) e =
       subst (λ (j : ℕ). Local pageLength (own n l) (writes (roundPart s j q))) (sym e)
-      (local-wider pageLength (slotOf l) (own n l) (writes (roundPart s l q)) (slot-own n l) (round-local l u s q))
+      (local-wider pageLength (placesOf l) (own n l) (writes (roundPart s l q)) (places-own n l) (round-local l u s q))
   part-local (oddPart s k o) e =
       subst (λ (j : ℕ). Local pageLength (own n l) (writes (oddPart s j o))) (sym e)
-      (local-wider pageLength (slotOf l) (own n l) (writes (oddPart s l o)) (slot-own n l) (odd-local l u s o))
+      (local-wider pageLength (placesOf l) (own n l) (writes (oddPart s l o)) (places-own n l) (odd-local l u s o))
   part-local (makerPart s m q) e = local-wider pageLength cells (own n l) (writes (makerPart s m q)) (cells-own n l e) (maker-local s m q)
   part-local (finraPart c) e = local-wider pageLength cells (own n l) (writes (finraPart c)) (cells-own n l e) (marks-local c 0 makerCount (omega arith))
   part-local (statusPart s x) e = local-wider pageLength status (own n l) (writes (statusPart s x)) (status-own n l e) (status-local s x)

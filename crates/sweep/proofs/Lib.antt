@@ -8,4 +8,3 @@ pub mod NextLaws
 pub mod LoopLaws
 pub mod HaltLaws
 pub mod StepsLaws
-pub mod Cases

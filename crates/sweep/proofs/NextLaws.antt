@@ -9,7 +9,7 @@ use native.Mathlib.Omega.{arith}
 use lib.Dec.{eqb}
 use borrow.Author.Tests.{eq-eqb, ne-eqb, le-leb, lt-leb}
 use Rattle.field.specs.Field.{Bytes, part, field}
-use Rattle.field.specs.Ascii.{A, D, S, Z}
+use Rattle.field.specs.Ascii.{A, D, S}
 use Rattle.lists.specs.Lists.{mapOption, bindOption, collect}
 use Rattle.lists.proofs.Searches.{less-one}
 use Rattle.ranking.specs.declared.Side.{Side}
@@ -23,10 +23,9 @@ use Rattle.ranking.proofs.Bridge.{OrCounting, live-back, side-best}
 use Rattle.quote.specs.Quote.{candidateOf, quoteIn, quoteLength}
 use Rattle.text.specs.Form.{nameLength}
 use Rattle.entries.specs.Entries.{letters, asD, finraBest, letterCandidate, candidates}
-use Rattle.page.specs.Page.{makersIn, occupied}
-use Rattle.page.specs.Layout.{cellAt, slotAt, makerCount, letterCount}
+use Rattle.page.specs.Page.{quotesIn, makersIn, occupied}
+use Rattle.page.specs.Layout.{cellAt, makerCount, letterCount}
 use Rattle.walk.specs.code.Walk.{asked, makerAt}
-use Rattle.walk.proofs.ReadLaws.{quotes-at}
 use Rattle.walk.proofs.StepLaws.{maker-r, maker-other}
 use Rattle.walk.proofs.WalkLaws.{maker-counts, letter-counts, finra-counts, finra-is}
 use Rattle.protection.specs.Protection.{pageCandidates}
@@ -87,12 +86,12 @@ module _ (p : List ℕ) (s : Side) where
   unfolding pageCandidates candidates letterCandidate live
   letter-s l e = rw e
 
-  other-is : (l a : ℕ) → A ≤ l → l ≤ Z → (l ≡ D → ⊥) → (l ≡ S → ⊥) → a ≡ slotAt l → candidateOf s l (quoteIn (part p a quoteLength)) ≡ pageCandidates p s l
+  other-is : (l : ℕ) → (l ≡ D → ⊥) → (l ≡ S → ⊥) → candidateOf s l (quotesIn p l) ≡ pageCandidates p s l
   unfolding pageCandidates candidates letterCandidate
-  other-is l a lo hi n m ea = rw (ne-eqb l D n, ne-eqb l S m, quotes-at p l lo hi, ea)
+  other-is l n m = rw (ne-eqb l D n, ne-eqb l S m)
 
-  pub letter-other : Bytes p → (l a : ℕ) (r : Candidate) → A ≤ l → l ≤ Z → (l ≡ D → ⊥) → (l ≡ S → ⊥) → a ≡ slotAt l → r ≡ orNone (candidateOf s l (quoteIn (part p a quoteLength))) → live r ≡ pageCandidates p s l
-  letter-other b l a r lo hi n m ea er = ap live (er ∙ ap orNone (other-is l a lo hi n m ea)) ∙ live-back (pageCandidates p s l) (page-counts p b s l)
+  pub letter-other : Bytes p → (l : ℕ) (r : Candidate) → (l ≡ D → ⊥) → (l ≡ S → ⊥) → r ≡ orNone (candidateOf s l (quotesIn p l)) → live r ≡ pageCandidates p s l
+  letter-other b l r n m er = ap live (er ∙ ap orNone (other-is l n m)) ∙ live-back (pageCandidates p s l) (page-counts p b s l)
 
 -- ---- behind the last one used
 

@@ -81,7 +81,7 @@ fn letter_candidate(page: &[u8], letter: usize, side: Side, finra: Candidate) ->
     if letter == Letter::S {
         return Candidate::NONE;
     }
-    walk::quoted(page, page::slot_at(letter), side, letter as u32)
+    slots::quoted(page, letter, side)
 }
 
 // Whether x stands behind the last candidate used. Behind none stands every one.

@@ -3,40 +3,49 @@
 use Prim.Native.Nat.{ℕ, zero, suc, _+_, _*_, _≤_, _<_}
 use mathlib.Core.Path.{_≡_, refl, sym, ap, ap₂, _∙_}
 use mathlib.Core.Bool.{Bool, true, false, cond}
-use mathlib.Core.List.{List}
+use mathlib.Core.List.{List, [], _∷_}
+use mathlib.Core.Option.{none}
 use native.Mathlib.Omega.{arith}
 use lib.Dec.{eqb}
 use lib.ListN.{length}
 use borrow.Author.Tests.{eq-eqb, ne-eqb}
 use Rattle.field.specs.Field.{part, splice}
 use Rattle.field.proofs.Laws.{part-before, length-part, length-splice}
-use Rattle.lists.specs.Lists.{upper, orElse}
+use Rattle.lists.specs.Lists.{upper}
 use Rattle.lists.specs.declared.Found.the-variants.{At, Nothing}
 use Rattle.lists.proofs.Tests.{Cut, equal, apart, cut, upper-low}
 use Rattle.quote.specs.declared.Quote.{Quote}
-use Rattle.quote.specs.Quote.{emptyQuote, quoteOver, quoteIn, quoteBytes, quoteLength}
-use Rattle.levels.specs.Levels.{Standing, Odd, oddOn, idleOdd, oddIn, levelsIn, sideLength, levelsLength, itemLength}
-use Rattle.levels.specs.code.Cells.{joinedLevels, judgedNumber}
-use Rattle.oddpart.specs.code.Part.{oddAnswer, sidesOf, oddAnswerWith}
+use Rattle.quote.specs.declared.Level.{Level}
+use Rattle.quote.specs.Quote.{emptyQuote, quoteOver, quoteIn, quoteLength}
+use Rattle.ranking.specs.declared.Side.{Side}
+use Rattle.ranking.specs.declared.Side.the-variants.{Bid, Offer}
+use Rattle.levels.specs.Levels.{Standing, Odd, idleOdd, oddIn, ranked, sideIn, levelsIn, sideLength, levelsLength, itemLength}
+use Rattle.levels.specs.code.Cells.{cellsOf, judgedNumber}
+use Rattle.levels.proofs.LevelLaws.{Ranked}
+use Rattle.levels.proofs.SideLaws.{side-falls, side-short, cells-read}
+use Rattle.oddpart.specs.code.Part.{oddAnswer, sidesOf, standingIn, oddAnswerWith}
 use Rattle.oddpart.specs.declared.OddAnswer.{OddAnswer}
 use Rattle.levels.specs.declared.Judged.{Judged}
 use Rattle.levels.specs.declared.Judged.the-variants.{Pass, Refused}
-use Rattle.oddpart.proofs.AnswerLaws.{answer-pass, refused-nothing, refused-code, odd-idle, idle-in, write-both}
+use Rattle.oddpart.proofs.AnswerLaws.{answer-pass, refused-nothing, refused-code, odd-idle, idle-in}
 use Rattle.entries.specs.Publication.{publication, changeFlags, publicationLength}
 use Rattle.page.proofs.FrameLaws.{refreshed-part}
-use Rattle.page.specs.Page.{quotesIn, levelsFor, publishedEntries, refreshed}
+use Rattle.page.specs.Page.{agreedSide, agreedLevels, firstKey, quotesIn, levelsFor, withQuote, withSide, publishedEntries, refreshed}
+use Rattle.slots.specs.code.Slots.{withCells}
+use Rattle.slots.proofs.ReadLaws.{levels-here}
 use Rattle.message.specs.Message.{makerCode}
 use Rattle.makers.specs.Makers.{putMaker, makerPlace, freePlace, cellFor, markCell, markCells}
-use Rattle.update.specs.Parts.{readingOf, knownBy, putRound, roundOn, putLevels, putOdd, oddOnPage, makerOn, finraOn}
+use Rattle.update.specs.Parts.{readingOf, knownBy, putRound, roundOn, afterOdd, putLevels, putOdd, oddOnPage, makerOn, finraOn}
 use Rattle.update.specs.code.Update.{Updated, rejected, flagged, oddCodeOn, oddTaken, roundLotOn, oddLotOn, makerQuoteOn}
 use Rattle.update.proofs.EntryLaws.{kept-lot}
 use Rattle.update.proofs.CellLaws.{mark-length}
 use Rattle.update.proofs.MakerLaws.{maker-hit, free-hit, maker-code, over, over-known, over-new}
-use Rattle.update.proofs.SlotLaws.{quote-here, levels-here, put-round-levels, put-round-kept, round-stands, odd-stands}
+use Rattle.update.proofs.KeyLaws.{cells-side}
+use Rattle.update.proofs.SlotLaws.{put-round-levels, put-round-kept, round-stands, odd-stands}
 use Rattle.update.proofs.RefreshLaws.{one-refresh}
 use Rattle.field.specs.Ascii.{A, Z, space}
 use Rattle.text.specs.Form.{nameLength}
-use Rattle.page.specs.Layout.{entriesAt, slotsAt, slotLength, cellLength, makerCount, pageLength, pageLot, keptEntries, slotAt, cellAt}
+use Rattle.page.specs.Layout.{entriesAt, slotsAt, cellLength, makerCount, pageLength, pageLot, keptEntries, slotAt, cellAt}
 
 -- a write behind the entries leaves them
 pub entries-stand : (p : List ℕ) (a : ℕ) (new : List ℕ) → length p ≡ pageLength → slotsAt ≤ a → a ≤ pageLength → keptEntries (splice p a new) ≡ keptEntries p
@@ -55,16 +64,42 @@ renewed-is code p q r w e f = rw (refreshed-part p (omega arith), ← e, ← f)
 
 -- ---- Q K and Q M
 
--- where a letter's slot lies
-pub slot-inside : (l : ℕ) → upper l ≡ true → slotAt l + slotLength ≤ pageLength
-slot-inside l u = omega (arith, upper-low l u .0, upper-low l u .1)
-
 pub letter-inside : (l : ℕ) → upper l ≡ true → (A ≤ l) × (l ≤ Z)
 letter-inside l u = (upper-low l u .0, omega (arith, upper-low l u .1))
 
-pub answer-here : (p : List ℕ) (l at : ℕ) (o : Odd) (a : OddAnswer) → upper l ≡ true → at ≡ slotAt l → a ≡ oddAnswer (pageLot p) (levelsIn (part p (at + quoteLength) levelsLength)) o
-    → a ≡ oddAnswer (pageLot p) (levelsFor p l) o
-answer-here p l at o a u e f = f ∙ rw (e, levels-here p l u)
+-- both sides read are a reading, as `odd_part` requires
+agreed-short : (s : Side) (k : ℕ) (vs : List Level) → length vs ≤ 4 → length (agreedSide s k vs) ≤ 4
+unfolding agreedSide
+agreed-short s k vs h = go (eqb k (firstKey s vs))
+  where
+    go : (t : Bool) → length (cond t vs []) ≤ 4
+    go true = h
+    go false = omega arith
+
+agreed-falls : (s : Side) (k : ℕ) (vs : List Level) → Ranked s vs → Ranked s (agreedSide s k vs)
+unfolding agreedSide
+agreed-falls s k vs h = go (eqb k (firstKey s vs))
+  where
+    go : (t : Bool) → Ranked s (cond t vs [])
+    go true = h
+    go false = tt
+
+agreed-again : (kb ko : ℕ) (b : List ℕ) → standingIn (sidesOf (agreedLevels kb ko (levelsIn b))) ≡ agreedLevels kb ko (levelsIn b)
+unfolding standingIn sidesOf levelsIn agreedLevels
+agreed-again kb ko b = λ i. record { bids = side Bid kb (part b 0 sideLength) i; offers = side Offer ko (part b sideLength sideLength) i }
+  where
+    side : (s : Side) (k : ℕ) (c : List ℕ) → ranked s none (cellsOf (agreedSide s k (sideIn s c))) ≡ agreedSide s k (sideIn s c)
+    side s k c = cells-read s (agreedSide s k (sideIn s c)) (agreed-short s k (sideIn s c) (side-short s c)) (agreed-falls s k (sideIn s c) (side-falls s c))
+
+module _ (p : List ℕ) (l : ℕ) (h : A ≤ l) (k : l ≤ Z) (b o : List Level) (e : b ≡ cellsOf (levelsFor p l .bids)) (f : o ≡ cellsOf (levelsFor p l .offers)) where
+  sides-read : b ∷ o ∷ [] ≡ sidesOf (levelsFor p l)
+  unfolding sidesOf
+  sides-read = rw (← e, ← f)
+
+  pub levels-read : (standingIn (b ∷ o ∷ []) ≡ levelsFor p l) × (b ∷ o ∷ [] ≡ sidesOf (standingIn (b ∷ o ∷ [])))
+  levels-read =
+      let s : standingIn (b ∷ o ∷ []) ≡ levelsFor p l = ap standingIn sides-read ∙ rw (levels-here p l h k) (agreed-again _ _ (part p (slotAt l + quoteLength) levelsLength)) in
+      (s, sides-read ∙ ap sidesOf (sym s))
 
 -- no items are no bytes
 module _ (mark bids offers t : ℕ) (b : List ℕ) (h : length b ≡ itemLength * (bids + offers)) where
@@ -94,14 +129,13 @@ module _ (p : List ℕ) (l : ℕ) (o : Odd) (a : OddAnswer) (e : a ≡ oddAnswer
   )
 
   -- both sides written
-  pub levels-written : (at : ℕ) (p′ : List ℕ) → idleOdd o ≡ false → a .judged ≡ Pass → at ≡ slotAt l
-      → p′ ≡ splice (splice p (at + quoteLength) (joinedLevels (a .bids .cells))) (at + quoteLength + sideLength) (joinedLevels (a .offers .cells)) → (_≡_ {A = ℕ} 0 (oddCodeOn l o p)) × (p′ ≡ oddTaken l o p)
+  pub levels-written : (p′ : List ℕ) → idleOdd o ≡ false → a .judged ≡ Pass → p′ ≡ withCells Offer l (a .offers .cells) (withCells Bid l (a .bids .cells) p) → (_≡_ {A = ℕ} 0 (oddCodeOn l o p)) × (p′ ≡ oddTaken l o p)
   unfolding putOdd putLevels sidesOf
-  levels-written at p′ i j h f =
-      let v : Standing = orElse (oddOn o (levelsFor p l)) (levelsFor p l) in
+  levels-written p′ i j f =
+      let v : Standing = afterOdd o (levelsFor p l) in
       let (z, k) = answer-pass (pageLot p) (levelsFor p l) o (told Pass j) in
       let y : a ≡ oddAnswerWith Pass (sidesOf v) = e ∙ k in
-      (sym z, f ∙ rw (z, i, y, h) (write-both p (slotAt l + quoteLength) v))
+      (sym z, f ∙ rw (z, i, y) (cells-side Offer l (v .offers) (withCells Bid l (cellsOf (v .bids)) p) ∙ ap (withSide Offer l (v .offers)) (cells-side Bid l (v .bids) p)))
 
 module _ (p : List ℕ) (w : length p ≡ pageLength) (l : ℕ) (u : upper l ≡ true) (o : Odd) where
   -- Q K: the round part is written, then the odd part, and the entries are worked out once
@@ -125,12 +159,11 @@ module _ (p : List ℕ) (w : length p ≡ pageLength) (l : ℕ) (u : upper l ≡
         flagged-from code p (putOdd l o x) (refreshed (putOdd l o x)) (odd-stands x size l u o ∙ round-stands p w l u new) ∙ ap (flagged code p) (sym (one-refresh x size l u o))
     once code false = flagged-from code p x (refreshed x) (round-stands p w l u new)
 
-    pub round-taken : (at : ℕ) (p′ : List ℕ) (code : ℕ) (p″ : List ℕ) (r : Updated) → at ≡ slotAt l → p′ ≡ splice p at (quoteBytes (quoteOver (quoteIn (part p at quoteLength)) q))
+    pub round-taken : (old over : Quote) (p′ : List ℕ) (code : ℕ) (p″ : List ℕ) (r : Updated) → old ≡ quotesIn p l → over ≡ quoteOver old q → p′ ≡ withQuote l over p
         → code ≡ oddCodeOn l o p′ → p″ ≡ oddTaken l o p′ → r ≡ flagged code p″ (refreshed p″) → r ≡ roundLotOn l 0 q o p
     unfolding roundLotOn putRound
-    round-taken at p′ code p″ r h d c g f =
-        let e : p′ ≡ x =
-        d ∙ ap (λ (k : ℕ). splice p k (quoteBytes (quoteOver (quoteIn (part p k quoteLength)) q))) h ∙ ap (λ (v : Quote). splice p (slotAt l) (quoteBytes (quoteOver v q))) (sym (quote-here p l u)) in
+    round-taken old over p′ code p″ r h v d c g f =
+        let e : p′ ≡ x = d ∙ ap (λ (z : Quote). withQuote l z p) (v ∙ ap (λ (z : Quote). quoteOver z q) h) in
         let k : code ≡ oddCodeOn l o p = c ∙ ap (oddCodeOn l o) e ∙ code-same in
         let y : p″ ≡ cond (eqb (oddCodeOn l o p) 0) (putOdd l o x) x = g ∙ ap (oddTaken l o) e ∙ rw code-same in
         f ∙ (λ i. flagged (k i) (y i) (refreshed (y i))) ∙ once (oddCodeOn l o p) (eqb (oddCodeOn l o p) 0)

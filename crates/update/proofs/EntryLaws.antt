@@ -14,17 +14,20 @@ use Rattle.field.proofs.Laws.{bytes-splice, length-splice, part-put, part-befor
 use Rattle.lists.specs.Lists.{upper, every}
 use Rattle.lists.proofs.Ranges.{map-range}
 use Rattle.lists.proofs.Tests.{and-true}
+use Rattle.ranking.specs.declared.Side.{Side}
 use Rattle.quote.specs.declared.Quote.{Quote}
-use Rattle.quote.specs.Quote.{noQuote, quoteIn, quoteLength}
-use Rattle.levels.specs.Levels.{Standing, noLevels, levelsIn, levelsLength}
+use Rattle.quote.specs.Quote.{quoteLength}
+use Rattle.levels.specs.Levels.{Standing, levelsLength}
+use Rattle.keys.specs.Keys.{keyLength}
 use Rattle.entries.specs.Entries.{Maker}
 use Rattle.entries.specs.Publication.{publication, publicationLength}
 use Rattle.page.specs.Page.{quotesIn, levelsFor, makerIn, makersIn, pageEntries, haltedIn, publishedEntries, refreshed}
 use Rattle.entries.proofs.LengthLaws.{length-publication, bytes-publication}
 use Rattle.page.proofs.FrameLaws.{quotes-kept, makers-kept, levels-kept, halted-kept}
+use Rattle.page.proofs.KeyLaws.{quote-same, level-same}
 use Rattle.update.specs.Parts.{Reading, readingOf}
 use Rattle.update.proofs.Model.{worked, workedFor}
-use Rattle.page.specs.Layout.{entriesAt, cellLength, makerCount, pageLength, pageSymbol, pageLot, pagePrimary, keptEntries, slotAt, cellAt, symbolAt, lotAt, primaryAt, statusAt, headLength}
+use Rattle.page.specs.Layout.{entriesAt, cellLength, makerCount, pageLength, pageSymbol, pageLot, pagePrimary, keptEntries, slotAt, cellAt, quoteKeyAt, firstKeyAt, symbolAt, lotAt, primaryAt, statusAt, headLength}
 use Rattle.field.specs.Ascii.{H}
 use Rattle.text.specs.Form.{symbolLength}
 
@@ -37,22 +40,32 @@ bytes-every (x ∷ l) e (suc i) = bytes-every l (and-true (ltb x 256) (every (λ
 
 -- ---- what a page's readings depend on
 
-module _ (p p′ : List ℕ) where
-  pub quotes-same : ((l : ℕ) → upper l ≡ true → part p′ (slotAt l) quoteLength ≡ part p (slotAt l) quoteLength) → quotesIn p′ ≡ quotesIn p
+-- no other letter than A to Z has a quote or levels
+module _ (p p′ : List ℕ) (l : ℕ) where
+  pub quote-letter : (upper l ≡ true → quotesIn p′ l ≡ quotesIn p l) → quotesIn p′ l ≡ quotesIn p l
   unfolding quotesIn
-  quotes-same h = fun-ext (λ l. go l (upper l) refl)
+  quote-letter h = go (upper l) refl
     where
-      go : (l : ℕ) (t : Bool) → upper l ≡ t → cond t (quoteIn (part p′ (slotAt l) quoteLength)) noQuote ≡ cond t (quoteIn (part p (slotAt l) quoteLength)) noQuote
-      go l true e = ap quoteIn (h l e)
-      go l false e = refl
+      go : (t : Bool) → upper l ≡ t → quotesIn p′ l ≡ quotesIn p l
+      go true e = h e
+      go false e = rw e
 
-  pub levels-same : ((l : ℕ) → upper l ≡ true → part p′ (slotAt l + quoteLength) levelsLength ≡ part p (slotAt l + quoteLength) levelsLength) → levelsFor p′ ≡ levelsFor p
+  pub level-letter : (upper l ≡ true → levelsFor p′ l ≡ levelsFor p l) → levelsFor p′ l ≡ levelsFor p l
   unfolding levelsFor
-  levels-same h = fun-ext (λ l. go l (upper l) refl)
+  level-letter h = go (upper l) refl
     where
-      go : (l : ℕ) (t : Bool) → upper l ≡ t → cond t (levelsIn (part p′ (slotAt l + quoteLength) levelsLength)) noLevels ≡ cond t (levelsIn (part p (slotAt l + quoteLength) levelsLength)) noLevels
-      go l true e = ap levelsIn (h l e)
-      go l false e = refl
+      go : (t : Bool) → upper l ≡ t → levelsFor p′ l ≡ levelsFor p l
+      go true e = h e
+      go false e = rw e
+
+module _ (p p′ : List ℕ) where
+  pub quotes-same : ((l : ℕ) → upper l ≡ true → (s : Side) → part p′ (quoteKeyAt s l) keyLength ≡ part p (quoteKeyAt s l) keyLength)
+      → ((l : ℕ) → upper l ≡ true → part p′ (slotAt l) quoteLength ≡ part p (slotAt l) quoteLength) → quotesIn p′ ≡ quotesIn p
+  quotes-same k h = fun-ext (λ l. quote-letter p p′ l (λ u. quote-same p p′ l (k l u) (h l u)))
+
+  pub levels-same : ((l : ℕ) → upper l ≡ true → (s : Side) → part p′ (firstKeyAt s l) keyLength ≡ part p (firstKeyAt s l) keyLength)
+      → ((l : ℕ) → upper l ≡ true → part p′ (slotAt l + quoteLength) levelsLength ≡ part p (slotAt l + quoteLength) levelsLength) → levelsFor p′ ≡ levelsFor p
+  levels-same k h = fun-ext (λ l. level-letter p p′ l (λ u. level-same p p′ l (k l u) (h l u)))
 
   pub makers-same : ((k : ℕ) → k < makerCount → part p′ (cellAt k) cellLength ≡ part p (cellAt k) cellLength) → makersIn p′ ≡ makersIn p
   unfolding makersIn

@@ -3,6 +3,7 @@ pub mod TableLaws
 pub mod SearchLaws
 pub mod EntryLaws
 pub mod CellLaws
+pub mod KeyLaws
 pub mod SlotLaws
 pub mod MakerLaws
 pub mod BlankLaws

@@ -34,7 +34,9 @@ use Rattle.levels.specs.Levels.{levelsLength}
 use Rattle.field.specs.Ascii.{L, R}
 use Rattle.lists.specs.Lists.{member}
 use Rattle.text.specs.Form.{nameLength}
-use Rattle.page.specs.Layout.{cellsAt, cellLength, makerCount, pageLength, slotAt, cellAt, statusAt}
+use Rattle.page.specs.Layout.{cellsAt, cellLength, makerCount, pageLength, slotAt, cellAt, statusAt, quoteKeyAt, firstKeyAt}
+use Rattle.page.proofs.KeyLaws.{quote-keys-low, first-keys-low}
+use Rattle.keys.specs.Keys.{keyLength}
 
 -- ---- the searches
 
@@ -87,13 +89,13 @@ full m q e = rw e
 
 -- ---- a write in the cells
 
--- a page that differs behind the letters' slots only
-module _ (p p′ : List ℕ) (same : (at m : ℕ) → at + m ≤ cellsAt → part p′ at m ≡ part p at m) where
+-- a page that differs in the cells only
+module _ (p p′ : List ℕ) (same : (at m : ℕ) → at + m ≤ cellsAt → part p′ at m ≡ part p at m) (behind : (at m : ℕ) → statusAt ≤ at → part p′ at m ≡ part p at m) where
   cells-quotes : quotesIn p′ ≡ quotesIn p
-  cells-quotes = quotes-same p p′ (λ l u. same (slotAt l) quoteLength (omega (arith, upper-low l u .0, upper-low l u .1)))
+  cells-quotes = quotes-same p p′ (λ l u s. behind (quoteKeyAt s l) keyLength (omega (arith, quote-keys-low s))) (λ l u. same (slotAt l) quoteLength (omega (arith, upper-low l u .0, upper-low l u .1)))
 
   cells-levels : levelsFor p′ ≡ levelsFor p
-  cells-levels = levels-same p p′ (λ l u. same (slotAt l + quoteLength) levelsLength (omega (arith, upper-low l u .0, upper-low l u .1)))
+  cells-levels = levels-same p p′ (λ l u s. behind (firstKeyAt s l) keyLength (omega (arith, first-keys-low s))) (λ l u. same (slotAt l + quoteLength) levelsLength (omega (arith, upper-low l u .0, upper-low l u .1)))
 
 module _ (p : List ℕ) (w : length p ≡ pageLength) (k : ℕ) (below : k < makerCount) (new : List ℕ) (wide : length new ≡ cellLength) where
   cells-room : cellsAt + makerCount * cellLength ≤ length p
@@ -104,6 +106,9 @@ module _ (p : List ℕ) (w : length p ≡ pageLength) (k : ℕ) (below : k < mak
 
   cell-front : (at m : ℕ) → at + m ≤ cellsAt → part (splice p (cellAt k) new) at m ≡ part p at m
   cell-front at m h = part-before p (cellAt k) new at m (omega arith) (omega arith)
+
+  cell-behind : (at m : ℕ) → statusAt ≤ at → part (splice p (cellAt k) new) at m ≡ part p at m
+  cell-behind at m h = part-behind p (cellAt k) new at m (omega arith)
 
   cell-makers : (c : Option Maker) → makerIn new ≡ c → makersIn (splice p (cellAt k) new) ≡ map (setAt k c (cellOf p)) (range makerCount 0)
   unfolding makersIn
@@ -134,8 +139,11 @@ module _ (m : ℕ) (q : Quote) (p : List ℕ) (w : length p ≡ pageLength) wher
   put-maker-front : (at n : ℕ) → at + n ≤ cellsAt → part (putMaker m q p) at n ≡ part p at n
   put-maker-front at n h = put-elim (λ x. part x at n ≡ part p at n) refl (λ k b. cell-front p w k b (cellFor m q) (length-for m q) at n h)
 
+  put-maker-behind : (at n : ℕ) → statusAt ≤ at → part (putMaker m q p) at n ≡ part p at n
+  put-maker-behind at n h = put-elim (λ x. part x at n ≡ part p at n) refl (λ k b. cell-behind p w k b (cellFor m q) (length-for m q) at n h)
+
   put-maker-halted : haltedIn (putMaker m q p) ≡ haltedIn p
-  put-maker-halted = put-elim (λ x. haltedIn x ≡ haltedIn p) refl (λ k b. halted-same p _ (part-behind p (cellAt k) (cellFor m q) statusAt 1 (omega (arith, length-for m q))))
+  put-maker-halted = halted-same p (putMaker m q p) (put-maker-behind statusAt 1 (omega arith))
 
   rewrite-at : (k : ℕ) (c : Option Maker) → makerPlace p m ≡ At k → rewrite m c (makersIn p) ≡ map (setAt k c (cellOf p)) (range makerCount 0)
   unfolding makersIn makerPlace
@@ -231,7 +239,7 @@ module _ (m : ℕ) (q : Quote) (p : List ℕ) (w : length p ≡ pageLength) wher
     maker-reads =
         let x : List ℕ = putMaker m (over m q p) p in
         reads-by p x (haltedIn p) (quotesIn p) (makerPut m (over m q p) (makersIn p)) (levelsFor p) (put-maker-kept m (over m q p) p w) (put-maker-halted m (over m q p) p w)
-        (cells-quotes p x (put-maker-front m (over m q p) p w)) (put-makers m (over m q p) p w name over-fit over-stand) (cells-levels p x (put-maker-front m (over m q p) p w))
+        (cells-quotes p x (put-maker-front m (over m q p) p w) (put-maker-behind m (over m q p) p w)) (put-makers m (over m q p) p w name over-fit over-stand) (cells-levels p x (put-maker-front m (over m q p) p w) (put-maker-behind m (over m q p) p w))
 
 -- ---- FINRA Close and Open
 
@@ -261,6 +269,9 @@ module _ (c : ℕ) (p : List ℕ) (w : length p ≡ pageLength) where
   marks-front : (at m : ℕ) → at + m ≤ cellsAt → part (markCells c 0 makerCount p) at m ≡ part p at m
   marks-front at m h = marks .before at m (omega arith)
 
+  marks-behind : (at m : ℕ) → statusAt ≤ at → part (markCells c 0 makerCount p) at m ≡ part p at m
+  marks-behind at m h = marks .behind at m (omega arith)
+
   marks-halted : haltedIn (markCells c 0 makerCount p) ≡ haltedIn p
   marks-halted = halted-same p (markCells c 0 makerCount p) (marks .behind statusAt 1 (omega arith))
 
@@ -276,4 +287,4 @@ module _ (c : ℕ) (p : List ℕ) (w : length p ≡ pageLength) where
   unfolding finraOn finraReading readingOf
   finra-reads s =
       reads-by p (markCells c 0 makerCount p) (haltedIn p) (quotesIn p) (markAll c (makersIn p)) (levelsFor p) marks-kept marks-halted
-      (cells-quotes p (markCells c 0 makerCount p) marks-front) (marks-makers s) (cells-levels p (markCells c 0 makerCount p) marks-front)
+      (cells-quotes p (markCells c 0 makerCount p) marks-front marks-behind) (marks-makers s) (cells-levels p (markCells c 0 makerCount p) marks-front marks-behind)

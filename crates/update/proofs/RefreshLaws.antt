@@ -11,18 +11,24 @@ use Rattle.field.specs.Field.{splice}
 use Rattle.field.proofs.Laws.{length-splice}
 use Rattle.lists.specs.Lists.{upper}
 use Rattle.lists.proofs.Tests.{upper-low}
-use Rattle.levels.specs.Levels.{Standing, Odd, idleOdd, levelsBytes}
-use Rattle.levels.proofs.SideLaws.{length-levels}
+use Rattle.ranking.specs.declared.Side.{Side}
+use Rattle.ranking.specs.declared.Side.the-variants.{Bid, Offer}
+use Rattle.quote.specs.declared.Level.{Level}
+use Rattle.levels.specs.Levels.{Standing, Odd, idleOdd, cellsBytes}
+use Rattle.levels.proofs.SideLaws.{length-cells}
+use Rattle.field.specs.Low.{leBytes}
+use Rattle.field.proofs.LowLaws.{length-leBytes}
+use Rattle.keys.specs.Keys.{keyLength}
 use Rattle.entries.specs.Entries.{Entries}
 use Rattle.entries.specs.Publication.{publication, publicationLength}
-use Rattle.page.specs.Page.{levelsFor, publishedEntries, refreshed}
-use Rattle.update.specs.Parts.{putLevels, putOdd}
+use Rattle.page.specs.Page.{firstKey, levelsFor, withKey, withSide, publishedEntries, refreshed}
+use Rattle.page.proofs.KeyLaws.{first-keys-low, first-keys-high}
+use Rattle.update.specs.Parts.{afterOdd, putLevels, putOdd}
 use Rattle.entries.proofs.LengthLaws.{length-publication}
 use Rattle.page.proofs.FrameLaws.{levels-kept, published-kept, refreshed-twice}
-use Rattle.update.proofs.SlotLaws.{afterOdd}
-use Rattle.field.specs.Ascii.{A}
+use Rattle.update.proofs.SlotLaws.{side-inside}
 use Rattle.quote.specs.Quote.{quoteLength}
-use Rattle.page.specs.Layout.{entriesAt, slotsAt, slotLength, pageLength, slotAt}
+use Rattle.page.specs.Layout.{entriesAt, slotsAt, pageLength, slotAt, inLevels, firstKeyAt}
 
 -- ---- two writes
 
@@ -75,34 +81,64 @@ module _ (p : List ℕ) (at n j : ℕ) (x l : List ℕ) (e : at + length x ≡ n
 
 -- ---- refreshes
 
--- a refresh, a write behind the entries, a refresh: the first refresh is not needed
-pub late-refresh : (p : List ℕ) (j : ℕ) (l : List ℕ) → slotsAt + j + length l ≤ length p → refreshed (splice (refreshed p) (slotsAt + j) l) ≡ refreshed (splice p (slotsAt + j) l)
+-- a change that writes behind the entries, the same whatever stands in them
+pub record Late (g : List ℕ → List ℕ) : Type 0 where
+  pub size : (p : List ℕ) → length p ≡ pageLength → length (g p) ≡ pageLength
+  pub swap : (p e : List ℕ) → length p ≡ pageLength → length e ≡ publicationLength → g (splice p entriesAt e) ≡ splice (g p) entriesAt e
+
+late-splice : (a : ℕ) (l : List ℕ) → slotsAt ≤ a → a + length l ≤ pageLength → Late (λ p. splice p a l)
+late-splice a l lo hi =
+    let k : slotsAt + (a - slotsAt) ≡ a = omega arith in
+    record {
+      size = λ p w. length-splice p a l (omega arith) ∙ w;
+      swap = λ p e w n.
+          ap (λ (b : ℕ). splice (splice p entriesAt e) b l) (sym k)
+          ∙ splice-swap p entriesAt slotsAt (a - slotsAt) e l (omega (arith, n)) (omega arith)
+          ∙ ap (λ (b : ℕ). splice (splice p b l) entriesAt e) k;
+    }
+
+late-then : (g h : List ℕ → List ℕ) → Late g → Late h → Late (λ p. h (g p))
+late-then g h x y =
+    record {
+      size = λ p w. y .size (g p) (x .size p w);
+      swap = λ p e w n. ap h (x .swap p e w n) ∙ y .swap (g p) e (x .size p w) n;
+    }
+
+late-side : (s : Side) (l : ℕ) → upper l ≡ true → (vs : List Level) → Late (withSide s l vs)
+unfolding withSide
+late-side s l u vs =
+    late-then (λ p. splice p (slotAt l + quoteLength + inLevels s) (cellsBytes 4 vs)) (withKey (firstKeyAt s l) (firstKey s vs))
+    (late-splice (slotAt l + quoteLength + inLevels s) (cellsBytes 4 vs) (omega arith) (omega (arith, length-cells 4 vs, side-inside s, upper-low l u .0, upper-low l u .1)))
+    (late-splice (firstKeyAt s l) (leBytes keyLength (firstKey s vs)) (omega (arith, first-keys-low s)) (omega (arith, length-leBytes keyLength (firstKey s vs), first-keys-high s, upper-low l u .0, upper-low l u .1)))
+
+-- a refresh, such a change, a refresh: the first refresh is not needed
+pub late-refresh : (g : List ℕ → List ℕ) → Late g → (p : List ℕ) → length p ≡ pageLength → refreshed (g (refreshed p)) ≡ refreshed (g p)
 unfolding refreshed
-late-refresh p j l h =
+late-refresh g x p w =
     let E : List ℕ = publication (publishedEntries p) in
-    let y : List ℕ = splice p (slotsAt + j) l in
+    let y : List ℕ = g p in
     let n : length E ≡ publicationLength = length-publication (publishedEntries p) in
     let k : length (publication (publishedEntries y)) ≡ publicationLength = length-publication (publishedEntries y) in
-    let w : length y ≡ length p = length-splice p (slotsAt + j) l h in
-    ap (λ (z : List ℕ). splice z entriesAt (publication (publishedEntries z))) (splice-swap p entriesAt slotsAt j E l (omega (arith, n)) (omega arith))
+    ap (λ (z : List ℕ). splice z entriesAt (publication (publishedEntries z))) (x .swap p E w n)
     ∙ ap (λ (e : Entries). splice (splice y entriesAt E) entriesAt (publication e)) (published-kept y E n)
-    ∙ splice-over y entriesAt E (publication (publishedEntries y)) (omega (arith, w)) (n ∙ sym k)
+    ∙ splice-over y entriesAt E (publication (publishedEntries y)) (omega (arith, x .size p w)) (n ∙ sym k)
 
 refreshed-levels : (p : List ℕ) → levelsFor (refreshed p) ≡ levelsFor p
 unfolding refreshed
 refreshed-levels p = levels-kept p (publication (publishedEntries p)) (length-publication (publishedEntries p))
 
 module _ (x : List ℕ) (w : length x ≡ pageLength) (l : ℕ) (u : upper l ≡ true) (o : Odd) where
+  -- both sides written
+  bothPut : Standing → List ℕ → List ℕ
+  bothPut v p = withSide Offer l (v .offers) (withSide Bid l (v .bids) p)
+
   levels-refresh : refreshed (putLevels l o (refreshed x)) ≡ refreshed (putLevels l o x)
-  unfolding putLevels
+  unfolding putLevels bothPut
   levels-refresh =
-      let after : Standing → List ℕ = λ v. levelsBytes (afterOdd o v) in
-      let k : slotAt l + quoteLength ≡ slotsAt + ((l - A) * slotLength + quoteLength) = omega arith in
-      let r : ℕ → List ℕ → List ℕ = λ a z. refreshed (splice z a (after (levelsFor x l))) in
-      ap (λ (v : ℕ → Standing). refreshed (splice (refreshed x) (slotAt l + quoteLength) (after (v l)))) (refreshed-levels x)
-      ∙ ap (λ (a : ℕ). r a (refreshed x)) k
-      ∙ late-refresh x ((l - A) * slotLength + quoteLength) (after (levelsFor x l)) (omega (arith, length-levels (afterOdd o (levelsFor x l)), upper-low l u .0, upper-low l u .1))
-      ∙ ap (λ (a : ℕ). r a x) (sym k)
+      ap (λ (v : ℕ → Standing). refreshed (bothPut (afterOdd o (v l)) (refreshed x))) (refreshed-levels x)
+      ∙ late-refresh (bothPut (afterOdd o (levelsFor x l)))
+      (late-then (withSide Bid l (afterOdd o (levelsFor x l) .bids)) (withSide Offer l (afterOdd o (levelsFor x l) .offers)) (late-side Bid l u (afterOdd o (levelsFor x l) .bids)) (late-side Offer l u (afterOdd o (levelsFor x l) .offers)))
+      x w
 
   -- an odd part on a page whose entries are worked out: written without them, then worked out once
   pub one-refresh : refreshed (putOdd l o (refreshed x)) ≡ refreshed (putOdd l o x)

@@ -10,10 +10,12 @@ use lib.ListN.{length}
 use borrow.Author.Tests.{eq-eqb, ne-eqb}
 use Rattle.field.specs.Field.{be, part, field, splice, beBytes}
 use Rattle.field.specs.Ascii.{H}
-use Rattle.field.proofs.Laws.{length-beBytes, bytes-beBytes, be-beBytes, part-put, part-before}
+use Rattle.field.proofs.Laws.{length-beBytes, bytes-beBytes, be-beBytes, part-put, part-before, part-behind}
 use Rattle.lists.specs.Lists.{member}
 use Rattle.message.specs.Message.{statuses, statusCode}
-use Rattle.page.specs.Layout.{pageLength, pagePrimary, cellLength, statusAt, slotAt, cellAt}
+use Rattle.page.specs.Layout.{pageLength, pagePrimary, cellLength, statusAt, keysAt, slotAt, cellAt, quoteKeyAt, firstKeyAt}
+use Rattle.page.proofs.KeyLaws.{quote-keys-low, first-keys-low}
+use Rattle.keys.specs.Keys.{keyLength}
 use Rattle.page.specs.Page.{quotesIn, makersIn, levelsFor, haltedIn, refreshed}
 use Rattle.update.specs.Parts.{readingOf, putStatus, statusOn}
 use Rattle.update.specs.code.Update.{Updated, rejected, flagged, tradingStatusOn}
@@ -41,6 +43,11 @@ module _ (x : ℕ) (p : List ℕ) (w : length p ≡ pageLength) where
   unfolding putStatus
   status-front at m h = part-before p statusAt (beBytes 1 x) at m (omega arith) h
 
+  -- and so does everything behind it
+  status-behind : (at m : ℕ) → keysAt ≤ at → part (putStatus x p) at m ≡ part p at m
+  unfolding putStatus
+  status-behind at m h = part-behind p statusAt (beBytes 1 x) at m (omega (arith, one))
+
   status-halted : x < 256 → haltedIn (putStatus x p) ≡ eqb x H
   unfolding haltedIn putStatus field
   status-halted h = ap (λ (b : List ℕ). eqb (be b) H) (part-put p statusAt (beBytes 1 x) 1 one (omega arith)) ∙ ap (λ (k : ℕ). eqb k H) (be-beBytes 1 x h)
@@ -50,9 +57,11 @@ module _ (x : ℕ) (p : List ℕ) (w : length p ≡ pageLength) where
   unfolding statusOn statusReading readingOf
   status-reads h =
       reads-by p (putStatus x p) (eqb x H) (quotesIn p) (makersIn p) (levelsFor p) put-status-kept (status-halted h)
-      (quotes-same p (putStatus x p) (λ l u. status-front (slotAt l) quoteLength (omega (arith, upper-low l u .0, upper-low l u .1))))
+      (quotes-same p (putStatus x p) (λ l u s. status-behind (quoteKeyAt s l) keyLength (omega (arith, quote-keys-low s)))
+      (λ l u. status-front (slotAt l) quoteLength (omega (arith, upper-low l u .0, upper-low l u .1))))
       (makers-same p (putStatus x p) (λ k b. status-front (cellAt k) cellLength (omega arith)))
-      (levels-same p (putStatus x p) (λ l u. status-front (slotAt l + quoteLength) levelsLength (omega (arith, upper-low l u .0, upper-low l u .1))))
+      (levels-same p (putStatus x p) (λ l u s. status-behind (firstKeyAt s l) keyLength (omega (arith, first-keys-low s)))
+      (λ l u. status-front (slotAt l + quoteLength) levelsLength (omega (arith, upper-low l u .0, upper-low l u .1))))
 
   -- ---- the code that takes it
 

@@ -1,21 +1,22 @@
 -- What each part of a message does to a symbol's page (layout and reading: crate `page`): the page is written, then its six entries are worked
 -- out anew. So every accepted part leaves them as worked out from the page's quotes, none while it is halted, whatever bytes stood there.
 -- Assumes nothing.
-use Prim.Native.Nat.{ℕ, _+_}
+use Prim.Native.Nat.{ℕ}
 use mathlib.Core.Bool.{Bool, true, false, cond}
 use mathlib.Core.List.{List, _∷_, _++_}
 use mathlib.Core.Option.{Option, none, some}
 use lib.ListN.{length, replicate}
 use Rattle.field.specs.Field.{part, splice, beBytes}
 use Rattle.lists.specs.Lists.{isSome, orElse}
+use Rattle.ranking.specs.declared.Side.the-variants.{Bid, Offer}
 use Rattle.quote.specs.declared.Quote.{Quote}
-use Rattle.quote.specs.Quote.{quoteOver, quoteBytes, quoteLength}
-use Rattle.levels.specs.Levels.{Standing, noLevels, Odd, oddOn, idleOdd, levelsBytes}
+use Rattle.quote.specs.Quote.{quoteOver}
+use Rattle.levels.specs.Levels.{Standing, noLevels, Odd, oddOn, idleOdd}
 use Rattle.message.specs.Message.{Known}
 use Rattle.entries.specs.Entries.{Maker}
 use Rattle.entries.specs.Publication.{noEntries}
-use Rattle.page.specs.Page.{quotesIn, levelsFor, makersIn, occupied, haltedIn, refreshed}
-use Rattle.page.specs.Layout.{headLength, hintCount, makerCount, quotesLength, pageSymbol, pageLot, pagePrimary, keptEntries, slotAt, statusAt}
+use Rattle.page.specs.Page.{quotesIn, levelsFor, withQuote, withSide, makersIn, occupied, haltedIn, refreshed}
+use Rattle.page.specs.Layout.{headLength, hintCount, makerCount, quotesLength, pageSymbol, pageLot, pagePrimary, keptEntries, statusAt}
 use Rattle.makers.specs.Makers.{findMaker, makerOver, putMaker, markCells}
 
 -- ---- a page as what it says
@@ -48,7 +49,7 @@ readingOf p =
 
 -- "An accepted Q K replaces its letter's quote"
 unfoldable pub putRound : ℕ → Quote → List ℕ → List ℕ
-putRound l q p = splice p (slotAt l) (quoteBytes q)
+putRound l q p = withQuote l q p
 
 -- its times by T-02
 unfoldable pub roundOn : ℕ → Quote → List ℕ → List ℕ
@@ -56,9 +57,13 @@ roundOn l q p = refreshed (putRound l (quoteOver (quotesIn p l) q) p)
 
 -- ---- odd part
 
--- the levels after it, all cells written anew; a refused part does nothing
+-- the levels after it; a refused part does nothing
+abbrev pub afterOdd : Odd → Standing → Standing
+afterOdd o v = orElse (oddOn o v) v
+
+-- all cells of both sides written anew
 unfoldable pub putLevels : ℕ → Odd → List ℕ → List ℕ
-putLevels l o p = splice p (slotAt l + quoteLength) (levelsBytes (orElse (oddOn o (levelsFor p l)) (levelsFor p l)))
+putLevels l o p = withSide Offer l (afterOdd o (levelsFor p l) .offers) (withSide Bid l (afterOdd o (levelsFor p l) .bids) p)
 
 -- an odd part of a space and no items asks for nothing: it leaves every byte of the levels, also of cells that no reading counts
 unfoldable pub putOdd : ℕ → Odd → List ℕ → List ℕ

@@ -1,20 +1,21 @@
 // What a message does to the page of the symbol that it names.
 ghost use mathlib.Core.Path.{_≡_};
 ghost use mathlib.Core.Bool.{true};
-ghost use Prim.Native.Nat.{_+_, _-_, _≤_};
+ghost use Prim.Native.Nat.{_≤_};
 ghost use lib.ListN.{length};
-ghost use Rattle.field.specs.Field.{field, part, splice};
+ghost use Rattle.field.specs.Field.{field};
+ghost use Rattle.field.specs.Ascii as ascii;
 ghost use Rattle.lists.specs.Lists.{upper};
-ghost use Rattle.quote.specs.Quote.{quoteLength};
-ghost use Rattle.levels.specs.Levels.{idleOdd, levelsIn, sideLength, levelsLength};
-ghost use Rattle.levels.specs.code.Cells.{joinedLevels};
+ghost use Rattle.ranking.specs.declared.Side.the-variants.{Bid, Offer};
+ghost use Rattle.levels.specs.Levels.{idleOdd};
 ghost use Rattle.oddpart.specs.code.Part.{oddAnswer};
 ghost use Rattle.message.specs.Message.{oddWith, itemsLength};
 ghost use Rattle.entries.specs.Publication.{changeFlags};
-ghost use Rattle.page.specs.Page.{refreshed};
+ghost use Rattle.page.specs.Page.{levelsFor, refreshed};
+ghost use Rattle.slots.specs.code.Slots.{withCells};
 ghost use Rattle.update.specs.Parts.{finraOn, blankPage, newHead, emptied};
 ghost use Rattle.update.specs.code.Update.{flagged, oddCodeOn, oddTaken, roundLotOn, oddLotOn, makerQuoteOn, tradingStatusOn};
-ghost use Rattle.page.specs.Layout.{slotLength, pageLength, pageLot, keptEntries};
+ghost use Rattle.page.specs.Layout.{pageLength, pageLot, keptEntries};
 ghost use Rattle.text.specs.Form.{symbolLength};
 use levels::Judged;
 use levels::Levels;
@@ -23,8 +24,6 @@ use message::OddPart;
 use oddpart::OddAnswer;
 use page::Cell;
 use page::Page;
-use page::Slot;
-use quote::Level;
 use quote::Quote;
 use ranking::Side;
 
@@ -45,14 +44,15 @@ fn renewed(page: &mut [u8], code: u8) -> Effect
     Effect { code, flags }
 }
 
-// What the odd part makes of the levels of the slot at `at`.
-fn judge_odd(page: &[u8], at: usize, odd: OddPart, items: &[u8]) -> OddAnswer
-    requires { ⌜ (length (now page) ≡ pageLength) × (at + slotLength ≤ pageLength) ⌝ }
+// What the odd part makes of the letter's levels.
+fn judge_odd(page: &[u8], letter: usize, odd: OddPart, items: &[u8]) -> OddAnswer
+    requires { ⌜ length (now page) ≡ pageLength ⌝ }
+    requires { ⌜ (ascii.A ≤ letter) × (letter ≤ ascii.Z) ⌝ }
     requires { ⌜ length (now items) ≡ itemsLength odd ⌝ }
-    ensures { λ r. ⌜ r ≡ oddAnswer (pageLot (now (page .entry))) (levelsIn (part (now (page .entry)) (at + quoteLength) levelsLength)) (oddWith odd (now (items .entry))) ⌝ }
+    ensures { λ r. ⌜ r ≡ oddAnswer (pageLot (now (page .entry))) (levelsFor (now (page .entry)) letter) (oddWith odd (now (items .entry))) ⌝ }
 {
-    let bids = Levels::read(page, at + Slot::LEVELS, Side::Bid);
-    let offers = Levels::read(page, at + Slot::LEVELS + Levels::LEN, Side::Offer);
+    let bids = slots::levels(page, letter, Side::Bid);
+    let offers = slots::levels(page, letter, Side::Offer);
     let bid_cells = bids.cells;
     let offer_cells = offers.cells;
     let old = [bid_cells, offer_cells];
@@ -60,13 +60,14 @@ fn judge_odd(page: &[u8], at: usize, odd: OddPart, items: &[u8]) -> OddAnswer
     oddpart::odd_part(odd.mark, odd.bids, odd.offers, lot, odd.time, items, old)
 }
 
-// Writes both sides' levels into the slot at `at`.
-fn put_levels(page: &mut [u8], at: usize, bids: Levels, offers: Levels)
-    requires { ⌜ (length (now page) ≡ pageLength) × (at + slotLength ≤ pageLength) ⌝ }
-    ensures { λ _. ⌜ now (page .exit) ≡ splice (splice (now (page .entry)) (at + quoteLength) (joinedLevels (bids .cells))) (at + quoteLength + sideLength) (joinedLevels (offers .cells)) ⌝ }
+// Writes both sides of the letter's levels.
+fn put_levels(page: &mut [u8], letter: usize, bids: Levels, offers: Levels)
+    requires { ⌜ length (now page) ≡ pageLength ⌝ }
+    requires { ⌜ (ascii.A ≤ letter) × (letter ≤ ascii.Z) ⌝ }
+    ensures { λ _. ⌜ now (page .exit) ≡ withCells Offer letter (offers .cells) (withCells Bid letter (bids .cells) (now (page .entry))) ⌝ }
 {
-    bids.put(page, at + Slot::LEVELS);
-    offers.put(page, at + Slot::LEVELS + Levels::LEN);
+    slots::put_side(page, letter, Side::Bid, bids);
+    slots::put_side(page, letter, Side::Offer, offers);
 }
 
 // Whether an odd part asks for nothing. Most do, so this is asked before levels are read.
@@ -89,13 +90,12 @@ fn put_odd(page: &mut [u8], letter: u8, odd: OddPart, items: &[u8]) -> u8
     if is_idle(odd, items) {
         return 0;
     }
-    let at = page::slot_at(letter as usize);
-    let answer = judge_odd(page, at, odd, items);
+    let answer = judge_odd(page, letter as usize, odd, items);
     let judged = answer.judged;
     let Judged::Pass = judged else {
         return levels::number(judged);
     };
-    put_levels(page, at, answer.bids, answer.offers);
+    put_levels(page, letter as usize, answer.bids, answer.offers);
     0
 }
 
@@ -118,7 +118,8 @@ pub fn round_lot(
             flags: 0,
         };
     }
-    quote.put_over(page, page::slot_at(letter as usize));
+    let standing = slots::quote(page, letter as usize);
+    slots::put_quote(page, letter as usize, quote.over(standing));
     let code = put_odd(page, letter, odd, items);
     renewed(page, code)
 }

@@ -23,11 +23,13 @@ use Rattle.quote.specs.declared.Level.{Level}
 use Rattle.quote.specs.Quote.{levelCandidate, quoteLength}
 use Rattle.levels.specs.Levels.{sideLevels, noLevels, emptyCell, behind, ranked, cellsIn, sideIn, levelsIn, sideLength, levelsLength}
 use Rattle.entries.specs.Entries.{beyond, oddCandidate, ranks, letterLevels}
-use Rattle.page.specs.Page.{quotesIn, levelsFor}
-use Rattle.walk.specs.code.Walk.{firstOf}
+use Rattle.page.specs.Page.{agreedSide, agreedLevels, firstKey, quotesIn, levelsFor}
+use Rattle.slots.specs.code.Slots.{firstOf}
+use Rattle.keys.specs.Keys.{keyLength}
+use Rattle.field.specs.Low.{low}
 use Rattle.field.specs.Field.{part}
 use Rattle.field.specs.Ascii.{S}
-use Rattle.page.specs.Layout.{slotAt}
+use Rattle.page.specs.Layout.{slotAt, firstKeyAt}
 
 -- ---- what is read of a side falls: each level ranks behind all before it
 
@@ -68,6 +70,20 @@ unfolding levelsIn sideIn
 levels-fall b Bid = ranked-falls Bid none (cellsIn 4 (part b 0 sideLength))
 levels-fall b Offer = ranked-falls Offer none (cellsIn 4 (part b sideLength sideLength))
 
+-- also those of a side whose key is its own, or not
+side-falls : (s : Side) (k : ℕ) (vs : List Level) → Falling s vs → Falling s (agreedSide s k vs)
+unfolding agreedSide
+side-falls s k vs f = go (eqb k (firstKey s vs))
+  where
+    go : (t : Bool) → Falling s (cond t vs [])
+    go true = f
+    go false = tt
+
+agreed-falls : (kb ko : ℕ) (b : List ℕ) (s : Side) → Falling s (sideLevels s (agreedLevels kb ko (levelsIn b)))
+unfolding agreedLevels
+agreed-falls kb ko b Bid = side-falls Bid kb (levelsIn b .bids) (levels-fall b Bid)
+agreed-falls kb ko b Offer = side-falls Offer ko (levelsIn b .offers) (levels-fall b Offer)
+
 pub page-falls : (p : List ℕ) (s : Side) (fb : Option Candidate) (l : ℕ) → Falling s (letterLevels s (quotesIn p) fb (levelsFor p) l)
 unfolding letterLevels levelsFor
 page-falls p s fb l = go (eqb l S) (ranks s (quotesIn p) fb l) (upper l)
@@ -76,10 +92,10 @@ page-falls p s fb l = go (eqb l S) (ranks s (quotesIn p) fb l) (upper l)
     none-falls Bid = tt
     none-falls Offer = tt
 
-    go : (t r u : Bool) → Falling s (cond t [] (cond r (sideLevels s (cond u (levelsIn (part p (slotAt l + quoteLength) levelsLength)) noLevels)) []))
+    go : (t r u : Bool) → Falling s (cond t [] (cond r (sideLevels s (cond u (agreedLevels (low p (firstKeyAt Bid l) keyLength) (low p (firstKeyAt Offer l) keyLength) (levelsIn (part p (slotAt l + quoteLength) levelsLength))) noLevels)) []))
     go true r u = tt
     go false false u = tt
-    go false true true = levels-fall (part p (slotAt l + quoteLength) levelsLength) s
+    go false true true = agreed-falls (low p (firstKeyAt Bid l) keyLength) (low p (firstKeyAt Offer l) keyLength) (part p (slotAt l + quoteLength) levelsLength) s
     go false true false = none-falls s
 
 -- ---- the first level stands for its letter

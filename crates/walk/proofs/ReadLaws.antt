@@ -1,4 +1,4 @@
--- Where the numbers of a level, a quote, a maker and a letter's levels stand in a page.
+-- Where the numbers of a quote and a maker stand in a page.
 -- Assumes nothing.
 use Prim.Native.Nat.{ℕ, _+_, _≤_}
 use mathlib.Core.Path.{_≡_, refl, sym, ap, _∙_}
@@ -23,7 +23,6 @@ use Rattle.quote.specs.Quote.{levelCandidate, sideOf, levelIn, quoteIn, quoteLe
 use Rattle.levels.specs.Levels.{sideLevels, emptyCell, ranked, cellsIn, sideIn, levelsIn, sideLength, levelsLength}
 use Rattle.entries.specs.Entries.{ranks, letterLevels}
 use Rattle.page.specs.Page.{quotesIn, levelsFor, makerIn}
-use Rattle.walk.specs.code.Walk.{firstOf, firstBy}
 use Rattle.page.specs.Layout.{cellLength, slotAt, inQuote, inLevels}
 use Rattle.field.specs.Ascii.{A, S, Z}
 use Rattle.text.specs.Form.{nameLength}
@@ -47,26 +46,6 @@ module _ (p : List ℕ) (at : ℕ) where
   pub front : (w n : ℕ) → w ≤ n → part (part p at n) 0 w ≡ part p at w
   front w n h = part-part p at n 0 w (omega arith) ∙ ap (λ (a : ℕ). part p a w) (add-zero at)
 
--- the first of a side's levels, if its cell is not empty
-first-cell : (s : Side) (b : List ℕ) → firstOf (sideIn s b) ≡ cond (emptyCell (levelIn (part b 0 levelLength))) none (some (levelIn (part b 0 levelLength)))
-unfolding sideIn cellsIn ranked part
-first-cell s b = go (emptyCell (levelIn (take levelLength b)))
-  where
-    go : (t : Bool) → firstOf (cond t [] (levelIn (take levelLength b) ∷ ranked s (some (levelIn (take levelLength b))) (cellsIn 3 (drop levelLength b)))) ≡ cond t none (some (levelIn (take levelLength b)))
-    go true = refl
-    go false = refl
-
-pub first-level : (p : List ℕ) (at : ℕ) (s : Side) → firstOf (sideLevels s (levelsIn (part p at levelsLength)))
-    ≡ cond (emptyCell (levelIn (part p (at + inLevels s) levelLength))) none (some (levelIn (part p (at + inLevels s) levelLength)))
-unfolding levelsIn
-first-level p at s =
-    ap firstOf (side s) ∙ first-cell s (part p (at + inLevels s) sideLength)
-    ∙ ap (λ (b : List ℕ). cond (emptyCell (levelIn b)) none (some (levelIn b))) (front p (at + inLevels s) levelLength sideLength (lit≤ tt))
-  where
-    side : (s : Side) → sideLevels s (record { bids = sideIn Bid (part (part p at levelsLength) 0 sideLength); offers = sideIn Offer (part (part p at levelsLength) sideLength sideLength) }) ≡ sideIn s (part p (at + inLevels s) sideLength)
-    side Bid = ap (sideIn Bid) (part-part p at levelsLength 0 sideLength (lit≤ tt))
-    side Offer = ap (sideIn Offer) (part-part p at levelsLength sideLength sideLength (lit≤ tt))
-
 -- a cell that is not empty counts
 pub cell-live : (l : ℕ) (v : Level) → mapOption (levelCandidate l 32) (cond (emptyCell v) none (some v)) ≡ live (levelCandidate l 32 v)
 unfolding live
@@ -76,24 +55,3 @@ cell-live l v = go (eqb (v .price) 0) (eqb (v .size) 0)
     go true u = refl
     go false true = refl
     go false false = refl
-
--- ---- a letter A to Z
-
-module _ (p : List ℕ) (l : ℕ) (h : A ≤ l) (k : l ≤ Z) where
-  letter : upper l ≡ true
-  letter = is-upper l h (omega arith)
-
-  pub quotes-at : quotesIn p l ≡ quoteIn (part p (slotAt l) quoteLength)
-  unfolding quotesIn
-  quotes-at = rw letter
-
-  -- its first level, if its levels rank
-  pub first-at : (s : Side) (o : Option Candidate) → (l ≡ S → ⊥)
-      → firstBy p s o l ≡ cond (ranks s (quotesIn p) o l) (live (levelCandidate l 32 (levelIn (part p (slotAt l + quoteLength + inLevels s) levelLength)))) none
-  unfolding firstBy letterLevels levelsFor
-  first-at s o n = rw (ne-eqb l S n, letter) (go (ranks s (quotesIn p) o l))
-    where
-      go : (t : Bool) → mapOption (levelCandidate l 32) (firstOf (cond t (sideLevels s (levelsIn (part p (slotAt l + quoteLength) levelsLength))) []))
-          ≡ cond t (live (levelCandidate l 32 (levelIn (part p (slotAt l + quoteLength + inLevels s) levelLength)))) none
-      go true = ap (mapOption (levelCandidate l 32)) (first-level p (slotAt l + quoteLength) s) ∙ cell-live l (levelIn (part p (slotAt l + quoteLength + inLevels s) levelLength))
-      go false = refl

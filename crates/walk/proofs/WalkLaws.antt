@@ -7,7 +7,7 @@ use mathlib.Core.List.{List, [], _∷_, map}
 use mathlib.Core.Option.{Option, none, some}
 use native.Mathlib.Omega.{arith}
 use native.Mathlib.Nat.{lt-of-lt-of-le, pow-le-pow-right, min-le-left}
-use lib.Dec.{eqb, ltb}
+use lib.Dec.{eqb, ltb, lit≤}
 use lib.ListN.{length, take, drop, length-take}
 use borrow.Author.Tests.{ltb-true, eqb-true}
 use Rattle.lists.specs.Lists.{member, isSome, mapOption, bindOption, consOption, collect, gather, range, upper}
@@ -23,27 +23,32 @@ use Rattle.ranking.specs.declared.Sides.{Sides}
 use Rattle.ranking.specs.declared.Lead.{Lead}
 use Rattle.ranking.specs.Ranking.{better, best}
 use Rattle.ranking.specs.Held.{noCandidate, orNone, ofSide, noSides, leadOf, noLead, leadOn}
-use Rattle.ranking.specs.code.Choice.{live, bestFrom, sidesFrom, leadFrom, leadsFrom, beyondOf}
+use Rattle.ranking.specs.declared.Leads.{Leads}
+use Rattle.ranking.specs.code.Choice.{live, bestFrom, sidesFrom, leadFrom, beyondOf}
 use Rattle.ranking.proofs.OrderLaws.{keep}
 use Rattle.ranking.proofs.ChoiceLaws.{best-stops, lead-stops}
 use Rattle.ranking.proofs.LeadLaws.{side-lead}
 use Rattle.ranking.proofs.Bridge.{OrCounting, live-counts, live-back, side-best, best-counts}
 use Rattle.quote.specs.declared.Quote.{Quote}
-use Rattle.quote.specs.Quote.{noQuote, sideOf, admits, counts, levelCandidate, candidateOf, levelIn, quoteIn, quoteLength, levelLength}
-use Rattle.levels.specs.Levels.{emptyCell, sideLevels, noLevels, levelsIn, levelsLength}
+use Rattle.quote.specs.declared.Level.{Level}
+use Rattle.keys.specs.Keys.{keyLength, quoteKey}
+use Rattle.quote.specs.Quote.{noLevel, noQuote, sideOf, admits, counts, levelCandidate, candidateOf, levelIn, quoteIn, quoteLength, levelLength}
+use Rattle.levels.specs.Levels.{emptyCell, sideLevels, noLevels, sideIn, levelsIn, sideLength, levelsLength}
 use Rattle.quote.proofs.QuoteLaws.{level-at}
-use Rattle.walk.specs.declared.Tops.{Tops}
 use Rattle.walk.specs.declared.BestEntries.{BestEntries}
 use Rattle.entries.specs.Entries.{Maker, Entries, letters, asD, makerCandidate, finraBest, letterCandidate, nationalBest, nationalReason, oddCandidate, ranks, letterLevels, oddBest, entriesBy, entriesOf}
-use Rattle.page.specs.Page.{quotesIn, levelsFor, makerIn, makersIn, same, occupied, pageEntries}
+use Rattle.page.specs.Page.{agreed, agreedQuote, agreedSide, agreedLevels, firstKey, quotesIn, levelsFor, makerIn, makersIn, same, occupied, pageEntries}
 use Rattle.page.specs.Cut.{cut}
 use Rattle.walk.specs.Bests.{bestsOf}
-use Rattle.walk.specs.code.Walk.{asked, makerAt, finraSides, nationalAt, firstOf, firstBy, firstAt, noTops, topsFrom}
-use Rattle.walk.proofs.ReadLaws.{quote-side, maker-at, first-level, cell-live}
+use Rattle.walk.specs.code.Walk.{asked, askedOf, makerAt, finraSides, standingAt, firstBy}
+use Rattle.slots.specs.code.Slots.{firstOf, firstIn}
+use Rattle.slots.proofs.ReadLaws.{side-at, first-cell}
+use Rattle.walk.proofs.ReadLaws.{quote-side, maker-at, front, cell-live}
+use Rattle.walk.proofs.StepLaws.{leads-standing}
 use Rattle.walk.proofs.OddLaws.{collect-bind, page-falls, far, odd-once, beyond-is}
 use Rattle.entries.proofs.NoneLaws.{no-candidate}
 use Rattle.page.proofs.CutLaws.{cut-bytes, cut-quote, cut-levels, cut-no-quote, cut-no-levels, cut-makers, cut-no-makers}
-use Rattle.page.specs.Layout.{cellLength, pageLength, makerCount, slotAt, cellAt, inQuote, inLevels}
+use Rattle.page.specs.Layout.{cellLength, pageLength, makerCount, slotAt, cellAt, quoteKeyAt, firstKeyAt, inQuote, inLevels}
 use Rattle.field.specs.Ascii.{A, D, S, Z}
 use Rattle.text.specs.Form.{nameLength}
 
@@ -113,36 +118,86 @@ module _ (p : List ℕ) (b : Bytes p) where
   as-d-counts none h = tt
   as-d-counts (some c) h = record { price = h .price; size = h .size; fits = h .fits }
 
-  pub letter-counts : (s : Side) (o : Option Candidate) (l : ℕ) → OrCounting o → OrCounting (letterCandidate s (quotesIn p) o l)
-  unfolding letterCandidate quotesIn
-  letter-counts s o l h = go (eqb l D) (eqb l S) (upper l)
+  -- a side of a quote whose key is its own, or not
+  agreed-below : (s : Side) (kb ko at : ℕ) → sideOf s (agreedQuote kb ko (quoteIn (part p at quoteLength))) .price < 2 ^ 64
+  unfolding agreedQuote agreed
+  agreed-below s kb ko at = go s
     where
-      no-quote : (s : Side) → sideOf s noQuote .price < 2 ^ 64
-      no-quote Bid = omega arith
-      no-quote Offer = omega arith
+      one : (t : Bool) (v : Level) → v .price < 2 ^ 64 → cond t v noLevel .price < 2 ^ 64
+      one true v h = h
+      one false v h = omega arith
 
-      go : (d t u : Bool) → OrCounting (cond d (mapOption asD o) (cond t none (candidateOf s l (cond u (quoteIn (part p (slotAt l) quoteLength)) noQuote))))
-      go true t u = as-d-counts o h
-      go false true u = tt
-      go false false true = quote-counts s l (slotAt l)
-      go false false false = candidate-counts s l noQuote (no-quote s)
+      side : (s : Side) → sideOf s (quoteIn (part p at quoteLength)) .price < 2 ^ 64
+      side s = rw (← quote-side p at s) (price-below p (at + inQuote s) b)
 
-  level-counts : (l at : ℕ) → OrCounting (mapOption (levelCandidate l 32) (cond (emptyCell (levelIn (part p at levelLength))) none (some (levelIn (part p at levelLength)))))
-  level-counts l at = rw (cell-live l (levelIn (part p at levelLength))) (live-counts (levelCandidate l 32 (levelIn (part p at levelLength))) (price-below p at b))
+      go : (s : Side) → sideOf s (record { condition = quoteIn (part p at quoteLength) .condition; bid = cond (eqb kb (quoteKey Bid (quoteIn (part p at quoteLength)))) (quoteIn (part p at quoteLength) .bid) noLevel; offer = cond (eqb ko (quoteKey Offer (quoteIn (part p at quoteLength)))) (quoteIn (part p at quoteLength) .offer) noLevel }) .price < 2 ^ 64
+      go Bid = one (eqb kb (quoteKey Bid (quoteIn (part p at quoteLength)))) (quoteIn (part p at quoteLength) .bid) (side Bid)
+      go Offer = one (eqb ko (quoteKey Offer (quoteIn (part p at quoteLength)))) (quoteIn (part p at quoteLength) .offer) (side Offer)
+
+  quotes-below : (s : Side) (l : ℕ) → sideOf s (quotesIn p l) .price < 2 ^ 64
+  unfolding quotesIn
+  quotes-below s l = go (upper l)
+    where
+      none-below : (s : Side) → sideOf s noQuote .price < 2 ^ 64
+      none-below Bid = omega arith
+      none-below Offer = omega arith
+
+      go : (u : Bool) → sideOf s (cond u (agreedQuote (low p (quoteKeyAt Bid l) keyLength) (low p (quoteKeyAt Offer l) keyLength) (quoteIn (part p (slotAt l) quoteLength))) noQuote) .price < 2 ^ 64
+      go true = agreed-below s (low p (quoteKeyAt Bid l) keyLength) (low p (quoteKeyAt Offer l) keyLength) (slotAt l)
+      go false = none-below s
+
+  pub letter-counts : (s : Side) (o : Option Candidate) (l : ℕ) → OrCounting o → OrCounting (letterCandidate s (quotesIn p) o l)
+  unfolding letterCandidate
+  letter-counts s o l h = go (eqb l D) (eqb l S)
+    where
+      go : (d t : Bool) → OrCounting (cond d (mapOption asD o) (cond t none (candidateOf s l (quotesIn p l))))
+      go true t = as-d-counts o h
+      go false true = tt
+      go false false = candidate-counts s l (quotesIn p l) (quotes-below s l)
+
+  -- a candidate that doesn't count has no price or no size
+  pub standing-below : (s : Side) (f : Candidate) (l : ℕ) → f .price < 2 ^ 64 → standingAt p s f l .price < 2 ^ 64
+  unfolding standingAt asD
+  standing-below s f l h = go (eqb l D) (eqb l S) (candidateOf s l (quotesIn p l)) (candidate-counts s l (quotesIn p l) (quotes-below s l))
+    where
+      go : (d t : Bool) (o : Option Candidate) → OrCounting o → cond d (record { name = D; price = f .price; size = f .size; time = f .time; condition = f .condition }) (cond t noCandidate (orNone o)) .price < 2 ^ 64
+      go true t o k = h
+      go false true o k = omega arith
+      go false false none k = omega arith
+      go false false (some x) k = k .fits
+
+  -- the first of a side's levels counts
+  side-counts : (s : Side) (l at : ℕ) → OrCounting (firstIn l (sideIn s (part p at sideLength)))
+  unfolding firstIn
+  side-counts s l at =
+      rw (first-cell s (part p at sideLength), front p at levelLength sideLength (lit≤ tt), cell-live l (levelIn (part p at levelLength)))
+      (live-counts (levelCandidate l 32 (levelIn (part p at levelLength))) (price-below p at b))
+
+  levels-count : (s : Side) (l : ℕ) → OrCounting (firstIn l (sideLevels s (levelsFor p l)))
+  unfolding levelsFor agreedLevels agreedSide firstIn
+  levels-count s l = go s (upper l)
+    where
+      one : (s : Side) (t : Bool) (vs : List Level) → OrCounting (mapOption (levelCandidate l 32) (firstOf vs)) → OrCounting (mapOption (levelCandidate l 32) (firstOf (cond t vs [])))
+      one s true vs h = h
+      one s false vs h = tt
+
+      stored : (s : Side) → OrCounting (mapOption (levelCandidate l 32) (firstOf (sideLevels s (levelsIn (part p (slotAt l + quoteLength) levelsLength)))))
+      stored s = rw (side-at p l s) (side-counts s l (slotAt l + quoteLength + inLevels s))
+
+      go : (s : Side) (u : Bool) → OrCounting (mapOption (levelCandidate l 32) (firstOf (sideLevels s (cond u (agreedLevels (low p (firstKeyAt Bid l) keyLength) (low p (firstKeyAt Offer l) keyLength) (levelsIn (part p (slotAt l + quoteLength) levelsLength))) noLevels))))
+      go Bid true = one Bid (eqb (low p (firstKeyAt Bid l) keyLength) (firstKey Bid (levelsIn (part p (slotAt l + quoteLength) levelsLength) .bids))) (levelsIn (part p (slotAt l + quoteLength) levelsLength) .bids) (stored Bid)
+      go Offer true = one Offer (eqb (low p (firstKeyAt Offer l) keyLength) (firstKey Offer (levelsIn (part p (slotAt l + quoteLength) levelsLength) .offers))) (levelsIn (part p (slotAt l + quoteLength) levelsLength) .offers) (stored Offer)
+      go Bid false = tt
+      go Offer false = tt
 
   pub first-counts : (s : Side) (o : Option Candidate) (l : ℕ) → OrCounting (firstBy p s o l)
-  unfolding firstBy letterLevels levelsFor
-  first-counts s o l = go (eqb l S) (ranks s (quotesIn p) o l) (upper l)
+  unfolding firstBy firstIn letterLevels
+  first-counts s o l = go (eqb l S) (ranks s (quotesIn p) o l)
     where
-      no-levels : (s : Side) → OrCounting (mapOption (levelCandidate l 32) (firstOf (sideLevels s noLevels)))
-      no-levels Bid = tt
-      no-levels Offer = tt
-
-      go : (t r u : Bool) → OrCounting (mapOption (levelCandidate l 32) (firstOf (cond t [] (cond r (sideLevels s (cond u (levelsIn (part p (slotAt l + quoteLength) levelsLength)) noLevels)) []))))
-      go true r u = tt
-      go false false u = tt
-      go false true true = rw (first-level p (slotAt l + quoteLength) s) (level-counts l (slotAt l + quoteLength + inLevels s))
-      go false true false = no-levels s
+      go : (t r : Bool) → OrCounting (mapOption (levelCandidate l 32) (firstOf (cond t [] (cond r (sideLevels s (levelsFor p l)) []))))
+      go true r = tt
+      go false false = tt
+      go false true = levels-count s l
 
   -- ---- the makers
 
@@ -169,7 +224,7 @@ module _ (p : List ℕ) (b : Bytes p) where
   pub odd-is : (s : Side) (o nb : Option Candidate) (k : ℕ) → OrCounting nb
       → beyondOf s (orNone nb) (orNone (best (better s) (collect (firstBy p s o) (range k A))))
       ≡ orNone (best (better s) (gather (λ l. collect (oddCandidate s nb l) (letterLevels s (quotesIn p) o (levelsFor p) l)) (range k A)))
-  unfolding firstBy
+  unfolding firstBy firstIn
   odd-is s o nb k h =
       beyond-is s nb (best (better s) (collect (firstBy p s o) (range k A))) h (best-counts s (firstBy p s o) (first-counts s o) (range k A))
       ∙ ap orNone (sym (odd-once s nb (letterLevels s (quotesIn p) o (levelsFor p)) (page-falls p s o) (range k A)))
@@ -184,7 +239,7 @@ module _ (p : List ℕ) (b : Bytes p) where
   national-best-counts s = best-counts s (letterCandidate s (quotesIn p) (fb s)) (λ l. letter-counts s (fb s) l (finra-counts s)) letters
 
   odd-best-counts : (s : Side) → OrCounting (oddBest (quotesIn p) fb (levelsFor p) nb s)
-  unfolding oddBest firstBy
+  unfolding oddBest firstBy firstIn
   odd-best-counts s =
       rw (odd-once s (nb s) (letterLevels s (quotesIn p) (fb s) (levelsFor p)) (page-falls p s (fb s)) letters)
       (kept (best (better s) (collect (λ l. mapOption (levelCandidate l 32) (firstOf (letterLevels s (quotesIn p) (fb s) (levelsFor p) l))) letters)) (best-counts s (firstBy p s (fb s)) (first-counts s (fb s)) letters))
@@ -249,7 +304,7 @@ module _ (p : List ℕ) (w : length p ≡ pageLength) (b : Bytes p) (l : ℕ) (l
   first-here o j a z = rw (cut-levels p w l lo hi j a z, cut-quote p w l lo hi j a z)
 
   first-behind : (o : Option Candidate) (j : ℕ) → l < j → j ≤ Z → firstBy c s o j ≡ none
-  unfolding firstBy letterLevels
+  unfolding firstBy firstIn letterLevels
   first-behind o j a z = rw (cut-no-levels p w l lo hi j a z) (go (eqb j S) (ranks s (quotesIn c) o j) s)
     where
       go : (t r : Bool) (s : Side) → mapOption (levelCandidate j 32) (firstOf (cond t [] (cond r (sideLevels s noLevels) []))) ≡ none
@@ -279,35 +334,37 @@ module _ (p : List ℕ) (w : length p ≡ pageLength) (b : Bytes p) (l : ℕ) (l
     finra-live : live (ofSide s f) ≡ fb c cb s
     finra-live = ap live finra-side ∙ live-back (fb c cb s) (finra-counts c cb s)
 
-    national-side : (n : Lead) → n ≡ leadFrom s (asked (nationalAt p f) s) A (l + 1 - A) noLead → n ≡ leadOf (nb c cb s) (nationalReason (quotesIn c) (fb c cb) s)
-    unfolding nationalAt nationalBest nationalReason letters
+    national-side : (n : Lead) → n ≡ leadFrom s (standingAt p s (ofSide s f)) A (l + 1 - A) noLead → n ≡ leadOf (nb c cb s) (nationalReason (quotesIn c) (fb c cb) s)
+    unfolding nationalBest nationalReason letters
     national-side n e =
         e
+        ∙ leads-standing p s (ofSide s f) (l + 1 - A) A noLead
         ∙ ap (λ (o : Option Candidate). leadFrom s (λ j. orNone (letterCandidate s (quotesIn p) o j)) A (l + 1 - A) noLead) finra-live
         ∙ lead-stops s (λ j. orNone (letterCandidate s (quotesIn p) (fb c cb s) j)) (λ j. orNone (letterCandidate s (quotesIn c) (fb c cb s) j)) A (l + 1 - A) 26 noLead (omega arith)
         (λ j a z. ap orNone (national-here j a (omega arith))) (λ j a z. ap orNone (national-behind j (omega arith) (omega arith)))
         ∙ side-lead s (letterCandidate s (quotesIn c) (fb c cb s)) (λ j. letter-counts c cb s (fb c cb s) j (finra-counts c cb s)) (letter-named s (quotesIn c) (fb c cb s)) A 26
 
-    first-side : (t : Candidate) → t ≡ bestFrom s (asked (firstAt p f) s) A (l + 1 - A) noCandidate → t ≡ orNone (best (better s) (collect (firstBy c s (fb c cb s)) letters))
+    first-side : (t : Candidate) → t ≡ bestFrom s (askedOf (firstBy p s (live (ofSide s f)))) A (l + 1 - A) noCandidate → t ≡ orNone (best (better s) (collect (firstBy c s (fb c cb s)) letters))
     first-side t e =
         e
         ∙ ap (λ (o : Option Candidate). bestFrom s (λ j. orNone (firstBy p s o j)) A (l + 1 - A) noCandidate) finra-live
         ∙ stops (firstBy p s (fb c cb s)) (firstBy c s (fb c cb s)) (first-counts c cb s (fb c cb s)) (first-here (fb c cb s)) (first-behind (fb c cb s))
 
-    odd-side : (n t o : Candidate) → n ≡ orNone (nb c cb s) → t ≡ bestFrom s (asked (firstAt p f) s) A (l + 1 - A) noCandidate → o ≡ beyondOf s n t
+    odd-side : (n o : Candidate) → n ≡ orNone (nb c cb s) → o ≡ beyondOf s n (bestFrom s (askedOf (firstBy p s (live (ofSide s f)))) A (l + 1 - A) noCandidate)
         → o ≡ orNone (oddBest (quotesIn c) (fb c cb) (levelsFor c) (nb c cb) s)
     unfolding oddBest letters
-    odd-side n t o en et eo = eo ∙ (λ i. beyondOf s (en i) (first-side t et i)) ∙ odd-is c cb s (fb c cb s) (nb c cb s) 26 (national-best-counts c cb s)
+    odd-side n o en eo = eo ∙ (λ i. beyondOf s (en i) (first-side _ refl i)) ∙ odd-is c cb s (fb c cb s) (nb c cb s) 26 (national-best-counts c cb s)
 
 -- ---- the whole
 
-module _ (p : List ℕ) (w : length p ≡ pageLength) (b : Bytes p) (l : ℕ) (lo : A ≤ l) (hi : l ≤ Z) (f : Sides) (t : Tops) (ob oa : Candidate) (ef : f ≡ finraSides (cut l p))
-    (et : t ≡ topsFrom p f A (l + 1 - A) noTops) (eob : ob ≡ beyondOf Bid (t .national .bid .best) (t .odd .bid)) (eoa : oa ≡ beyondOf Offer (t .national .offer .best) (t .odd .offer)) where
+module _ (p : List ℕ) (w : length p ≡ pageLength) (b : Bytes p) (l : ℕ) (lo : A ≤ l) (hi : l ≤ Z) (f : Sides) (ef : f ≡ finraSides (cut l p)) (n : Leads) (o : Sides)
+    (en : (s : Side) → leadOn s n ≡ leadFrom s (standingAt p s (ofSide s f)) A (l + 1 - A) noLead)
+    (eo : (s : Side) → ofSide s o ≡ beyondOf s (leadOn s n .best) (bestFrom s (askedOf (firstBy p s (live (ofSide s f)))) A (l + 1 - A) noCandidate)) where
   abbrev six : BestEntries
-  six = record { national = t .national; finra = f; odd = record { bid = ob; offer = oa } }
+  six = record { national = n; finra = f; odd = o }
 
   pub walked : six ≡ bestsOf (pageEntries (cut l p))
-  unfolding bestsOf pageEntries entriesOf entriesBy topsFrom sidesFrom leadsFrom
+  unfolding bestsOf pageEntries entriesOf entriesBy
   walked =
       λ i. record {
         national = record { bid = national Bid i; offer = national Offer i };
@@ -321,13 +378,24 @@ module _ (p : List ℕ) (w : length p ≡ pageLength) (b : Bytes p) (l : ℕ) (l
       finra : (s : Side) → ofSide s f ≡ orNone (fb (cut l p) cc′ s)
       finra s = finra-side p w b l lo hi s f ef
 
-      national : (s : Side) → leadOn s (t .national) ≡ leadOf (nb (cut l p) cc′ s) (nationalReason (quotesIn (cut l p)) (fb (cut l p) cc′) s)
-      national Bid = national-side p w b l lo hi Bid f ef (t .national .bid) (ap (λ (t : Tops). t .national .bid) et)
-      national Offer = national-side p w b l lo hi Offer f ef (t .national .offer) (ap (λ (t : Tops). t .national .offer) et)
+      national : (s : Side) → leadOn s n ≡ leadOf (nb (cut l p) cc′ s) (nationalReason (quotesIn (cut l p)) (fb (cut l p) cc′) s)
+      national s = national-side p w b l lo hi s f ef (leadOn s n) (en s)
 
-      top : (s : Side) → leadOn s (t .national) .best ≡ orNone (nb (cut l p) cc′ s)
-      top s = ap (λ (x : Lead). x .best) (national s)
+      odd : (s : Side) → ofSide s o ≡ orNone (oddBest (quotesIn (cut l p)) (fb (cut l p) cc′) (levelsFor (cut l p)) (nb (cut l p) cc′) s)
+      odd s = odd-side p w b l lo hi s f ef (leadOn s n .best) (ofSide s o) (ap (λ (x : Lead). x .best) (national s)) (eo s)
 
-      odd : (s : Side) → ofSide s (six .odd) ≡ orNone (oddBest (quotesIn (cut l p)) (fb (cut l p) cc′) (levelsFor (cut l p)) (nb (cut l p) cc′) s)
-      odd Bid = odd-side p w b l lo hi Bid f ef (t .national .bid .best) (t .odd .bid) ob (top Bid) (ap (λ (t : Tops). t .odd .bid) et) eob
-      odd Offer = odd-side p w b l lo hi Offer f ef (t .national .offer .best) (t .odd .offer) oa (top Offer) (ap (λ (t : Tops). t .odd .offer) et) eoa
+-- the same, side by side
+pub walked-both : (p : List ℕ) → length p ≡ pageLength → Bytes p → (l : ℕ) → A ≤ l → l ≤ Z → (f : Sides) → f ≡ finraSides (cut l p) → (nb na : Lead) (xb xa ob oa : Candidate)
+    → nb ≡ leadFrom Bid (standingAt p Bid (f .bid)) A (l + 1 - A) noLead → na ≡ leadFrom Offer (standingAt p Offer (f .offer)) A (l + 1 - A) noLead
+    → xb ≡ bestFrom Bid (askedOf (firstBy p Bid (live (f .bid)))) A (l + 1 - A) noCandidate → ob ≡ beyondOf Bid (nb .best) xb
+    → xa ≡ bestFrom Offer (askedOf (firstBy p Offer (live (f .offer)))) A (l + 1 - A) noCandidate → oa ≡ beyondOf Offer (na .best) xa
+    → _≡_ {A = BestEntries} (record { national = record { bid = nb; offer = na }; finra = f; odd = record { bid = ob; offer = oa } }) (bestsOf (pageEntries (cut l p)))
+walked-both p w b l lo hi f ef nb na xb xa ob oa eb ea exb eob exa eoa = walked p w b l lo hi f ef (record { bid = nb; offer = na }) (record { bid = ob; offer = oa }) leads odds
+  where
+    leads : (s : Side) → leadOn s (record { bid = nb; offer = na }) ≡ leadFrom s (standingAt p s (ofSide s f)) A (l + 1 - A) noLead
+    leads Bid = eb
+    leads Offer = ea
+
+    odds : (s : Side) → ofSide s (record { bid = ob; offer = oa }) ≡ beyondOf s (leadOn s (record { bid = nb; offer = na }) .best) (bestFrom s (askedOf (firstBy p s (live (ofSide s f)))) A (l + 1 - A) noCandidate)
+    odds Bid = eob ∙ ap (beyondOf Bid (nb .best)) exb
+    odds Offer = eoa ∙ ap (beyondOf Offer (na .best)) exa

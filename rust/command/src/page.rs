@@ -1,4 +1,5 @@
-//! What stands on a symbol's page: quotes, makers and levels (docs/LAYOUT.md).
+//! What stands on a symbol's page: quotes, makers and levels (docs/LAYOUT.md). A side of a letter's
+//! quote or levels whose key is not its own has none.
 
 use quotebook::lent::SYMBOL_LEN;
 
@@ -11,13 +12,18 @@ const LOT: usize = 11;
 const PRIMARY: usize = 12;
 const SLOTS: usize = 360;
 const SLOT_LEN: usize = 201;
+const LETTERS: usize = 26;
 const LEVELS: usize = 41;
 const SIDE_LEN: usize = 80;
 const CELLS: usize = 5586;
 const CELL_LEN: usize = 45;
 const MAKERS: usize = 16;
 const STATUS: usize = 6306;
-const PAGE_LEN: usize = 6307;
+/// Four rows: the keys of the letters' bids, offers, first odd bids and first odd offers.
+const KEYS: usize = 6307;
+const KEY_LEN: usize = 4;
+const KEY_ROW: usize = 104;
+const PAGE_LEN: usize = 6723;
 
 /// Bid is 0, offer is 1.
 pub const SIDE_NAMES: [&str; 2] = ["bid", "offer"];
@@ -69,11 +75,27 @@ fn little(bytes: &[u8]) -> u64 {
 }
 
 impl Shown {
+    const NONE: Shown = Shown {
+        price: 0,
+        size: 0,
+        time: 0,
+    };
+
     fn read(bytes: &[u8]) -> Shown {
         Shown {
             price: little(&bytes[..8]),
             size: little(&bytes[8..12]) as u32,
             time: little(&bytes[12..20]),
+        }
+    }
+
+    /// Of bids the price, at most 2^32 - 1, of offers 2^32 less that; 0 without a price or a size.
+    fn key(&self, side: usize) -> u64 {
+        let price = self.price.min(u64::from(u32::MAX));
+        match side {
+            _ if price == 0 || self.size == 0 => 0,
+            0 => price,
+            _ => (1 << 32) - price,
         }
     }
 }
@@ -83,6 +105,15 @@ impl Quote {
         Quote {
             condition: bytes[0],
             sides: [Shown::read(&bytes[1..21]), Shown::read(&bytes[21..41])],
+        }
+    }
+
+    /// 0 if the condition does not admit the side.
+    fn key(&self, side: usize) -> u64 {
+        if self.admits(side) {
+            self.sides[side].key(side)
+        } else {
+            0
         }
     }
 
@@ -105,6 +136,31 @@ fn levels(bytes: &[u8]) -> Vec<Shown> {
         .collect()
 }
 
+impl Slot {
+    /// What a letter's slot and its keys say.
+    fn read(page: &[u8], place: usize) -> Slot {
+        let bytes = &page[SLOTS + SLOT_LEN * place..][..SLOT_LEN];
+        let mut slot = Slot {
+            quote: Quote::read(bytes),
+            levels: [
+                levels(&bytes[LEVELS..LEVELS + SIDE_LEN]),
+                levels(&bytes[LEVELS + SIDE_LEN..]),
+            ],
+        };
+        let key = |row: usize| little(&page[KEYS + KEY_ROW * row + KEY_LEN * place..][..KEY_LEN]);
+        for side in [0, 1] {
+            let first = slot.levels[side].first().map_or(0, |level| level.key(side));
+            if key(2 + side) != first {
+                slot.levels[side].clear();
+            }
+            if key(side) != slot.quote.key(side) {
+                slot.quote.sides[side] = Shown::NONE;
+            }
+        }
+        slot
+    }
+}
+
 impl Page {
     /// The page of the symbol in this place of a book.
     pub fn read(book: &[u8], place: usize) -> Option<Page> {
@@ -115,13 +171,7 @@ impl Page {
             return None;
         }
         let page = book.get(start..start + PAGE_LEN)?;
-        let slots = page[SLOTS..CELLS].chunks_exact(SLOT_LEN).map(|slot| Slot {
-            quote: Quote::read(slot),
-            levels: [
-                levels(&slot[LEVELS..LEVELS + SIDE_LEN]),
-                levels(&slot[LEVELS + SIDE_LEN..]),
-            ],
-        });
+        let slots = (0..LETTERS).map(|place| Slot::read(page, place));
         let cells = page[CELLS..].chunks_exact(CELL_LEN).take(MAKERS);
         let makers = cells.filter(|cell| matches!(cell[4], b'L' | b'R'));
         let makers = makers.map(|cell| Maker {

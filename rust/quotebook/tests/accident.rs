@@ -6,7 +6,7 @@ mod support;
 
 use quotebook::{Book, Code};
 use second::build::{self, Odd, Round};
-use support::layout::{in_page, page, ENTRIES, LEVELS, SLOTS, SLOT_LEN};
+use support::layout::{in_page, page, quote_key, slot, ENTRIES, LEVELS};
 
 const TEN: u64 = 10_000_000;
 const CENT: u64 = 10_000;
@@ -87,10 +87,12 @@ fn a_partly_accepted_quote_changes_its_quote_and_the_national_entries_alone() {
         let round = Round::regular(b'N', 8, "ZT", (TEN, 3), (TEN + 20 * CENT, 2));
         let message = build::round_lot(&round, &part);
         assert_eq!(send(&mut book, N, 2, message), code);
-        let slot = SLOTS.start + SLOT_LEN * usize::from(b'N' - b'A');
+        let n = usize::from(b'N' - b'A');
+        let quote = slot(n).start..slot(n).start + LEVELS;
+        let [bid, offer] = [0, 1].map(|side| quote_key(side, n));
         let national = ENTRIES.start..ENTRIES.start + 32;
         let mut expected = before.as_bytes()[page(1)].to_vec();
-        for range in [slot..slot + LEVELS, national] {
+        for range in [quote, bid, offer, national] {
             expected[range.clone()].copy_from_slice(&book.as_bytes()[in_page(1, range)]);
         }
         assert_eq!(book.as_bytes()[page(1)], expected);

@@ -11,7 +11,7 @@ use second::build::{self, Odd, Round};
 use second::QuoteBook;
 use support::damage::entry;
 use support::guarded::Guarded;
-use support::layout::{in_page, page, record, ENTRIES, LEVELS, SLOTS, SLOT_LEN};
+use support::layout::{in_page, letter_keys, page, record, slot, ENTRIES, LEVELS, SLOTS};
 
 /// The lines of N, P and D.
 const N: u32 = 5;
@@ -410,8 +410,7 @@ fn two_parts_of_a_block() {
 /// Levels that no reading counts stay where they are; the entries go by the reading.
 #[test]
 fn levels_that_no_reading_counts() {
-    let slot = SLOTS.start + SLOT_LEN * usize::from(b'N' - b'A');
-    let second = slot + LEVELS + 20;
+    let second = slot(usize::from(b'N' - b'A')).start + LEVELS + 20;
     let mut bytes = claimed(book(), &ALL).bytes().to_vec();
     bytes[in_page(ZT, second..second + 20)].fill(1);
     let mut book = Guarded::over(&bytes);
@@ -548,22 +547,73 @@ fn a_query_goes_by_the_quotes() {
             [yes, no]
         );
     }
-    // S and T have N's quote in their slots.
-    let slot = |letter: u8| {
-        let start = SLOTS.start + SLOT_LEN * usize::from(letter - b'A');
-        in_page(ZT, start..start + SLOT_LEN)
-    };
+    // S and T have N's quote in their slots, and its keys.
     let mut bytes = after(self::book(), N, quote(b'N', &Odd::IDLE))
         .bytes()
         .to_vec();
-    bytes.copy_within(slot(b'N'), slot(b'S').start);
-    bytes.copy_within(slot(b'N'), slot(b'T').start);
-    bytes[slot(b'N')].fill(0);
+    for to in *b"ST" {
+        for (from, to) in places(b'N').into_iter().zip(places(to)) {
+            bytes.copy_within(from, to.start);
+        }
+    }
+    for place in places(b'N') {
+        bytes[place].fill(0);
+    }
     let book = Guarded::over(&bytes);
     assert_eq!(asked(&book, b'B', TEN), (true, 20));
+    // without T's slot, and without one byte of its keys
+    let [slot, bid, offer, ..] = places(b'T');
     let mut bytes = book.bytes().to_vec();
-    bytes[slot(b'T')].fill(0);
+    bytes[slot].fill(0);
     assert_eq!(asked(&Guarded::over(&bytes), b'B', TEN), no);
+    for (side, price, key) in [(b'B', TEN, bid), (b'S', TEN + 2 * CENT, offer)] {
+        assert_eq!(asked(&book, side, price), (true, 20));
+        for at in key {
+            let mut bytes = book.bytes().to_vec();
+            bytes[at] ^= 1;
+            assert_eq!(asked(&Guarded::over(&bytes), side, price), no);
+        }
+    }
+}
+
+/// The slot and the keys of a letter on ZT's page, in the book.
+fn places(letter: u8) -> [Range<usize>; 5] {
+    let at = usize::from(letter - b'A');
+    let [bid, offer, bids, offers] = letter_keys(at);
+    [slot(at), bid, offer, bids, offers].map(|part| in_page(ZT, part))
+}
+
+/// A side whose key is not its own has no quote and no level, and a quote or an odd part that is taken
+/// gives it its own again.
+#[test]
+fn keys_that_are_not_their_own() {
+    let odd = Odd {
+        clear: b' ',
+        bids: vec![(TEN + CENT, 5)],
+        offers: vec![(TEN + CENT, 6)],
+    };
+    let book = after(book(), N, quote(b'N', &odd));
+    let mut all = QUOTED;
+    all[4] = "N 10.01 x 5";
+    all[5] = "N 10.01 x 6";
+    assert_eq!(read(&book, "ZT"), all);
+    let idle = || odd_lot(b'P', &Odd::IDLE);
+    let [_, bid, offer, bids, offers] = places(b'N');
+    for (entry, key) in [(0, bid), (1, offer), (4, bids), (5, offers)] {
+        for wrong in [[0; 4], [0xFF; 4], [1, 0, 0, 0]] {
+            let mut bytes = book.bytes().to_vec();
+            bytes[key.clone()].copy_from_slice(&wrong);
+            let mut wrong = Guarded::over(&bytes);
+            assert_eq!(send(&mut wrong, P, &[idle()]), [(0, 1 << entry)]);
+            let mut without = all;
+            without[entry] = "none";
+            assert_eq!(read(&wrong, "ZT"), without);
+            assert_eq!(wrong.bytes()[key.clone()], bytes[key.clone()]);
+            let again = quote(b'N', &odd);
+            assert_eq!(send(&mut wrong, N, &[again]), [(0, 1 << entry)]);
+            assert_eq!(wrong.bytes()[page(ZT)], book.bytes()[page(ZT)]);
+        }
+    }
 }
 
 /// An order goes by the quotes of the page, not by its entries, and leaves these as they stand.

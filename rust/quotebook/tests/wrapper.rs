@@ -75,10 +75,10 @@ fn refusals_say_why() {
 
 #[test]
 fn lengths() {
-    assert_eq!(lent::book_len(1), Some(976 + 6307));
-    assert_eq!(lent::book_len(64), Some(976 + 64 * 6307));
+    assert_eq!(lent::book_len(1), Some(976 + 6723));
+    assert_eq!(lent::book_len(64), Some(976 + 64 * 6723));
     assert_eq!([0, 65, 257, u32::MAX].map(lent::book_len), [None; 4]);
-    assert_eq!(Book::new(3).unwrap().as_bytes().len(), 976 + 3 * 6307);
+    assert_eq!(Book::new(3).unwrap().as_bytes().len(), 976 + 3 * 6723);
 }
 
 #[test]

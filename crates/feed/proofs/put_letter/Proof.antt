@@ -1,30 +1,26 @@
 -- `feed::put_letter` meets its contract.
-use mathlib.Core.Path.{sym, ap, _∙_}
+use mathlib.Core.Path.{sym, _∙_}
 use native.Mathlib.Omega.{arith}
 use Rattle.feed.proofs.LetterLaws.{put-shown, put-hidden, room-shown}
-use Rattle.quote.specs.Quote.{quoteIn, quoteLength}
-use Rattle.field.specs.Field.{part}
-use Prim.Native.Nat.{ℕ}
 use borrow.Author.Needs.{needs}
 use Rattle.feed.proofs.put_letter.Statement.{statement}
 use Rattle.feed.proofs.put_letter.Tie as tie
 
 put-participant-requires : tie.Need-put-participant-requires
 put-participant-requires c κs =
-    let i = c .before .before .before .before in
+    let i = c .before .before .before in
     let s = i .before .before .before .before in
-    (room-shown (s .args .symbol .now) (s .pre .0 .symbol) _ _ _ _ (sym (i .is-shown .ensures) ∙ c .before .before .before .if1 .taken) (s .pre .1 .1 .1), s .pre .0 .symbol)
+    (room-shown (s .args .symbol .now) (s .pre .0 .symbol) _ _ _ _ (sym (i .is-shown .ensures) ∙ c .before .before .if1 .taken) (s .pre .1 .1 .1), s .pre .0 .symbol)
 
 returns : tie.Need-returns
 returns c =
     let w = c .before .before in
     let g = w .before .before in
-    let a = g .before in
-    let t = a .before in
+    let t = g .before in
     let i = t .before in
     let s = i .before .before .before .before in
-    put-shown (s .args .symbol .now) (s .pre .0 .symbol) _ _ _ _ _ _ (s .pre .1 .0) (s .pre .1 .1 .0) (sym (i .is-shown .ensures) ∙ t .if1 .taken)
-    (g .get .ensures ∙ ap (λ (k : ℕ). quoteIn (part (s .args .page .now) k quoteLength)) (a .slot-at .ensures)) (w .put-participant .ensures)
+    put-shown (s .args .symbol .now) (s .pre .0 .symbol) _ _ _ _ _ _ (sym (i .is-shown .ensures) ∙ t .if1 .taken)
+    (g .quote .ensures) (w .put-participant .ensures)
 
 returns-2 : tie.Need-returns-2
 returns-2 c =
@@ -35,7 +31,6 @@ pub put-letter-spec : {M : Type 1} → statement M
 put-letter-spec =
     tie.close
     (tie.spec
-    (λ c κs. search needs)
     (λ c κs. search needs)
     (λ c κs. search needs)
     (λ c. search needs)

@@ -12,9 +12,8 @@ returns-2 c = letter-s _ _ _ _ (c .if2 .taken)
 
 returns-3 : tie.Need-returns-3
 returns-3 c =
-    let i = c .before .before in
-    let k = i .before .before .before in
-    letter-other _ _ _ _ _ _ (k .pre .1 .0) (k .pre .1 .1) (i .before .if1 .left) (i .if2 .left) (c .before .slot-at .ensures) (c .quote-yes .ensures)
+    let i = c .before in
+    letter-other _ _ _ _ _ (i .before .if1 .left) (i .if2 .left) (c .quote-yes .ensures)
 
 pub letter-yes-spec : {M : Type 1} → statement M
 letter-yes-spec =
@@ -23,6 +22,5 @@ letter-yes-spec =
     (λ c κs. search needs)
     returns
     returns-2
-    (λ c κs. search needs)
     (λ c κs. search needs)
     returns-3)

@@ -14,10 +14,9 @@ returns-2 c = letter-s _ _ _ (c .if2 .taken)
 
 returns-3 : tie.Need-returns-3
 returns-3 c =
-    let i = c .before .before in
+    let i = c .before in
     let j = i .before .before in
-    let k = j .before in
-    letter-other _ _ (λ i. j .shared-slice-known .given i .fits) _ _ _ (k .pre .1 .0 .0) (k .pre .1 .0 .1) (i .before .if1 .left) (i .if2 .left) (c .before .slot-at .ensures) (c .quoted .ensures)
+    letter-other _ _ (λ i. j .shared-slice-known .given i .fits) _ _ (i .before .if1 .left) (i .if2 .left) (c .quoted .ensures)
 
 pub letter-candidate-spec : {M : Type 1} → statement M
 letter-candidate-spec =
@@ -26,7 +25,5 @@ letter-candidate-spec =
     (λ c κs. search needs)
     returns
     returns-2
-    (λ c κs. search needs)
-    (λ c. search needs)
     (λ c κs. search needs)
     returns-3)

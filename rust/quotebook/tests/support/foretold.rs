@@ -8,7 +8,8 @@ use second::{build, Call, Converted, Protected, Report, SnapshotSize, Tried};
 use super::guarded::Guarded;
 use super::layout::{
     hint, in_page, is_book, is_letter, line, listed_page, page, record, ALLOWANCE, CHARGES, COUNT,
-    DAY, ENTRIES, HINTS, LINES, LOT, N, OPENING_LEN, PAGE_LEN, PRIMARY, SHARES, SYMBOL,
+    DAY, ENTRIES, HINTS, KEYS, LINES, LOT, N, OPENING_LEN, PAGE_LEN, PRIMARY, SHARES, SLOTS,
+    SYMBOL,
 };
 use super::reading::Reading;
 
@@ -487,16 +488,24 @@ impl Left<'_> {
     }
 }
 
+/// No quote and no level, whatever reads them: zeros from the slots on, and six times none.
 fn is_blank(page: &[u8]) -> bool {
     let reading = Reading::of(page);
-    reading.is_empty() && page[ENTRIES] == reading.entries()
+    let zeros = page[SLOTS.start..].iter().all(|&byte| byte == 0);
+    zeros && reading.is_empty() && page[ENTRIES] == reading.entries()
 }
 
 /// The pages of a book as the messages of a block change them.
 struct Pages<'a> {
     before: &'a [u8],
-    /// Each page's reading and the entries that it keeps.
-    pages: Vec<(Reading, [u8; 96])>,
+    pages: Vec<Followed>,
+}
+
+/// A page's reading, the entries that it keeps and its keys.
+struct Followed {
+    reading: Reading,
+    entries: [u8; 96],
+    keys: Vec<u8>,
 }
 
 impl Pages<'_> {
@@ -504,7 +513,11 @@ impl Pages<'_> {
         let pages = (0..usize::from(before[N])).map(|at| {
             let mut entries = [0; 96];
             entries.copy_from_slice(&before[in_page(at, ENTRIES)]);
-            (Reading::of(&before[page(at)]), entries)
+            Followed {
+                reading: Reading::of(&before[page(at)]),
+                entries,
+                keys: before[in_page(at, KEYS)].to_vec(),
+            }
         });
         Pages {
             before,
@@ -528,11 +541,18 @@ impl Pages<'_> {
         };
         let mut changed = 0;
         for at in concerned {
-            let (reading, entries) = &mut self.pages[at];
+            let Followed {
+                reading,
+                entries,
+                keys,
+            } = &mut self.pages[at];
             let foretold = reading.take(message);
             ensure(code == foretold, format!("code {code}, not {foretold}"))?;
             if code != 0 && kind != b"QK" {
                 continue;
+            }
+            for (at, key) in reading.written_keys(message, code) {
+                keys[at.start - KEYS.start..at.end - KEYS.start].copy_from_slice(&key);
             }
             let worked_out = reading.entries();
             // The flags go by listed symbols.
@@ -545,15 +565,17 @@ impl Pages<'_> {
     }
 
     fn check(&self, after: &[u8]) -> Result<(), String> {
-        for (at, (reading, entries)) in self.pages.iter().enumerate() {
-            let now = Reading::of(&after[page(at)]);
+        for (at, followed) in self.pages.iter().enumerate() {
+            let (now, reading) = (Reading::of(&after[page(at)]), &followed.reading);
             if !now.agrees(reading) {
                 return Err(format!("page {at} reads\n{now:?}, not\n{reading:?}"));
             }
-            let kept = &after[in_page(at, ENTRIES)];
+            let (kept, entries) = (&after[in_page(at, ENTRIES)], followed.entries);
             if kept != entries {
                 return Err(format!("page {at} keeps {kept:?}, not {entries:?}"));
             }
+            let same_keys = after[in_page(at, KEYS)] == followed.keys;
+            ensure(same_keys, format!("the keys of page {at}"))?;
         }
         Ok(())
     }

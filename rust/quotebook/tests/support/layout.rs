@@ -13,7 +13,7 @@ pub const OPENING_LEN: usize = 976;
 pub const ALLOWANCE: usize = 847;
 pub const SHARES: usize = 848;
 pub const CHARGES: usize = 912;
-pub const PAGE_LEN: usize = 6307;
+pub const PAGE_LEN: usize = 6723;
 
 /// Within a page: the symbol, the round lot, the primary letter, the hints (only those of the first
 /// page are used), the six entries, and all that follows the hints.
@@ -33,6 +33,11 @@ pub const CELLS: Range<usize> = 5586..6306;
 pub const CELL_LEN: usize = 45;
 /// H while the symbol is halted.
 pub const STATUS: usize = 6306;
+/// Four rows of 26 keys: the letters' bids, their offers, their first odd lot bids, their first odd lot
+/// offers.
+pub const KEYS: Range<usize> = 6307..PAGE_LEN;
+pub const KEY_LEN: usize = 4;
+pub const KEY_ROW: usize = 104;
 
 /// One byte of the opening.
 pub fn byte(at: usize) -> Range<usize> {
@@ -60,6 +65,32 @@ pub fn page(page: usize) -> Range<usize> {
 pub fn in_page(page_number: usize, part: Range<usize>) -> Range<usize> {
     let start = page(page_number).start;
     start + part.start..start + part.end
+}
+
+/// The slot of a letter, in its page. Letters are counted from 0 on, bid is 0, offer is 1.
+pub fn slot(letter: usize) -> Range<usize> {
+    let start = SLOTS.start + SLOT_LEN * letter;
+    start..start + SLOT_LEN
+}
+
+fn key(row: usize, letter: usize) -> Range<usize> {
+    let start = KEYS.start + KEY_ROW * row + KEY_LEN * letter;
+    start..start + KEY_LEN
+}
+
+/// The key of a side of a letter's quote, in its page.
+pub fn quote_key(side: usize, letter: usize) -> Range<usize> {
+    key(side, letter)
+}
+
+/// The key of a side of a letter's levels.
+pub fn first_key(side: usize, letter: usize) -> Range<usize> {
+    key(2 + side, letter)
+}
+
+/// The four keys of a letter.
+pub fn letter_keys(letter: usize) -> [Range<usize>; 4] {
+    [0, 1, 2, 3].map(|row| key(row, letter))
 }
 
 /// Whether a letter is one that a line may have.

@@ -7,6 +7,7 @@ pub mod foretold;
 pub mod guarded;
 pub mod killing;
 pub mod layout;
+pub mod pages;
 pub mod parts;
 pub mod reading;
 pub mod recording;

@@ -2,11 +2,13 @@
 //! the six entries that follow by document 01 ("Best entries").
 
 use std::cmp::Reverse;
+use std::ops::Range;
 
 use second::snapshot::Latest;
 
 use super::layout::{
-    low, number, CELLS, CELL_LEN, LEVELS, LEVEL_LEN, LOT, PRIMARY, SLOTS, SLOT_LEN, STATUS,
+    first_key, low, number, quote_key, slot, CELLS, CELL_LEN, LEVELS, LEVEL_LEN, LOT, PRIMARY,
+    STATUS,
 };
 
 const NONE: [u8; 16] = *b"    \0\0\0\0\0\0\0\0\0\0\0\0";
@@ -21,6 +23,13 @@ pub struct Shown {
     size: u32,
     time: u64,
 }
+
+/// No price, no size, no time.
+const NOTHING: Shown = Shown {
+    price: 0,
+    size: 0,
+    time: 0,
+};
 
 #[derive(Clone, Copy, PartialEq, Eq, PartialOrd, Ord, Debug)]
 pub struct Quote {
@@ -81,13 +90,75 @@ fn levels(side: usize, bytes: &[u8]) -> Vec<Shown> {
     levels
 }
 
+/// The key of a price with a size: 0 without either. Prices from 2^32 - 1 on have one key; of an offer
+/// it is 2^32 less the price.
+fn key(side: usize, shown: &Shown) -> u64 {
+    let price = shown.price.min((1 << 32) - 1);
+    match side {
+        _ if price == 0 || shown.size == 0 => 0,
+        0 => price,
+        _ => (1 << 32) - price,
+    }
+}
+
+/// The key of a side of a quote: 0 if the condition does not admit it.
+fn side_key(side: usize, quote: &Quote) -> u64 {
+    if admits(side, quote.condition) {
+        key(side, &quote.sides[side])
+    } else {
+        0
+    }
+}
+
+/// The key of a side's levels is that of the first.
+fn levels_key(side: usize, levels: &[Shown]) -> u64 {
+    levels.first().map_or(0, |first| key(side, first))
+}
+
+/// What stands in the slot of a letter, whatever its keys.
+fn stored(page: &[u8], letter: usize) -> (Quote, [Vec<Shown>; 2]) {
+    let slot = &page[slot(letter)];
+    let (bids, offers) = slot[LEVELS..].split_at(4 * LEVEL_LEN);
+    (quote(slot), [levels(0, bids), levels(1, offers)])
+}
+
+/// The keys that the slots of a page ask for, and where they stand.
+pub fn own_keys(page: &[u8]) -> Vec<(Range<usize>, [u8; 4])> {
+    let of_letter = |letter: usize| keys(letter, &stored(page, letter));
+    (0..26).flat_map(of_letter).collect()
+}
+
+/// The four keys of a letter with this quote and these levels, and where they stand.
+fn keys(letter: usize, (quote, levels): &(Quote, [Vec<Shown>; 2])) -> [(Range<usize>, [u8; 4]); 4] {
+    let bytes = |key: u64| (key as u32).to_le_bytes();
+    let of_quote = |side| (quote_key(side, letter), bytes(side_key(side, quote)));
+    let of_levels = |side: usize| {
+        let key = levels_key(side, &levels[side]);
+        (first_key(side, letter), bytes(key))
+    };
+    [of_quote(0), of_quote(1), of_levels(0), of_levels(1)]
+}
+
+/// What a letter's slot and its keys say: a side whose key is not its own has no price, size and time,
+/// or no levels.
+fn letter(page: &[u8], letter: usize) -> (Quote, [Vec<Shown>; 2]) {
+    let stored = stored(page, letter);
+    let (mut quote, mut levels) = stored.clone();
+    let [bid, offer, bids, offers] = keys(letter, &stored).map(|(at, key)| page[at] == key);
+    for (side, (of_quote, of_levels)) in [(bid, bids), (offer, offers)].into_iter().enumerate() {
+        if !of_quote {
+            quote.sides[side] = NOTHING;
+        }
+        if !of_levels {
+            levels[side].clear();
+        }
+    }
+    (quote, levels)
+}
+
 impl Reading {
     pub fn of(page: &[u8]) -> Reading {
-        let slots = page[SLOTS].chunks_exact(SLOT_LEN);
-        let letters = slots.map(|slot| {
-            let (bids, offers) = slot[LEVELS..].split_at(4 * LEVEL_LEN);
-            (quote(slot), [levels(0, bids), levels(1, offers)])
-        });
+        let letters = (0..26).map(|at| letter(page, at));
         let cells = page[CELLS].chunks_exact(CELL_LEN);
         let makers = cells.map(|cell| {
             let stands = matches!(cell[4], b'L' | b'R');
@@ -137,6 +208,28 @@ impl Reading {
         };
         let head = |reading: &Reading| (reading.lot, reading.primary, reading.halted);
         head(self) == head(other) && self.letters == other.letters && sorted(self) == sorted(other)
+    }
+
+    /// The keys that an accepted part of a message writes, this reading being that of the page behind it,
+    /// and where they stand: those of a Q K's quote, both of the levels if the odd part was taken and is
+    /// not idle.
+    pub fn written_keys(&self, message: &[u8], code: u8) -> Vec<(Range<usize>, [u8; 4])> {
+        let clear = match &message[..2] {
+            b"QK" => 56,
+            b"QM" | b"QT" => 31,
+            _ => return Vec::new(),
+        };
+        let at = usize::from(message[2] - b'A');
+        let odd = code == 0 && message[clear..clear + 3] != *b" \0\0";
+        let [bid, offer, bids, offers] = keys(at, &self.letters[at]);
+        let mut written = Vec::new();
+        if clear == 56 {
+            written.extend([bid, offer]);
+        }
+        if odd {
+            written.extend([bids, offers]);
+        }
+        written
     }
 
     /// What a message that passed checks 40 to 48 makes of the page: its code, 0, 49, 60 to 64, 76 or

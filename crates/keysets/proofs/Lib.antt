@@ -1,0 +1,3 @@
+pub mod SetLaws
+pub mod FoldLaws
+pub mod KeyLaws
