@@ -1,5 +1,5 @@
 //! What a query about a protected price costs, by the letter that answers, and an order, by its steps,
-//! beside a read and a snapshot.
+//! beside a read and a snapshot; then the calls that go to every page.
 
 use std::hint::black_box;
 use std::time::Instant;
@@ -28,6 +28,11 @@ const ORDERS: [(&str, u32, u8); 4] = [
 
 /// Calls of a round, and rounds.
 const CALLS: usize = 2_000;
+
+/// Calls to every page of a round.
+const EVERY: u32 = 100;
+/// D's line.
+const D_LINE: u32 = 3;
 
 const TEN: u64 = 10_000_000;
 const CENT: u64 = 10_000;
@@ -83,6 +88,36 @@ pub fn fastest(rounds: usize, mut call: impl FnMut(usize)) -> f64 {
         began.elapsed().as_nanos() as f64 / CALLS as f64
     };
     (0..rounds).map(round).fold(f64::INFINITY, f64::min)
+}
+
+/// Nanoseconds of a FINRA Close or Open, in turn, and of an End with a Start of Day, each in the fastest round.
+fn every_page(book: &mut impl QuoteBook, n: usize, rounds: usize) -> [f64; 2] {
+    let mut fastest = [f64::INFINITY; 2];
+    // D's sixteen makers have quoted each symbol.
+    let mut sequence = 1 + 16 * n as u32;
+    let each = |began: Instant| began.elapsed().as_nanos() as f64 / f64::from(EVERY);
+    for _ in 0..rounds {
+        let control = |at: u32| {
+            let kind = if at.is_multiple_of(2) { b'C' } else { b'O' };
+            build::block(sequence + at, &[build::header(b'C', kind, b'D', 7)])
+        };
+        let blocks: Vec<_> = (0..EVERY).map(control).collect();
+        sequence += EVERY;
+        let began = Instant::now();
+        for block in &blocks {
+            let report = book.take_block(D_LINE, black_box(block), &mut [0; 180]);
+            assert_eq!((report.number, report.accepted), (0, 1));
+        }
+        fastest[0] = fastest[0].min(each(began));
+    }
+    for _ in 0..rounds {
+        let began = Instant::now();
+        for _ in 0..EVERY {
+            assert_eq!((book.end_day(), book.start_day()), (0, 0));
+        }
+        fastest[1] = fastest[1].min(each(began));
+    }
+    fastest
 }
 
 /// A row for each answer, each order and a read, for 1 and 64 symbols, bids and offers alike.
@@ -154,6 +189,17 @@ pub fn print(rounds: usize) {
         };
         let (of_library, of_engine) = (write(&library), write(&engine));
         println!("| a snapshot, {SNAPSHOT_MAX} bytes | {n} | {of_library:.0} | | {of_engine:.0} |");
+        let of_library = every_page(&mut library, n, rounds);
+        let of_engine = every_page(&mut engine, n, rounds);
+        for (at, name) in ["FINRA Close or Open", "an End and a Start of Day"]
+            .into_iter()
+            .enumerate()
+        {
+            println!(
+                "| {name} | {n} | {:.0} | | {:.0} |",
+                of_library[at], of_engine[at]
+            );
+        }
     }
 }
 
