@@ -58,9 +58,9 @@ def made(top, *last):
 
 
 def text(crate, module):
-    """A module of rows or of what they are written with: from tests/rows, or else from the crate's proofs."""
-    path = os.path.join(ROWS, module + ".rows")
-    return open(path if os.path.exists(path) else os.path.join(ROOT, "crates", crate, "proofs", module + ".antt")).read()
+    """A module of rows or of what they are written with: from the crate's proofs, or else from tests/rows."""
+    path = os.path.join(ROOT, "crates", crate, "proofs", module + ".antt")
+    return open(path if os.path.exists(path) else os.path.join(ROWS, module + ".rows")).read()
 
 
 def paragraphs(crate, module):
