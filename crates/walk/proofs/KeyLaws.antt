@@ -119,7 +119,7 @@ module _ (p : List ℕ) (l : ℕ) (h : A ≤ l) (k : l ≤ Z) (s : Side) where
             by true c = absurd (c .price refl)
             by false c = quote-candidate (counts s (quotesIn p l)) refl c
 
-    standing-name : Counts (standingAt p s f l) → standingAt p s f l .name ≡ l
+    pub standing-name : Counts (standingAt p s f l) → standingAt p s f l .name ≡ l
     unfolding standingAt asD candidateOf
     standing-name = go (eqb l D) refl (eqb l S) (counts s (quotesIn p l))
       where
@@ -172,10 +172,6 @@ module _ (p : List ℕ) (s : Side) (f : Candidate) (m : ℕ → Bool) where
 -- ---- steps
 
 module _ (p : List ℕ) (s : Side) (f : Candidate) where
-  pub lead-step : (i : ℕ) (l u : Lead) (x : Candidate) → x ≡ standingAt p s f (A + i) → u ≡ leadWith s l x → u ≡ leadStep p s f i l
-  unfolding leadStep
-  lead-step i l u x ex eu = rw (← ex) eu
-
   pub odd-step : (i : ℕ) (b u x : Candidate) → x ≡ orNone (firstBy p s (live f) (A + i)) → u ≡ choose s b x → u ≡ oddStep p s f i b
   unfolding oddStep
   odd-step i b u x ex eu = rw (← ex) eu
@@ -211,20 +207,6 @@ module _ (p : List ℕ) (s : Side) (f : Candidate) where
       pub other-end : e ≤ i → anyOther (standingAt p s f) n i (e - i) ≡ w → false ≡ w
       unfolding anyOther
       other-end h inv = let z : e - i ≡ 0 = omega arith in rw z at inv
-
-  module _ (l : Lead) where
-    pub ahead-has : (l .decided ≡ 0 → ⊥) → l ≡ aheadOfAll p s f l
-    unfolding aheadOfAll
-    ahead-has n = rw (ne-eqb (l .decided) 0 n)
-
-    module _ (e : l .decided ≡ 0) (t : Bool) (et : t ≡ anyOther (standingAt p s f) (l .best .name) A keyCount) where
-      pub ahead-other : t ≡ true → record { best = l .best; decided = 1 } ≡ aheadOfAll p s f l
-      unfolding aheadOfAll
-      ahead-other h = rw (eq-eqb (l .decided) 0 e, ← et, h)
-
-      pub ahead-alone : t ≡ false → l ≡ aheadOfAll p s f l
-      unfolding aheadOfAll
-      ahead-alone h = rw (eq-eqb (l .decided) 0 e, ← et, h) (λ i. record { best = l .best; decided = e i })
 
 -- ---- the letters with the highest key
 
@@ -281,17 +263,22 @@ module _ (p : List ℕ) (b : Bytes p) (s : Side) (f : Candidate) (ff : f .price 
         go true = with-has same dPlace dPlace
         go false = no-d
 
-    inside : (j : ℕ) → A ≤ j → j < A + 26 → has set (j - A) ≡ true → Counts (standingAt p s f j) → floorOf s top ≤ rankOf s (standingAt p s f j .price)
-    inside j lo hi m c = go (cut j D)
+    -- D is in it by its FINRA best's key
+    pub d-key : (j : ℕ) → j ≡ D → has set (j - A) ≡ true → keyOf s (standingAt p s f j .price) ≡ top
+    d-key j e m =
+        let i : dPlace ≡ j - A = omega (arith, e) in
+        ap (keyOf s) (d-price p s f j e) ∙ sym ek ∙ eqb-true k top (sym set-d ∙ ap (has set) i ∙ m)
+
+    -- a member that counts has the highest key
+    pub member-key : (j : ℕ) → A ≤ j → j < A + 26 → has set (j - A) ≡ true → Counts (standingAt p s f j) → keyOf s (standingAt p s f j .price) ≡ top
+    member-key j lo hi m c = go (cut j D)
       where
-        go : Cut j D → floorOf s top ≤ rankOf s (standingAt p s f j .price)
-        go (equal x e) =
-            let i : dPlace ≡ j - A = omega (arith, e) in
-            floor-in s (standingAt p s f j .price) top (standing-below p b s f j ff) (omega (arith, some-top))
-            (ap (keyOf s) (d-price p s f j e) ∙ sym ek ∙ eqb-true k top (sym set-d ∙ ap (has set) i ∙ m))
-        go (apart x n) =
-            floor-in s (standingAt p s f j .price) top (standing-below p b s f j ff) (omega (arith, some-top))
-            (standing-key p j lo (omega arith) s f n c ∙ eqb-true (keyAt p (quoteKeysAt s) (j - A)) top (sym (set-is j lo (omega arith) n) ∙ m))
+        go : Cut j D → keyOf s (standingAt p s f j .price) ≡ top
+        go (equal x e) = d-key j e m
+        go (apart x n) = standing-key p j lo (omega arith) s f n c ∙ eqb-true (keyAt p (quoteKeysAt s) (j - A)) top (sym (set-is j lo (omega arith) n) ∙ m)
+
+    inside : (j : ℕ) → A ≤ j → j < A + 26 → has set (j - A) ≡ true → Counts (standingAt p s f j) → floorOf s top ≤ rankOf s (standingAt p s f j .price)
+    inside j lo hi m c = floor-in s (standingAt p s f j .price) top (standing-below p b s f j ff) (omega (arith, some-top)) (member-key j lo hi m c)
 
     outside : (j : ℕ) → A ≤ j → j < A + 26 → has set (j - A) ≡ false → Counts (standingAt p s f j) → rankOf s (standingAt p s f j .price) < floorOf s top
     outside j lo hi m c = go (cut j D)

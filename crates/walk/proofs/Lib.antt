@@ -4,3 +4,4 @@ pub mod KeyLaws
 pub mod ReadLaws
 pub mod StepLaws
 pub mod WalkLaws
+mod LeadingLaws

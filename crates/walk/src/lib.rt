@@ -18,7 +18,7 @@ ghost use Rattle.entries.specs.Entries.{asD, ranks};
 ghost use Rattle.page.specs.Page.{quotesIn, pageEntries, publishedEntries};
 ghost use Rattle.page.specs.Cut.{cut};
 ghost use Rattle.walk.specs.Bests.{bestsOf};
-ghost use Rattle.walk.specs.code.Walk.{asked, askedOf, makerAt, finraSides, standingAt, firstBy, dPlace, leadStep, oddStep, another, aheadOfAll};
+ghost use Rattle.walk.specs.code.Walk.{asked, askedOf, makerAt, finraSides, standingAt, firstBy, dPlace, oddStep, another, noShown, shownOf, wonBy, keptBy, besideOf, showStep, membersOf, decidedBy, fullOf, isHidden, InLetters, ledBy, leadersOf};
 ghost use Rattle.page.specs.Layout.{pageLength, makerCount, quoteKeysAt, firstKeysAt};
 use page::Cell;
 use page::Letter;
@@ -233,7 +233,7 @@ fn has_d(set: u32) -> bool
 
 // The letters with the highest key: D is one of them if its FINRA best has it.
 fn with_d(set: u32, d: bool) -> u32
-    requires { ⌜ (set < 2 ^ keyCount) × (has set dPlace ≡ false) ⌝ }
+    requires { ⌜ set < 2 ^ keyCount ⌝ }
     ensures { λ r. ⌜ (r ≡ cond d (withMember set dPlace) set) × (r < 2 ^ keyCount) ⌝ }
 {
     if d {
@@ -242,20 +242,109 @@ fn with_d(set: u32, d: bool) -> u32
     set
 }
 
-// The leader among the letters of a set.
-fn lead_among(page: &[u8], side: Side, set: u32, finra: Candidate) -> Lead
+// Those who may lead: the letters with the highest key, D by its FINRA best's. Nobody, if the highest key is none.
+fn members(same: u32, d: u32, top: u32) -> u32
+    requires { ⌜ same < 2 ^ keyCount ⌝ }
+    ensures { λ r. ⌜ (r ≡ membersOf same d top) × (r < 2 ^ keyCount) ⌝ }
+{
+    if top == 0 {
+        return 0;
+    }
+    with_d(same, d == top)
+}
+
+// What the leader so far shows. Those with the highest key have one price, so that size, time and letter decide, and no more of them is kept.
+// Size 0 is none.
+struct Shown {
+    letter: u32,
+    size: u32,
+    time: u64,
+    decided: u32,
+}
+
+impl Shown {
+    const NONE: Shown = Shown {
+        letter: 0,
+        size: 0,
+        time: 0,
+        decided: 0,
+    };
+}
+
+// What the letter at place i shows.
+fn show(page: &[u8], side: Side, i: u32, finra: Candidate) -> Shown
+    requires { ⌜ (length (now page) ≡ pageLength) × (i < keyCount) ⌝ }
+    ensures { λ r. ⌜ r ≡ shownOf (standingAt (now (page .entry)) side finra (ascii.A + i)) ⌝ }
+{
+    let c = standing(page, Letter::A + i as usize, side, finra);
+    Shown {
+        letter: c.name,
+        size: c.size,
+        time: c.time,
+        decided: 0,
+    }
+}
+
+// A new leader, and what put it ahead.
+fn won(x: Shown, by: u32) -> Shown
+    ensures { λ r. ⌜ r ≡ wonBy x by ⌝ }
+{
+    Shown {
+        letter: x.letter,
+        size: x.size,
+        time: x.time,
+        decided: by,
+    }
+}
+
+// The leader beside one that lost: of the losers' comparisons the latest counts.
+fn kept(best: Shown, by: u32) -> Shown
+    ensures { λ r. ⌜ r ≡ keptBy best by ⌝ }
+{
+    if best.decided < by {
+        return won(best, by);
+    }
+    best
+}
+
+// The leader so far beside one letter more of its price, the letters in order: by larger size, earlier time, lower letter.
+fn beside(best: Shown, x: Shown) -> Shown
+    ensures { λ r. ⌜ r ≡ besideOf best x ⌝ }
+{
+    if x.size == 0 {
+        return best;
+    }
+    if best.size == 0 {
+        return x;
+    }
+    if best.size < x.size {
+        return won(x, 2);
+    }
+    if x.size < best.size {
+        return kept(best, 2);
+    }
+    if x.time < best.time {
+        return won(x, 3);
+    }
+    if best.time < x.time {
+        return kept(best, 3);
+    }
+    kept(best, 4)
+}
+
+// The leader among letters of one price.
+fn leading(page: &[u8], side: Side, set: u32, finra: Candidate) -> Shown
     requires { ⌜ (length (now page) ≡ pageLength) × (set < 2 ^ keyCount) ⌝ }
-    ensures { λ r. ⌜ r ≡ foldSet (leadStep (now (page .entry)) side finra) (has set) 0 keyCount noLead ⌝ }
+    ensures { λ r. ⌜ r ≡ foldSet (showStep (now (page .entry)) side finra) (has set) 0 keyCount noShown ⌝ }
 {
     let mut left = set;
-    let mut lead = Lead::NONE;
+    let mut best = Shown::NONE;
     while left != 0 {
         let i = keysets::lowest(left);
         left = keysets::without(left, i);
-        let next = standing(page, Letter::A + i as usize, side, finra);
-        lead = ranking::lead_with(side, lead, next);
+        best = beside(best, show(page, side, i, finra));
     }
-    lead
+    best
 }
 
 // Whether a letter counts and is not the leader.
@@ -283,45 +372,127 @@ fn is_other(page: &[u8], side: Side, finra: Candidate, leader: u32) -> bool
     false
 }
 
-// A leader that has no second among those of its price is ahead by price, if any other letter counts.
-fn ahead_of_all(page: &[u8], side: Side, finra: Candidate, lead: Lead) -> Lead
+// What put the leader ahead: price, if it has no second among those of its price and any other letter counts.
+fn decided(page: &[u8], side: Side, finra: Candidate, leader: u32, by: u32) -> u32
     requires { ⌜ length (now page) ≡ pageLength ⌝ }
-    ensures { λ r. ⌜ r ≡ aheadOfAll (now (page .entry)) side finra lead ⌝ }
+    ensures { λ r. ⌜ r ≡ decidedBy (now (page .entry)) side finra leader by ⌝ }
 {
-    if lead.decided != 0 {
-        return lead;
+    if by != 0 {
+        return by;
     }
-    let best = lead.best;
-    if is_other(page, side, finra, best.name) {
-        return Lead { best, decided: 1 };
+    if is_other(page, side, finra, leader) {
+        return 1;
     }
-    lead
+    0
 }
 
-// The leader of the letters A to `last`: `top` is a key that none is above, `same` are the letters that have it. A walk that is stopped before Z, and one
-// of a page whose highest key nobody has who counts, looks at all.
-fn national(page: &[u8], side: Side, last: usize, finra: Candidate, top: u32, same: u32) -> Lead
-    requires { ⌜ length (now page) ≡ pageLength ⌝ }
-    requires { ⌜ (ascii.A ≤ last) × (last ≤ ascii.Z) ⌝ }
-    requires { ⌜ (NoneAbove (keyAt (now page) (quoteKeysAt side)) keyCount top) × (keyOf side (finra .price) ≤ top) ⌝ }
-    requires { ⌜ same ≡ setOf (λ i. eqb (keyAt (now page) (quoteKeysAt side) i) top) keyCount ⌝ }
-    ensures { λ r. ⌜ r ≡ leadFrom side (standingAt (now (page .entry)) side finra) ascii.A (last + 1 - ascii.A) noLead ⌝ }
+// The key that tells no price.
+fn full(side: Side) -> u32
+    ensures { λ r. ⌜ r ≡ fullOf side ⌝ }
 {
-    if last < Letter::Z {
-        return lead_all(page, side, last, finra);
+    match side {
+        Side::Bid => 4294967295,
+        Side::Offer => 1,
     }
+}
+
+// Whether all letters have to be looked at: the highest key tells no price, D's own slot has it, or nobody counts who has it.
+fn is_hidden(side: Side, top: u32, same: u32, leader: Shown) -> bool
+    ensures { λ r. ⌜ r ≡ isHidden side top same (leader .size) ⌝ }
+{
     if top == 0 {
-        return Lead::NONE;
+        return false;
+    }
+    if top == full(side) {
+        return true;
     }
     if has_d(same) {
-        return lead_all(page, side, last, finra);
+        return true;
     }
-    let d = keys::key(side, finra.price);
-    let lead = lead_among(page, side, with_d(same, d == top), finra);
-    if lead.best.price == 0 {
-        return lead_all(page, side, last, finra);
+    leader.size == 0
+}
+
+// The leader as a candidate.
+fn led(page: &[u8], side: Side, finra: Candidate, leader: Shown, by: u32) -> Lead
+    requires { ⌜ length (now page) ≡ pageLength ⌝ }
+    requires { ⌜ InLetters leader ⌝ }
+    ensures { λ r. ⌜ r ≡ ledBy (now (page .entry)) side finra leader by ⌝ }
+{
+    if leader.size == 0 {
+        return Lead::NONE;
     }
-    ahead_of_all(page, side, finra, lead)
+    Lead {
+        best: standing(page, leader.letter as usize, side, finra),
+        decided: by,
+    }
+}
+
+// A candidate, field by field: what a function that stays out of line gives is not copied in wider moves than it was written in.
+fn copied(c: Candidate) -> Candidate
+    ensures { λ r. ⌜ r ≡ c ⌝ }
+{
+    Candidate {
+        name: c.name,
+        price: c.price,
+        size: c.size,
+        time: c.time,
+        condition: c.condition,
+    }
+}
+
+// The same for a leader.
+fn copied_lead(l: Lead) -> Lead
+    ensures { λ r. ⌜ r ≡ l ⌝ }
+{
+    Lead {
+        best: copied(l.best),
+        decided: l.decided,
+    }
+}
+
+// Both sides' leaders of the letters A to `last`, every letter looked at.
+fn leaders_of_all(page: &[u8], last: usize, finra: Sides) -> Leads
+    requires { ⌜ length (now page) ≡ pageLength ⌝ }
+    requires { ⌜ (ascii.A ≤ last) × (last ≤ ascii.Z) ⌝ }
+    ensures { λ r. ⌜ r ≡ leadersOf (now (page .entry)) last finra ⌝ }
+{
+    let bid = lead_all(page, Side::Bid, last, copied(finra.bid));
+    let offer = lead_all(page, Side::Offer, last, copied(finra.offer));
+    Leads {
+        bid: copied_lead(bid),
+        offer: copied_lead(offer),
+    }
+}
+
+// Both sides' leaders of the letters A to `last`. Of a whole page only the letters with the highest key are compared.
+fn leaders(page: &[u8], last: usize, finra: Sides) -> Leads
+    requires { ⌜ length (now page) ≡ pageLength ⌝ }
+    requires { ⌜ (ascii.A ≤ last) × (last ≤ ascii.Z) ⌝ }
+    ensures { λ r. ⌜ r ≡ leadersOf (now (page .entry)) last finra ⌝ }
+{
+    if last < Letter::Z {
+        return leaders_of_all(page, last, finra);
+    }
+    let top_bid = top_key(page, Side::Bid, finra.bid);
+    let top_offer = top_key(page, Side::Offer, finra.offer);
+    let bids = keysets::same(page, page::quote_keys(Side::Bid), top_bid);
+    let offers = keysets::same(page, page::quote_keys(Side::Offer), top_offer);
+    let bid_set = members(bids, keys::key(Side::Bid, finra.bid.price), top_bid);
+    let offer_set = members(offers, keys::key(Side::Offer, finra.offer.price), top_offer);
+    let bid = leading(page, Side::Bid, bid_set, finra.bid);
+    let offer = leading(page, Side::Offer, offer_set, finra.offer);
+    if is_hidden(Side::Bid, top_bid, bids, bid) {
+        return leaders_of_all(page, last, finra);
+    }
+    if is_hidden(Side::Offer, top_offer, offers, offer) {
+        return leaders_of_all(page, last, finra);
+    }
+    let bid_by = decided(page, Side::Bid, finra.bid, bid.letter, bid.decided);
+    let offer_by = decided(page, Side::Offer, finra.offer, offer.letter, offer.decided);
+    Leads {
+        bid: led(page, Side::Bid, finra.bid, bid, bid_by),
+        offer: led(page, Side::Offer, finra.offer, offer, offer_by),
+    }
 }
 
 // The best odd lot among the letters of a set.
@@ -390,15 +561,10 @@ pub fn walk_page(page: &[u8], last: usize) -> BestEntries
     ensures { λ r. ⌜ r ≡ bestsOf (pageEntries (cut last (now (page .entry)))) ⌝ }
 {
     let finra = walk_finra(page, last);
-    let top_bid = top_key(page, Side::Bid, finra.bid);
-    let top_offer = top_key(page, Side::Offer, finra.offer);
-    let bids = keysets::same(page, page::quote_keys(Side::Bid), top_bid);
-    let offers = keysets::same(page, page::quote_keys(Side::Offer), top_offer);
-    let bid = national(page, Side::Bid, last, finra.bid, top_bid, bids);
-    let offer = national(page, Side::Offer, last, finra.offer, top_offer, offers);
-    let odd = walk_odd(page, last, finra, bid.best, offer.best);
+    let national = leaders(page, last, finra);
+    let odd = walk_odd(page, last, finra, national.bid.best, national.offer.best);
     BestEntries {
-        national: Leads { bid, offer },
+        national,
         finra,
         odd,
     }
