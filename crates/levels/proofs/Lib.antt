@@ -3,3 +3,4 @@ pub mod ItemLaws
 pub mod SideLaws
 pub mod ReadingLaws
 pub mod CellLaws
+pub mod TouchLaws

@@ -1,22 +1,21 @@
 -- Levels of a side in bytes: their length, that they read back, and what any bytes read as.
 -- Assumes nothing.
 use Prim.Native.Nat.{ℕ, zero, suc, _+_, _*_, _≤_}
-use mathlib.Core.Path.{_≡_, refl, sym, ap, ap₂, _∙_}
+use mathlib.Core.Path.{_≡_, refl, ap, ap₂, _∙_}
 use mathlib.Core.Bool.{Bool, true, false, cond}
-use mathlib.Core.List.{List, [], _∷_, _++_, append-nil}
+use mathlib.Core.List.{List, [], _∷_, _++_}
 use mathlib.Core.Option.{Option, none, some}
 use native.Mathlib.Omega.{arith}
-use lib.Dec.{lit≤}
 use lib.ListN.{length, take, drop, replicate, length-append, length-replicate, length-drop}
 use lib.Seq.{take-at, drop-at, length-take-le}
 use Rattle.field.specs.Field.{Bytes, part}
-use Rattle.field.proofs.Laws.{bytes-append, bytes-take, bytes-drop, bytes-part, length-part}
+use Rattle.field.proofs.Laws.{bytes-take, bytes-drop, bytes-part, length-part}
 use Rattle.ranking.specs.declared.Side.{Side}
 use Rattle.ranking.specs.declared.Side.the-variants.{Bid, Offer}
 use Rattle.quote.specs.declared.Level.{Level}
 use Rattle.quote.specs.Quote.{levelBytes, levelLength}
-use Rattle.quote.proofs.QuoteLaws.{length-level, bytes-level, level-back, level-fits, zero-level, no-level-bytes}
-use Rattle.levels.specs.Levels.{Standing, emptyCell, behind, ranked, cellsIn, sideIn, levelsIn, cellsBytes, levelsBytes, sideLength, levelsLength}
+use Rattle.quote.proofs.QuoteLaws.{length-level, level-back, level-fits, zero-level, no-level-bytes}
+use Rattle.levels.specs.Levels.{emptyCell, behind, ranked, cellsIn, sideIn, levelsIn, cellsBytes, sideLength, levelsLength}
 use Rattle.levels.specs.code.Cells.{paddedCells, cellsOf, joinedLevels}
 use Rattle.levels.proofs.LevelLaws.{Behind, Ranked, Fit, SideGood, LevelsGood, behind-trans}
 
@@ -97,25 +96,12 @@ length-cells zero ls = refl
 length-cells (suc k) [] = length-append (replicate levelLength 0) (cellsBytes k []) ∙ omega (arith, length-cells k [], length-replicate {A = ℕ} levelLength 0)
 length-cells (suc k) (x ∷ xs) = length-append (levelBytes x) (cellsBytes k xs) ∙ omega (arith, length-cells k xs, length-level x)
 
-pub length-levels : (v : Standing) → length (levelsBytes v) ≡ levelsLength
-unfolding levelsBytes
-length-levels v = length-append (cellsBytes 4 (v .bids)) (cellsBytes 4 (v .offers)) ∙ omega (arith, length-cells 4 (v .bids), length-cells 4 (v .offers))
-
 -- the bytes of the cells that levels are
 pub cells-bytes : (k : ℕ) (ls : List Level) → joinedLevels (paddedCells k ls) ≡ cellsBytes k ls
 unfolding joinedLevels paddedCells cellsBytes
 cells-bytes zero ls = refl
 cells-bytes (suc k) [] = ap₂ _++_ no-level-bytes (cells-bytes k [])
 cells-bytes (suc k) (x ∷ xs) = ap (λ (b : List ℕ). levelBytes x ++ b) (cells-bytes k xs)
-
-bytes-of : (ls : List Level) → Bytes (joinedLevels ls)
-unfolding joinedLevels
-bytes-of [] i = lit≤ tt
-bytes-of (x ∷ xs) i = bytes-append (levelBytes x) (joinedLevels xs) (bytes-level x) (bytes-of xs) i
-
-pub bytes-levels : (v : Standing) → Bytes (levelsBytes v)
-unfolding levelsBytes
-bytes-levels v = rw (← cells-bytes 4 (v .bids), ← cells-bytes 4 (v .offers)) (bytes-append (joinedLevels (cellsOf (v .bids))) (joinedLevels (cellsOf (v .offers))) (bytes-of (cellsOf (v .bids))) (bytes-of (cellsOf (v .offers))))
 
 -- ---- the cells of good levels read back
 
@@ -155,17 +141,3 @@ cells-read s ls h r = next-read s none 4 ls h r tt
 pub side-back : (s : Side) (ls : List Level) → SideGood s ls → sideIn s (cellsBytes 4 ls) ≡ ls
 unfolding sideIn
 side-back s ls g = ap (ranked s none) (cells-of 4 ls (g .fit)) ∙ cells-read s ls (g .short) (g .ranked)
-
-pub levels-back : (v : Standing) → LevelsGood v → levelsIn (levelsBytes v) ≡ v
-unfolding levelsIn levelsBytes part
-levels-back v g =
-    let a : take sideLength (cellsBytes 4 (v .bids) ++ cellsBytes 4 (v .offers)) ≡ cellsBytes 4 (v .bids) =
-    take-at (cellsBytes 4 (v .bids)) (cellsBytes 4 (v .offers)) sideLength (length-cells 4 (v .bids)) in
-    let d : drop sideLength (cellsBytes 4 (v .bids) ++ cellsBytes 4 (v .offers)) ≡ cellsBytes 4 (v .offers) =
-    drop-at (cellsBytes 4 (v .bids)) (cellsBytes 4 (v .offers)) sideLength (length-cells 4 (v .bids)) in
-    let n : take sideLength (cellsBytes 4 (v .offers)) ≡ cellsBytes 4 (v .offers) =
-    ap (take sideLength) (sym (append-nil (cellsBytes 4 (v .offers)))) ∙ take-at (cellsBytes 4 (v .offers)) [] sideLength (length-cells 4 (v .offers)) in
-    λ i. record {
-      bids = (ap (sideIn Bid) a ∙ side-back Bid (v .bids) (g .bids)) i;
-      offers = (ap (λ (b : List ℕ). sideIn Offer (take sideLength b)) d ∙ ap (sideIn Offer) n ∙ side-back Offer (v .offers) (g .offers)) i;
-    }

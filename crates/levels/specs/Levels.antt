@@ -1,7 +1,7 @@
 -- The odd-lot levels of one letter, and what an odd part does to them (document 01, "Odd part" and numbers 60 to 64).
 -- Assumes nothing.
 use Prim.Native.Nat.{ℕ, zero, suc, _+_, _*_}
-use mathlib.Core.Bool.{Bool, true, _&&_, cond}
+use mathlib.Core.Bool.{Bool, true, false, _&&_, _||_, cond}
 use mathlib.Core.List.{List, [], _∷_, _++_}
 use mathlib.Core.Option.{Option, none, some}
 use lib.Dec.{ltb, leb, eqb}
@@ -69,6 +69,18 @@ clears mark Offer = member (S ∷ X ∷ []) mark
 
 unfoldable pub clearedBy : ℕ → Side → List Level → List Level
 clearedBy mark s ls = cond (clears mark s) [] ls
+
+-- a side that a part touches: the clear mark clears it, or an item names it
+abbrev pub sideItems : Side → Odd → List Item
+sideItems Bid o = o .bids
+sideItems Offer o = o .offers
+
+abbrev pub named : List Item → Bool
+named [] = false
+named (i ∷ is) = true
+
+unfoldable pub touches : Odd → Side → Bool
+touches o s = clears (o .mark) s || named (sideItems s o)
 
 -- the clear mark, then each item in order; none if an item would make a fifth level: then nothing is done, on both sides
 unfoldable pub oddOn : Odd → Standing → Option Standing
@@ -158,6 +170,3 @@ unfoldable pub cellsBytes : ℕ → List Level → List ℕ
 cellsBytes zero ls = []
 cellsBytes (suc k) [] = replicate levelLength 0 ++ cellsBytes k []
 cellsBytes (suc k) (x ∷ xs) = levelBytes x ++ cellsBytes k xs
-
-unfoldable pub levelsBytes : Standing → List ℕ
-levelsBytes v = cellsBytes 4 (v .bids) ++ cellsBytes 4 (v .offers)

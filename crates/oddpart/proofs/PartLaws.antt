@@ -2,8 +2,8 @@
 -- Assumes nothing.
 use Prim.Native.Nat.{ℕ, zero, suc, _+_, _-_, _≤_, _<_}
 use mathlib.Core.Path.{_≡_, refl, sym, ap, _∙_}
-use mathlib.Core.Bool.{true, false, _&&_, cond}
-use mathlib.Core.List.{List, _∷_, _++_}
+use mathlib.Core.Bool.{Bool, true, false, not, _&&_, _||_, cond}
+use mathlib.Core.List.{List, [], _∷_, _++_}
 use native.Mathlib.Omega.{arith}
 use native.Mathlib.Nat.{sub-zero, add-zero}
 use borrow.Author.Tests.{eq-eqb, ne-eqb, le-leb, lt-leb}
@@ -12,13 +12,16 @@ use lib.ListN.{length}
 use Rattle.lists.specs.Lists.{member}
 use Rattle.lists.proofs.Searches.{less-one}
 use Rattle.ranking.specs.declared.Side.{Side}
+use Rattle.ranking.specs.declared.Side.the-variants.{Bid, Offer}
+use Rattle.quote.specs.declared.Level.{Level}
+use Rattle.quote.specs.Quote.{noLevel}
 use Rattle.levels.specs.declared.Levels.{Levels}
 use Rattle.levels.specs.declared.Item.{Item}
 use Rattle.levels.specs.declared.Changed.{Changed}
 use Rattle.levels.specs.declared.Judged.the-variants.{Pass, Refused}
-use Rattle.levels.specs.Levels.{clears, itemsBad, oddBad, itemAt, itemsFrom, oddIn, clearMarks}
-use Rattle.levels.specs.code.Cells.{withItem}
-use Rattle.oddpart.specs.code.Part.{judgedBy, onPass, withItems, withPart, noCells}
+use Rattle.levels.specs.Levels.{clears, clearedBy, named, touches, itemsBad, oddBad, itemAt, itemsFrom, oddIn, clearMarks}
+use Rattle.levels.specs.code.Cells.{paddedCells, cellsOf, withItem}
+use Rattle.oddpart.specs.code.Part.{judgedBy, onPass, touchedBy, startOf, withItems, withPart}
 
 -- ---- checks 62 and 63, item by item: what remains from item i on gives what the whole gives
 
@@ -93,31 +96,61 @@ module _ (mark bids offers lot : ℕ) (s : List ℕ) where
 
 -- ---- the items of a side: what remains from item i on gives what the whole gives
 
-module _ (sd : Side) (t : ℕ) (s : List ℕ) (old : Levels) (from n : ℕ) where
-  pub items-start : (l : Levels) → withItems sd t old (itemsFrom s (from + 0) (n - 0)) l ≡ withItems sd t old (itemsFrom s from n) l
+module _ (sd : Side) (t : ℕ) (s : List ℕ) (from n : ℕ) where
+  pub items-start : (l : Levels) → withItems sd t (itemsFrom s (from + 0) (n - 0)) l ≡ withItems sd t (itemsFrom s from n) l
   items-start l = simp (sub-zero, add-zero)
 
   module _ (w : Changed) (l : Levels) where
-    module _ (i : ℕ) (h : i < n) (inv : withItems sd t old (itemsFrom s (from + i) (n - i)) l ≡ w) (it : Item) (a : it ≡ itemAt s (from + i)) (ch : Changed) (e : ch ≡ withItem sd t it l) where
-      items-step : withItems sd t old (itemsFrom s (from + i) (n - i)) l
-          ≡ onPass (ch .judged) (withItems sd t old (itemsFrom s (from + i + 1) (n - (i + 1))) (ch .levels)) (record { judged = ch .judged; levels = old })
+    module _ (i : ℕ) (h : i < n) (inv : withItems sd t (itemsFrom s (from + i) (n - i)) l ≡ w) (it : Item) (a : it ≡ itemAt s (from + i)) (ch : Changed) (e : ch ≡ withItem sd t it l) where
+      items-step : withItems sd t (itemsFrom s (from + i) (n - i)) l ≡ onPass (ch .judged) (withItems sd t (itemsFrom s (from + i + 1) (n - (i + 1))) (ch .levels)) ch
       unfolding withItems itemsFrom
       items-step = rw (less-one n i h, ← a, ← e)
 
-      pub items-refused : (x : ℕ) → ch .judged ≡ Refused x → record { judged = ch .judged; levels = old } ≡ w
+      pub items-refused : (x : ℕ) → ch .judged ≡ Refused x → ch ≡ w
       items-refused x r = sym (items-step ∙ rw r) ∙ inv
 
-      pub items-again : ch .judged ≡ Pass → withItems sd t old (itemsFrom s (from + (i + 1)) (n - (i + 1))) (ch .levels) ≡ w
+      pub items-again : ch .judged ≡ Pass → withItems sd t (itemsFrom s (from + (i + 1)) (n - (i + 1))) (ch .levels) ≡ w
       items-again r =
           let k : from + (i + 1) ≡ from + i + 1 = omega arith in
           rw k (sym (items-step ∙ rw r) ∙ inv)
 
-    pub items-end : (i : ℕ) → n ≤ i → withItems sd t old (itemsFrom s (from + i) (n - i)) l ≡ w → record { judged = Pass; levels = l } ≡ w
+    pub items-end : (i : ℕ) → n ≤ i → withItems sd t (itemsFrom s (from + i) (n - i)) l ≡ w → record { judged = Pass; levels = l } ≡ w
     unfolding withItems itemsFrom
     items-end i h inv =
         let e : n - i ≡ 0 = omega arith in
         rw e at inv
 
-pub part-is : (sd : Side) (mark t : ℕ) (is : List Item) (l c : Levels) → c ≡ cond (clears mark sd) noCells l → withItems sd t l is c ≡ withPart sd mark t is l
+pub part-is : (sd : Side) (mark t : ℕ) (is : List Item) (ls : List Level) (l : Levels) → l ≡ startOf mark sd ls → withItems sd t is l ≡ withPart sd mark t is ls
 unfolding withPart
-part-is sd mark t is l c e = rw e
+part-is sd mark t is ls l e = rw e
+
+-- ---- whether a side is touched, and what it starts with
+
+named-items : (b : List ℕ) (i n : ℕ) → named (itemsFrom b i n) ≡ not (eqb n 0)
+unfolding itemsFrom
+named-items b i zero = refl
+named-items b i (suc n) = rw (ne-eqb (suc n) 0 (λ e. omega arith))
+
+module _ (mark bids offers t : ℕ) (b : List ℕ) where
+  pub touches-bids : touchedBy mark Bid bids ≡ touches (oddIn mark bids offers t b) Bid
+  unfolding touches oddIn
+  touches-bids = rw (named-items b 0 bids)
+
+  pub touches-offers : touchedBy mark Offer offers ≡ touches (oddIn mark bids offers t b) Offer
+  unfolding touches oddIn
+  touches-offers = rw (named-items b bids offers)
+
+pub touched-cleared : (c d : Bool) → c ≡ true → true ≡ c || d
+touched-cleared c d e = rw e
+
+pub touched-named : (c d : Bool) → c ≡ false → d ≡ c || d
+touched-named c d e = rw e
+
+module _ (mark : ℕ) (s : Side) (ls : List Level) where
+  pub start-cleared : clears mark s ≡ true → record { cells = noLevel ∷ noLevel ∷ noLevel ∷ noLevel ∷ [] } ≡ startOf mark s ls
+  unfolding startOf clearedBy paddedCells
+  start-cleared e = rw e
+
+  pub start-read : (l : Levels) → clears mark s ≡ false → l .cells ≡ cellsOf ls → l ≡ startOf mark s ls
+  unfolding startOf clearedBy
+  start-read l e f = rw e (λ i. record { cells = f i })

@@ -1,23 +1,17 @@
-// What the odd part of a message does to the levels of its letter: checks 60 to 64, then on each side the clear mark and the items.
+// What the odd part of a message asks: checks 60 to 63, which sides it touches, and a side's levels after its clear mark and its items (64).
 ghost use mathlib.Core.Path.{_≡_};
-ghost use mathlib.Core.Bool.{cond};
 ghost use Prim.Native.Nat.{_+_, _*_, _≤_};
 ghost use lib.ListN.{length};
-ghost use Rattle.levels.specs.Levels.{clears, itemsFrom, itemsBad, oddBad, oddIn, itemLength};
-ghost use Rattle.oddpart.specs.code.Part.{judgedBy, oddAnswerWith, standingIn, sidesOf, oddAnswer, noCells, withPart};
+ghost use Rattle.field.specs.Ascii as ascii;
+ghost use Rattle.levels.specs.Levels.{sideLevels, clears, itemsFrom, itemsBad, oddBad, oddIn, itemLength};
+ghost use Rattle.page.specs.Layout.{pageLength};
+ghost use Rattle.page.specs.Page.{levelsFor};
+ghost use Rattle.oddpart.specs.code.Part.{judgedBy, touchedBy, startOf, withPart};
 use levels::Changed;
 use levels::Item;
 use levels::Judged;
 use levels::Levels;
-use quote::Level;
 use ranking::Side;
-
-/// The answer of an odd part: both sides changed, or the refusal and both as they were.
-pub struct OddAnswer {
-    pub judged: Judged,
-    pub bids: Levels,
-    pub offers: Levels,
-}
 
 // B clears the bids, S the offers, X both.
 fn is_cleared(side: Side, mark: u8) -> bool
@@ -35,19 +29,32 @@ fn is_cleared(side: Side, mark: u8) -> bool
     }
 }
 
-// The levels after the clear mark.
-fn cleared(old: Levels, side: Side, mark: u8) -> Levels
-    ensures { λ r. ⌜ r ≡ cond (clears mark side) noCells old ⌝ }
+/// Whether a part touches a side: its mark clears it, or it has items of that side, n of them.
+pub fn is_touched(side: Side, mark: u8, n: usize) -> bool
+    ensures { λ r. ⌜ r ≡ touchedBy mark side n ⌝ }
+{
+    if is_cleared(side, mark) {
+        return true;
+    }
+    n != 0
+}
+
+// The levels that a side's items meet: none if the mark clears them, and then they aren't read.
+fn start(page: &[u8], letter: usize, side: Side, mark: u8) -> Levels
+    requires { ⌜ length (now page) ≡ pageLength ⌝ }
+    requires { ⌜ (ascii.A ≤ letter) × (letter ≤ ascii.Z) ⌝ }
+    ensures { λ r. ⌜ r ≡ startOf mark side (sideLevels side (levelsFor (now (page .entry)) letter)) ⌝ }
 {
     if is_cleared(side, mark) {
         return Levels::EMPTY;
     }
-    old
+    slots::levels(page, letter, side)
 }
 
-// One side of an odd part: the clear mark, then n items in order, the first being item `from`. A refusal hands back the levels as they were.
-fn with_part(
-    old: Levels,
+/// A side of a letter's levels after a part: the clear mark, then n items in order, the first being item `from`. A refusal has its number.
+pub fn with_part(
+    page: &[u8],
+    letter: usize,
     side: Side,
     mark: u8,
     items: &[u8],
@@ -55,18 +62,17 @@ fn with_part(
     n: usize,
     time: u64,
 ) -> Changed
+    requires { ⌜ length (now page) ≡ pageLength ⌝ }
+    requires { ⌜ (ascii.A ≤ letter) × (letter ≤ ascii.Z) ⌝ }
     requires { ⌜ itemLength * (from + n) ≤ length (now items) ⌝ }
-    ensures { λ r. ⌜ r ≡ withPart side mark time (itemsFrom (now (items .entry)) from n) old ⌝ }
+    ensures { λ r. ⌜ r ≡ withPart side mark time (itemsFrom (now (items .entry)) from n) (sideLevels side (levelsFor (now (page .entry)) letter)) ⌝ }
 {
-    let mut next = cleared(old, side, mark);
+    let mut next = start(page, letter, side, mark);
     for i in 0..n {
         let changed = next.with_item(side, Item::get(items, from + i), time);
         let judged = changed.judged;
         let Judged::Pass = judged else {
-            return Changed {
-                judged,
-                levels: old,
-            };
+            return changed;
         };
         next = changed.levels;
     }
@@ -90,8 +96,8 @@ fn judge_items(items: &[u8], n: usize, lot: u32) -> Judged
     Judged::Pass
 }
 
-// Checks 60 to 63, in their order.
-fn judge_part(mark: u8, bids: usize, offers: usize, lot: u32, items: &[u8]) -> Judged
+/// Checks 60 to 63, in their order. `items` holds the bids, then the offers.
+pub fn judge_part(mark: u8, bids: usize, offers: usize, lot: u32, items: &[u8]) -> Judged
     requires { ⌜ length (now items) ≡ itemLength * (bids + offers) ⌝ }
     ensures { λ r. ⌜ r ≡ judgedBy (oddBad lot (oddIn mark bids offers 0 (now (items .entry)))) ⌝ }
 {
@@ -108,60 +114,4 @@ fn judge_part(mark: u8, bids: usize, offers: usize, lot: u32, items: &[u8]) -> J
         return Judged::Refused(61);
     }
     judge_items(items, bids + offers, lot)
-}
-
-// The answer from the local, its sides as two Levels.
-fn answer(judged: Judged, sides: [[Level; 4]; 2]) -> OddAnswer
-    ensures { λ r. ⌜ r ≡ oddAnswerWith judged sides ⌝ }
-{
-    let bids = sides[0];
-    let offers = sides[1];
-    OddAnswer {
-        judged,
-        bids: Levels { cells: bids },
-        offers: Levels { cells: offers },
-    }
-}
-
-/// An odd part on both sides' levels: every check first, then on each side the clear mark and the items in order.
-/// `items` holds the bids, then the offers. A refusal, with its number, hands back both sides as they were.
-pub fn odd_part(
-    mark: u8,
-    bids: usize,
-    offers: usize,
-    lot: u32,
-    time: u64,
-    items: &[u8],
-    old: [[Level; 4]; 2],
-) -> OddAnswer
-    requires { ⌜ length (now items) ≡ itemLength * (bids + offers) ⌝ }
-    requires { ⌜ old ≡ sidesOf (standingIn old) ⌝ }
-    ensures { λ r. ⌜ r ≡ oddAnswer lot (standingIn old) (oddIn mark bids offers time (now (items .entry))) ⌝ }
-{
-    let judged = judge_part(mark, bids, offers, lot, items);
-    let Judged::Pass = judged else {
-        return answer(judged, old);
-    };
-    let mut sides = old;
-    let bid_cells = sides[0];
-    let bid_levels = Levels { cells: bid_cells };
-    let bid_part = with_part(bid_levels, Side::Bid, mark, items, 0, bids, time);
-    let bid_judged = bid_part.judged;
-    let Judged::Pass = bid_judged else {
-        return answer(bid_judged, old);
-    };
-    let bid_next = bid_part.levels;
-    let bid_back = bid_next.cells;
-    sides[0] = bid_back;
-    let offer_cells = sides[1];
-    let offer_levels = Levels { cells: offer_cells };
-    let offer_part = with_part(offer_levels, Side::Offer, mark, items, bids, offers, time);
-    let offer_judged = offer_part.judged;
-    let Judged::Pass = offer_judged else {
-        return answer(offer_judged, old);
-    };
-    let offer_next = offer_part.levels;
-    let offer_back = offer_next.cells;
-    sides[1] = offer_back;
-    answer(Judged::Pass, sides)
 }

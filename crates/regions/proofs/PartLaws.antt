@@ -20,7 +20,7 @@ use Rattle.quote.specs.Quote.{emptyQuote, quoteBytes, quoteOver, quoteLength}
 use Rattle.quote.proofs.QuoteLaws.{length-quote}
 use Rattle.ranking.specs.declared.Side.{Side}
 use Rattle.ranking.specs.declared.Side.the-variants.{Bid, Offer}
-use Rattle.levels.specs.Levels.{Standing, Odd, idleOdd, cellsBytes, sideLength, levelsLength}
+use Rattle.levels.specs.Levels.{Standing, sideLevels, Odd, touches, idleOdd, cellsBytes, sideLength, levelsLength}
 use Rattle.levels.proofs.SideLaws.{length-cells}
 use Rattle.keys.specs.Keys.{keyLength, quoteKey}
 use Rattle.field.specs.Low.{leBytes}
@@ -32,7 +32,7 @@ use Rattle.entries.specs.Entries.{Maker}
 use Rattle.page.specs.Layout.{slotLength, cellLength, makerCount, cellsAt, pageLength, slotAt, cellAt, statusAt, quoteKeyAt, firstKeyAt, inLevels}
 use Rattle.page.specs.Page.{firstKey, quotesIn, levelsFor, withKey, withQuote, withSide, makerIn, makersIn, refreshed}
 use Rattle.makers.specs.Makers.{named, findMaker, cellOf, makerPlace, freePlace, cellFor, putAt, putMakerBy, putMaker, makerOver, markCell, markCells}
-use Rattle.update.specs.Parts.{putRound, roundOn, afterOdd, putLevels, putOdd, oddOnPage, makerOn, finraOn, putStatus, statusOn}
+use Rattle.update.specs.Parts.{putRound, roundOn, afterOdd, putSide, putLevels, putOdd, oddOnPage, makerOn, finraOn, putStatus, statusOn}
 use Rattle.update.proofs.EntryLaws.{makers-same}
 use Rattle.update.proofs.SearchLaws.{first-same}
 use Rattle.update.proofs.SlotLaws.{side-inside}
@@ -163,16 +163,24 @@ module _ (l : ℕ) where
         (bytes-local (slotAt l + quoteLength + inLevels s) sideLength (cellsBytes 4 vs) (omega (arith, slot-end, side-inside s)) (side-in s) (length-cells 4 vs))
         (first-key-local s (firstKey s vs))
 
-    bothPut : Standing → List ℕ → List ℕ
-    bothPut v p = withSide Offer l (v .offers) (withSide Bid l (v .bids) p)
+    side-put-local : (s : Side) (o : Odd) (v : Standing) → Local pageLength (placesOf l) (putSide s l o v)
+    unfolding putSide
+    side-put-local s o v = go (touches o s)
+      where
+        go : (t : Bool) → Local pageLength (placesOf l) (λ p. cond t (withSide s l (sideLevels s v) p) p)
+        go true = side-local s (sideLevels s v)
+        go false = local-none pageLength (placesOf l)
+
+    bothPut : Odd → Standing → List ℕ → List ℕ
+    bothPut o v p = putSide Offer l o v (putSide Bid l o v p)
 
     levels-local : (o : Odd) → Local pageLength (placesOf l) (putLevels l o)
     unfolding putLevels bothPut
     levels-local o =
-        local-choose pageLength (placesOf l) bothPut (λ p. afterOdd o (levelsFor p l)) (λ p x v w a. λ k. afterOdd o (levels-read p x v w a k))
+        local-choose pageLength (placesOf l) (bothPut o) (λ p. afterOdd o (levelsFor p l)) (λ p x v w a. λ k. afterOdd o (levels-read p x v w a k))
         (λ p.
-        local-then pageLength (placesOf l) (withSide Bid l (afterOdd o (levelsFor p l) .bids)) (withSide Offer l (afterOdd o (levelsFor p l) .offers))
-        (side-local Bid (afterOdd o (levelsFor p l) .bids)) (side-local Offer (afterOdd o (levelsFor p l) .offers)))
+        local-then pageLength (placesOf l) (putSide Bid l o (afterOdd o (levelsFor p l))) (putSide Offer l o (afterOdd o (levelsFor p l)))
+        (side-put-local Bid o (afterOdd o (levelsFor p l))) (side-put-local Offer o (afterOdd o (levelsFor p l))))
 
     odd-local : (s : ℕ) (o : Odd) → Local pageLength (placesOf l) (writes (oddPart s l o))
     unfolding putOdd

@@ -3,8 +3,7 @@
 use Prim.Native.Nat.{ℕ, zero, suc, _+_, _*_, _≤_, _<_}
 use mathlib.Core.Path.{_≡_, refl, sym, ap, ap₂, _∙_}
 use mathlib.Core.Bool.{Bool, true, false, cond}
-use mathlib.Core.List.{List, [], _∷_}
-use mathlib.Core.Option.{none}
+use mathlib.Core.List.{List}
 use native.Mathlib.Omega.{arith}
 use lib.Dec.{eqb}
 use lib.ListN.{length}
@@ -15,37 +14,24 @@ use Rattle.lists.specs.Lists.{upper}
 use Rattle.lists.specs.declared.Found.the-variants.{At, Nothing}
 use Rattle.lists.proofs.Tests.{Cut, equal, apart, cut, upper-low}
 use Rattle.quote.specs.declared.Quote.{Quote}
-use Rattle.quote.specs.declared.Level.{Level}
 use Rattle.quote.specs.Quote.{emptyQuote, quoteOver, quoteIn, quoteLength}
-use Rattle.ranking.specs.declared.Side.{Side}
-use Rattle.ranking.specs.declared.Side.the-variants.{Bid, Offer}
-use Rattle.levels.specs.Levels.{Standing, Odd, idleOdd, oddIn, ranked, sideIn, levelsIn, sideLength, levelsLength, itemLength}
-use Rattle.levels.specs.code.Cells.{cellsOf, judgedNumber}
-use Rattle.levels.proofs.LevelLaws.{Ranked}
-use Rattle.levels.proofs.SideLaws.{side-falls, side-short, cells-read}
-use Rattle.oddpart.specs.code.Part.{oddAnswer, sidesOf, standingIn, oddAnswerWith}
-use Rattle.oddpart.specs.declared.OddAnswer.{OddAnswer}
-use Rattle.levels.specs.declared.Judged.{Judged}
-use Rattle.levels.specs.declared.Judged.the-variants.{Pass, Refused}
-use Rattle.oddpart.proofs.AnswerLaws.{answer-pass, refused-nothing, refused-code, odd-idle, idle-in}
+use Rattle.levels.specs.Levels.{Standing, Odd, idleOdd, oddIn, itemLength}
+use Rattle.oddpart.proofs.AnswerLaws.{odd-idle, idle-in}
 use Rattle.entries.specs.Publication.{publication, changeFlags, publicationLength}
 use Rattle.page.proofs.FrameLaws.{refreshed-part}
-use Rattle.page.specs.Page.{agreedSide, agreedLevels, firstKey, quotesIn, levelsFor, withQuote, withSide, publishedEntries, refreshed}
-use Rattle.slots.specs.code.Slots.{withCells}
-use Rattle.slots.proofs.ReadLaws.{levels-here}
+use Rattle.page.specs.Page.{quotesIn, levelsFor, withQuote, publishedEntries, refreshed}
 use Rattle.message.specs.Message.{makerCode}
 use Rattle.makers.specs.Makers.{putMaker, makerPlace, freePlace, cellFor, markCell, markCells}
-use Rattle.update.specs.Parts.{readingOf, knownBy, putRound, roundOn, afterOdd, putLevels, putOdd, oddOnPage, makerOn, finraOn}
+use Rattle.update.specs.Parts.{readingOf, knownBy, putRound, roundOn, putOdd, oddOnPage, makerOn, finraOn}
 use Rattle.update.specs.code.Update.{Updated, rejected, flagged, oddCodeOn, oddTaken, roundLotOn, oddLotOn, makerQuoteOn}
 use Rattle.update.proofs.EntryLaws.{kept-lot}
 use Rattle.update.proofs.CellLaws.{mark-length}
 use Rattle.update.proofs.MakerLaws.{maker-hit, free-hit, maker-code, over, over-known, over-new}
-use Rattle.update.proofs.KeyLaws.{cells-side}
 use Rattle.update.proofs.SlotLaws.{put-round-levels, put-round-kept, round-stands, odd-stands}
 use Rattle.update.proofs.RefreshLaws.{one-refresh}
 use Rattle.field.specs.Ascii.{A, Z, space}
 use Rattle.text.specs.Form.{nameLength}
-use Rattle.page.specs.Layout.{entriesAt, slotsAt, cellLength, makerCount, pageLength, pageLot, keptEntries, slotAt, cellAt}
+use Rattle.page.specs.Layout.{entriesAt, slotsAt, cellLength, makerCount, pageLength, pageLot, keptEntries, cellAt}
 
 -- a write behind the entries leaves them
 pub entries-stand : (p : List ℕ) (a : ℕ) (new : List ℕ) → length p ≡ pageLength → slotsAt ≤ a → a ≤ pageLength → keptEntries (splice p a new) ≡ keptEntries p
@@ -67,40 +53,6 @@ renewed-is code p q r w e f = rw (refreshed-part p (omega arith), ← e, ← f)
 pub letter-inside : (l : ℕ) → upper l ≡ true → (A ≤ l) × (l ≤ Z)
 letter-inside l u = (upper-low l u .0, omega (arith, upper-low l u .1))
 
--- both sides read are a reading, as `odd_part` requires
-agreed-short : (s : Side) (k : ℕ) (vs : List Level) → length vs ≤ 4 → length (agreedSide s k vs) ≤ 4
-unfolding agreedSide
-agreed-short s k vs h = go (eqb k (firstKey s vs))
-  where
-    go : (t : Bool) → length (cond t vs []) ≤ 4
-    go true = h
-    go false = omega arith
-
-agreed-falls : (s : Side) (k : ℕ) (vs : List Level) → Ranked s vs → Ranked s (agreedSide s k vs)
-unfolding agreedSide
-agreed-falls s k vs h = go (eqb k (firstKey s vs))
-  where
-    go : (t : Bool) → Ranked s (cond t vs [])
-    go true = h
-    go false = tt
-
-agreed-again : (kb ko : ℕ) (b : List ℕ) → standingIn (sidesOf (agreedLevels kb ko (levelsIn b))) ≡ agreedLevels kb ko (levelsIn b)
-unfolding standingIn sidesOf levelsIn agreedLevels
-agreed-again kb ko b = λ i. record { bids = side Bid kb (part b 0 sideLength) i; offers = side Offer ko (part b sideLength sideLength) i }
-  where
-    side : (s : Side) (k : ℕ) (c : List ℕ) → ranked s none (cellsOf (agreedSide s k (sideIn s c))) ≡ agreedSide s k (sideIn s c)
-    side s k c = cells-read s (agreedSide s k (sideIn s c)) (agreed-short s k (sideIn s c) (side-short s c)) (agreed-falls s k (sideIn s c) (side-falls s c))
-
-module _ (p : List ℕ) (l : ℕ) (h : A ≤ l) (k : l ≤ Z) (b o : List Level) (e : b ≡ cellsOf (levelsFor p l .bids)) (f : o ≡ cellsOf (levelsFor p l .offers)) where
-  sides-read : b ∷ o ∷ [] ≡ sidesOf (levelsFor p l)
-  unfolding sidesOf
-  sides-read = rw (← e, ← f)
-
-  pub levels-read : (standingIn (b ∷ o ∷ []) ≡ levelsFor p l) × (b ∷ o ∷ [] ≡ sidesOf (standingIn (b ∷ o ∷ [])))
-  levels-read =
-      let s : standingIn (b ∷ o ∷ []) ≡ levelsFor p l = ap standingIn sides-read ∙ rw (levels-here p l h k) (agreed-again _ _ (part p (slotAt l + quoteLength) levelsLength)) in
-      (s, sides-read ∙ ap sidesOf (sym s))
-
 -- no items are no bytes
 module _ (mark bids offers t : ℕ) (b : List ℕ) (h : length b ≡ itemLength * (bids + offers)) where
   pub idle-space : mark ≡ space → eqb (length b) 0 ≡ idleOdd (oddIn mark bids offers t b)
@@ -113,29 +65,10 @@ module _ (mark bids offers t : ℕ) (b : List ℕ) (h : length b ≡ itemLength 
   pub idle-marked : (mark ≡ space → ⊥) → false ≡ idleOdd (oddIn mark bids offers t b)
   idle-marked n = sym (idle-in mark bids offers t b ∙ rw (ne-eqb mark space n))
 
--- an odd part on its letter's levels: idle, refused or taken
+-- an idle odd part leaves the page
 pub levels-idle : (p : List ℕ) (l : ℕ) (o : Odd) → idleOdd o ≡ true → (_≡_ {A = ℕ} 0 (oddCodeOn l o p)) × (p ≡ oddTaken l o p)
 unfolding putOdd
 levels-idle p l o i = let z : oddCodeOn l o p ≡ 0 = odd-idle (pageLot p) (levelsFor p l) o i .0 in (sym z, rw (z, i))
-
-module _ (p : List ℕ) (l : ℕ) (o : Odd) (a : OddAnswer) (e : a ≡ oddAnswer (pageLot p) (levelsFor p l) o) where
-  told : (j : Judged) → a .judged ≡ j → oddAnswer (pageLot p) (levelsFor p l) o .judged ≡ j
-  told j f = sym (ap (λ (x : OddAnswer). x .judged) e) ∙ f
-
-  pub levels-left : (x code : ℕ) → a .judged ≡ Refused x → code ≡ judgedNumber (a .judged) → (code ≡ oddCodeOn l o p) × (p ≡ oddTaken l o p)
-  levels-left x code j n = (
-    n ∙ ap judgedNumber j ∙ sym (refused-nothing (pageLot p) (levelsFor p l) o x (told (Refused x) j) .0),
-    rw (refused-code (pageLot p) (levelsFor p l) o x (told (Refused x) j)),
-  )
-
-  -- both sides written
-  pub levels-written : (p′ : List ℕ) → idleOdd o ≡ false → a .judged ≡ Pass → p′ ≡ withCells Offer l (a .offers .cells) (withCells Bid l (a .bids .cells) p) → (_≡_ {A = ℕ} 0 (oddCodeOn l o p)) × (p′ ≡ oddTaken l o p)
-  unfolding putOdd putLevels sidesOf
-  levels-written p′ i j f =
-      let v : Standing = afterOdd o (levelsFor p l) in
-      let (z, k) = answer-pass (pageLot p) (levelsFor p l) o (told Pass j) in
-      let y : a ≡ oddAnswerWith Pass (sidesOf v) = e ∙ k in
-      (sym z, f ∙ rw (z, i, y) (cells-side Offer l (v .offers) (withCells Bid l (cellsOf (v .bids)) p) ∙ ap (withSide Offer l (v .offers)) (cells-side Bid l (v .bids) p)))
 
 module _ (p : List ℕ) (w : length p ≡ pageLength) (l : ℕ) (u : upper l ≡ true) (o : Odd) where
   -- Q K: the round part is written, then the odd part, and the entries are worked out once

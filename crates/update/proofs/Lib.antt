@@ -11,5 +11,6 @@ pub mod RefreshLaws
 pub mod WorkLaws
 pub mod UpdateLaws
 pub mod StoreLaws
+pub mod OddLaws
 pub mod EffectLaws
 pub mod StatusLaws

@@ -1,7 +1,7 @@
 -- A page that is written twice needs its entries worked out once: no update reads them.
 -- Assumes nothing.
 use Prim.Native.Nat.{ℕ, _+_, _*_, _-_, _≤_}
-use mathlib.Core.Path.{_≡_, sym, ap, _∙_}
+use mathlib.Core.Path.{_≡_, refl, sym, ap, _∙_}
 use mathlib.Core.Bool.{Bool, true, false, cond}
 use mathlib.Core.List.{List, _++_, append-assoc}
 use native.Mathlib.Omega.{arith}
@@ -14,7 +14,7 @@ use Rattle.lists.proofs.Tests.{upper-low}
 use Rattle.ranking.specs.declared.Side.{Side}
 use Rattle.ranking.specs.declared.Side.the-variants.{Bid, Offer}
 use Rattle.quote.specs.declared.Level.{Level}
-use Rattle.levels.specs.Levels.{Standing, Odd, idleOdd, cellsBytes}
+use Rattle.levels.specs.Levels.{Standing, sideLevels, Odd, touches, idleOdd, cellsBytes}
 use Rattle.levels.proofs.SideLaws.{length-cells}
 use Rattle.field.specs.Low.{leBytes}
 use Rattle.field.proofs.LowLaws.{length-leBytes}
@@ -23,7 +23,7 @@ use Rattle.entries.specs.Entries.{Entries}
 use Rattle.entries.specs.Publication.{publication, publicationLength}
 use Rattle.page.specs.Page.{firstKey, levelsFor, withKey, withSide, publishedEntries, refreshed}
 use Rattle.page.proofs.KeyLaws.{first-keys-low, first-keys-high}
-use Rattle.update.specs.Parts.{afterOdd, putLevels, putOdd}
+use Rattle.update.specs.Parts.{afterOdd, putSide, putLevels, putOdd}
 use Rattle.entries.proofs.LengthLaws.{length-publication}
 use Rattle.page.proofs.FrameLaws.{levels-kept, published-kept, refreshed-twice}
 use Rattle.update.proofs.SlotLaws.{side-inside}
@@ -97,6 +97,9 @@ late-splice a l lo hi =
           ∙ ap (λ (b : ℕ). splice (splice p b l) entriesAt e) k;
     }
 
+late-none : Late (λ p. p)
+late-none = record { size = λ p w. w; swap = λ p e w n. refl }
+
 late-then : (g h : List ℕ → List ℕ) → Late g → Late h → Late (λ p. h (g p))
 late-then g h x y =
     record {
@@ -110,6 +113,14 @@ late-side s l u vs =
     late-then (λ p. splice p (slotAt l + quoteLength + inLevels s) (cellsBytes 4 vs)) (withKey (firstKeyAt s l) (firstKey s vs))
     (late-splice (slotAt l + quoteLength + inLevels s) (cellsBytes 4 vs) (omega arith) (omega (arith, length-cells 4 vs, side-inside s, upper-low l u .0, upper-low l u .1)))
     (late-splice (firstKeyAt s l) (leBytes keyLength (firstKey s vs)) (omega (arith, first-keys-low s)) (omega (arith, length-leBytes keyLength (firstKey s vs), first-keys-high s, upper-low l u .0, upper-low l u .1)))
+
+late-put : (s : Side) (l : ℕ) → upper l ≡ true → (o : Odd) (v : Standing) → Late (putSide s l o v)
+unfolding putSide
+late-put s l u o v = go (touches o s)
+  where
+    go : (t : Bool) → Late (λ p. cond t (withSide s l (sideLevels s v) p) p)
+    go true = late-side s l u (sideLevels s v)
+    go false = late-none
 
 -- a refresh, such a change, a refresh: the first refresh is not needed
 pub late-refresh : (g : List ℕ → List ℕ) → Late g → (p : List ℕ) → length p ≡ pageLength → refreshed (g (refreshed p)) ≡ refreshed (g p)
@@ -128,16 +139,16 @@ unfolding refreshed
 refreshed-levels p = levels-kept p (publication (publishedEntries p)) (length-publication (publishedEntries p))
 
 module _ (x : List ℕ) (w : length x ≡ pageLength) (l : ℕ) (u : upper l ≡ true) (o : Odd) where
-  -- both sides written
+  -- the sides that it touches written
   bothPut : Standing → List ℕ → List ℕ
-  bothPut v p = withSide Offer l (v .offers) (withSide Bid l (v .bids) p)
+  bothPut v p = putSide Offer l o v (putSide Bid l o v p)
 
   levels-refresh : refreshed (putLevels l o (refreshed x)) ≡ refreshed (putLevels l o x)
   unfolding putLevels bothPut
   levels-refresh =
       ap (λ (v : ℕ → Standing). refreshed (bothPut (afterOdd o (v l)) (refreshed x))) (refreshed-levels x)
       ∙ late-refresh (bothPut (afterOdd o (levelsFor x l)))
-      (late-then (withSide Bid l (afterOdd o (levelsFor x l) .bids)) (withSide Offer l (afterOdd o (levelsFor x l) .offers)) (late-side Bid l u (afterOdd o (levelsFor x l) .bids)) (late-side Offer l u (afterOdd o (levelsFor x l) .offers)))
+      (late-then (putSide Bid l o (afterOdd o (levelsFor x l))) (putSide Offer l o (afterOdd o (levelsFor x l))) (late-put Bid l u o (afterOdd o (levelsFor x l))) (late-put Offer l u o (afterOdd o (levelsFor x l))))
       x w
 
   -- an odd part on a page whose entries are worked out: written without them, then worked out once

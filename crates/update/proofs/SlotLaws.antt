@@ -23,15 +23,16 @@ use Rattle.quote.specs.declared.Quote.{Quote}
 use Rattle.quote.specs.Quote.{noLevel, quoteOver, quoteIn, quoteBytes, levelBytes, LevelFits, QuoteFits, quoteLength, levelLength}
 use Rattle.quote.proofs.QuoteLaws.{length-quote, quote-back, quote-fits, bytes-quote, bytes-level}
 use Rattle.quote.proofs.OverLaws.{over-fits}
-use Rattle.levels.specs.Levels.{Standing, noLevels, sideLevels, Odd, idleOdd, sideIn, levelsIn, cellsBytes, sideLength, levelsLength}
+use Rattle.levels.specs.Levels.{Standing, noLevels, sideLevels, Odd, touches, idleOdd, sideIn, levelsIn, cellsBytes, sideLength, levelsLength}
 use Rattle.levels.proofs.LevelLaws.{SideGood, LevelsGood, OddGood, empty-good, none-good, odd-good-levels}
 use Rattle.levels.proofs.SideLaws.{length-cells, side-back, levels-good}
-use Rattle.oddpart.proofs.AnswerLaws.{odd-idle}
+use Rattle.levels.proofs.TouchLaws.{odd-untouched}
+use Rattle.oddpart.proofs.AnswerLaws.{odd-idle, idle-touches}
 use Rattle.keys.specs.Keys.{keyLength, quoteKey}
 use Rattle.page.specs.Page.{agreed, agreedQuote, agreedSide, agreedLevels, firstKey, quotesIn, levelsFor, withKey, withQuote, withSide, makersIn, haltedIn, refreshed}
 use Rattle.page.proofs.KeyLaws.{quote-keys-low, quote-keys-high, first-keys-low, first-keys-high, quote-same, level-same}
 use Rattle.slots.proofs.ReadLaws.{quote-here, levels-here, side-here, side-at}
-use Rattle.update.specs.Parts.{readingOf, putRound, roundOn, afterOdd, putLevels, putOdd, oddOnPage}
+use Rattle.update.specs.Parts.{readingOf, putRound, roundOn, afterOdd, putSide, putLevels, putOdd, oddOnPage}
 use Rattle.update.proofs.Model.{setAt, worked, roundReading, oddReading}
 use Rattle.update.proofs.EntryLaws.{quote-letter, level-letter, makers-same, Kept, kept-none, kept-then, kept-splice, refreshed-kept, reads-by, halted-same}
 use Rattle.update.proofs.KeyLaws.{quote-key-small, first-key-small, Beside, before, behind, quote-rows, first-rows, quote-first, first-quote, key-kept, key-front, key-back, key-other}
@@ -48,6 +49,9 @@ pub record Leaves (l : ℕ) (p p′ : List ℕ) : Type 0 where
   pub entries : keptEntries p′ ≡ keptEntries p
   pub quotes : (j : ℕ) → (l ≡ j → ⊥) → quotesIn p′ j ≡ quotesIn p j
   pub levels : (j : ℕ) → (l ≡ j → ⊥) → levelsFor p′ j ≡ levelsFor p j
+
+leaves-none : (l : ℕ) (p : List ℕ) → length p ≡ pageLength → Leaves l p p
+leaves-none l p w = record { kept = kept-none p w; makers = refl; halted = refl; entries = refl; quotes = λ j d. refl; levels = λ j d. refl }
 
 leaves-then : (l : ℕ) (p q r : List ℕ) → Leaves l p q → Leaves l q r → Leaves l p r
 leaves-then l p q r x y =
@@ -381,23 +385,28 @@ module _ (s : Side) (p : List ℕ) (w : length p ≡ pageLength) (l : ℕ) (u : 
       ∙ ap (agreedSide s (firstKey s vs)) (side-back s vs g)
       ∙ own-side s vs
 
-  -- the other side
-  side-other : sideLevels (otherSide s) (levelsFor (withSide s l vs p) l) ≡ sideLevels (otherSide s) (levelsFor p l)
-  unfolding withSide low
-  side-other =
-      let t : Side = otherSide s in
-      let z : List ℕ = withKey (firstKeyAt s l) (firstKey s vs) put in
-      let k : part z (firstKeyAt t l) keyLength ≡ part p (firstKeyAt t l) keyLength =
-      key-other put put-size l u (firstKeysAt s) (first-low s) (first-high s) (firstKey s vs) (firstKeysAt t) l u (side-rows s l)
-      ∙ slot-behind p w l u (sideAt s l) (cellsBytes 4 vs) side-low side-high (firstKeyAt t l) keyLength (omega (arith, first-keys-low t)) in
-      let e : part z (sideAt t l) sideLength ≡ part p (sideAt t l) sideLength =
-      side-before (sideAt t l) sideLength (omega (arith, side-inside t, upper-low l u .1)) ∙ part-other p (sideAt s l) (cellsBytes 4 vs) (sideAt t l) sideLength (omega (arith, side-inside s, upper-low l u .1)) (apart-by (sides-apart s)) in
-      side-read z l u t ∙ (λ i. agreedSide t (le (k i)) (sideIn t (e i))) ∙ sym (side-read p l u t)
+  -- the other side's key and cells keep their bytes
+  other-key : part (withSide s l vs p) (firstKeyAt (otherSide s) l) keyLength ≡ part p (firstKeyAt (otherSide s) l) keyLength
+  unfolding withSide
+  other-key =
+      key-other put put-size l u (firstKeysAt s) (first-low s) (first-high s) (firstKey s vs) (firstKeysAt (otherSide s)) l u (side-rows s l)
+      ∙ slot-behind p w l u (sideAt s l) (cellsBytes 4 vs) side-low side-high (firstKeyAt (otherSide s) l) keyLength (omega (arith, first-keys-low (otherSide s)))
+
+  other-cells : part (withSide s l vs p) (sideAt (otherSide s) l) sideLength ≡ part p (sideAt (otherSide s) l) sideLength
+  unfolding withSide
+  other-cells =
+      side-before (sideAt (otherSide s) l) sideLength (omega (arith, side-inside (otherSide s), upper-low l u .1))
+      ∙ part-other p (sideAt s l) (cellsBytes 4 vs) (sideAt (otherSide s) l) sideLength (omega (arith, side-inside s, upper-low l u .1)) (apart-by (sides-apart s))
     where
       apart-by : (inLevels (otherSide s) + sideLength ≤ inLevels s) ⊎ (inLevels s + sideLength ≤ inLevels (otherSide s))
           → (sideAt (otherSide s) l + sideLength ≤ sideAt s l) ⊎ (sideAt s l + length (cellsBytes 4 vs) ≤ sideAt (otherSide s) l)
       apart-by (inl h) = inl (omega arith)
       apart-by (inr h) = inr (omega (arith, four))
+
+  side-other : sideLevels (otherSide s) (levelsFor (withSide s l vs p) l) ≡ sideLevels (otherSide s) (levelsFor p l)
+  unfolding low
+  side-other =
+      side-read (withSide s l vs p) l u (otherSide s) ∙ (λ i. agreedSide (otherSide s) (le (other-key i)) (sideIn (otherSide s) (other-cells i))) ∙ sym (side-read p l u (otherSide s))
 
 both-sides : (s : Side) (vs : List Level) (v x : Standing) → sideLevels s x ≡ vs → sideLevels (otherSide s) x ≡ sideLevels (otherSide s) v → x ≡ setSide s vs v
 both-sides Bid vs v x a b = λ i. record { bids = a i; offers = b i }
@@ -406,6 +415,34 @@ both-sides Offer vs v x a b = λ i. record { bids = b i; offers = a i }
 pub side-levels : (s : Side) (p : List ℕ) → length p ≡ pageLength → (l : ℕ) → upper l ≡ true → (vs : List Level) → SideGood s vs → levelsFor (withSide s l vs p) l ≡ setSide s vs (levelsFor p l)
 side-levels s p w l u vs g = both-sides s vs (levelsFor p l) (levelsFor (withSide s l vs p) l) (side-own s p w l u vs g) (side-other s p w l u vs)
 
+-- ---- a side that a part touches, written
+
+module _ (s : Side) (p : List ℕ) (w : length p ≡ pageLength) (l : ℕ) (u : upper l ≡ true) (o : Odd) (v : Standing) where
+  put-side-leaves : Leaves l p (putSide s l o v p)
+  unfolding putSide
+  put-side-leaves = go (touches o s)
+    where
+      go : (t : Bool) → Leaves l p (cond t (withSide s l (sideLevels s v) p) p)
+      go true = side-leaves s p w l u (sideLevels s v)
+      go false = leaves-none l p w
+
+  put-side-quotes : quotesIn (putSide s l o v p) ≡ quotesIn p
+  unfolding putSide
+  put-side-quotes = go (touches o s)
+    where
+      go : (t : Bool) → quotesIn (cond t (withSide s l (sideLevels s v) p) p) ≡ quotesIn p
+      go true = side-quotes s p w l u (sideLevels s v)
+      go false = refl
+
+  -- an untouched side has its levels already
+  put-side-levels : SideGood s (sideLevels s v) → (touches o s ≡ false → sideLevels s v ≡ sideLevels s (levelsFor p l)) → levelsFor (putSide s l o v p) l ≡ setSide s (sideLevels s v) (levelsFor p l)
+  unfolding putSide
+  put-side-levels g k = go (touches o s) refl
+    where
+      go : (t : Bool) → touches o s ≡ t → levelsFor (cond t (withSide s l (sideLevels s v) p) p) l ≡ setSide s (sideLevels s v) (levelsFor p l)
+      go true e = side-levels s p w l u (sideLevels s v) g
+      go false e = both-sides s (sideLevels s v) (levelsFor p l) (levelsFor p l) (sym (k e)) refl
+
 -- ---- an odd part
 
 module _ (p : List ℕ) (w : length p ≡ pageLength) (l : ℕ) (u : upper l ≡ true) (o : Odd) where
@@ -413,28 +450,53 @@ module _ (p : List ℕ) (w : length p ≡ pageLength) (l : ℕ) (u : upper l ≡
   after = afterOdd o (levelsFor p l)
 
   abbrev bidden : List ℕ
-  bidden = withSide Bid l (after .bids) p
+  bidden = putSide Bid l o after p
 
   in-bidden : Leaves l p bidden
-  in-bidden = side-leaves Bid p w l u (after .bids)
+  in-bidden = put-side-leaves Bid p w l u o after
 
   bidden-size : length bidden ≡ pageLength
   bidden-size = in-bidden .kept .size
 
   pub levels-leaves : Leaves l p (putLevels l o p)
   unfolding putLevels
-  levels-leaves = leaves-then l p bidden _ in-bidden (side-leaves Offer bidden bidden-size l u (after .offers))
+  levels-leaves = leaves-then l p bidden _ in-bidden (put-side-leaves Offer bidden bidden-size l u o after)
 
   put-levels-quotes : quotesIn (putLevels l o p) ≡ quotesIn p
   unfolding putLevels
-  put-levels-quotes = side-quotes Offer bidden bidden-size l u (after .offers) ∙ side-quotes Bid p w l u (after .bids)
+  put-levels-quotes = put-side-quotes Offer bidden bidden-size l u o after ∙ put-side-quotes Bid p w l u o after
 
   put-levels-levels : LevelsGood after → levelsFor (putLevels l o p) ≡ setAt l after (levelsFor p)
   unfolding putLevels
   put-levels-levels g =
-      set-by l after (levelsFor p) (levelsFor (withSide Offer l (after .offers) bidden))
-      (side-levels Offer bidden bidden-size l u (after .offers) (g .offers) ∙ ap (setSide Offer (after .offers)) (side-levels Bid p w l u (after .bids) (g .bids)))
+      let b : levelsFor bidden l ≡ setSide Bid (after .bids) (levelsFor p l) = put-side-levels Bid p w l u o after (g .bids) (odd-untouched o (levelsFor p l) Bid) in
+      set-by l after (levelsFor p) (levelsFor (putSide Offer l o after bidden))
+      (put-side-levels Offer bidden bidden-size l u o after (g .offers) (λ e. odd-untouched o (levelsFor p l) Offer e ∙ sym (ap (λ (v : Standing). v .offers) b)) ∙ ap (setSide Offer (after .offers)) b)
       (levels-leaves .levels)
+
+  pub put-odd-is : putOdd l o p ≡ putLevels l o p
+  unfolding putOdd putLevels putSide
+  put-odd-is = go (idleOdd o) refl
+    where
+      go : (t : Bool) → idleOdd o ≡ t → cond t p (putLevels l o p) ≡ putLevels l o p
+      go true e = rw (idle-touches o Bid e, idle-touches o Offer e)
+      go false e = refl
+
+  -- a side that the part does not touch keeps the bytes of its cells and of its key
+  pub untouched-kept : (s : Side) → touches o s ≡ false
+      → (part (putOdd l o p) (slotAt l + quoteLength + inLevels s) sideLength ≡ part p (slotAt l + quoteLength + inLevels s) sideLength)
+      × (part (putOdd l o p) (firstKeyAt s l) keyLength ≡ part p (firstKeyAt s l) keyLength)
+  unfolding putLevels putSide
+  untouched-kept Bid e = rw (put-odd-is, e) (go (touches o Offer))
+    where
+      go : (t : Bool) → (part (cond t (withSide Offer l (after .offers) p) p) (sideAt Bid l) sideLength ≡ part p (sideAt Bid l) sideLength) × (part (cond t (withSide Offer l (after .offers) p) p) (firstKeyAt Bid l) keyLength ≡ part p (firstKeyAt Bid l) keyLength)
+      go true = (other-cells Offer p w l u (after .offers), other-key Offer p w l u (after .offers))
+      go false = (refl, refl)
+  untouched-kept Offer e = rw (put-odd-is, e) (go (touches o Bid))
+    where
+      go : (t : Bool) → (part (cond t (withSide Bid l (after .bids) p) p) (sideAt Offer l) sideLength ≡ part p (sideAt Offer l) sideLength) × (part (cond t (withSide Bid l (after .bids) p) p) (firstKeyAt Offer l) keyLength ≡ part p (firstKeyAt Offer l) keyLength)
+      go true = (other-cells Bid p w l u (after .bids), other-key Bid p w l u (after .bids))
+      go false = (refl, refl)
 
   put-odd-kept : Kept p (putOdd l o p)
   unfolding putOdd

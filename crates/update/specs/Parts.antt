@@ -8,10 +8,11 @@ use mathlib.Core.Option.{Option, none, some}
 use lib.ListN.{length, replicate}
 use Rattle.field.specs.Field.{part, splice, beBytes}
 use Rattle.lists.specs.Lists.{isSome, orElse}
+use Rattle.ranking.specs.declared.Side.{Side}
 use Rattle.ranking.specs.declared.Side.the-variants.{Bid, Offer}
 use Rattle.quote.specs.declared.Quote.{Quote}
 use Rattle.quote.specs.Quote.{quoteOver}
-use Rattle.levels.specs.Levels.{Standing, noLevels, Odd, oddOn, idleOdd}
+use Rattle.levels.specs.Levels.{Standing, noLevels, sideLevels, Odd, touches, oddOn, idleOdd}
 use Rattle.message.specs.Message.{Known}
 use Rattle.entries.specs.Entries.{Maker}
 use Rattle.entries.specs.Publication.{noEntries}
@@ -61,11 +62,14 @@ roundOn l q p = refreshed (putRound l (quoteOver (quotesIn p l) q) p)
 abbrev pub afterOdd : Odd → Standing → Standing
 afterOdd o v = orElse (oddOn o v) v
 
--- all cells of both sides written anew
-unfoldable pub putLevels : ℕ → Odd → List ℕ → List ℕ
-putLevels l o p = withSide Offer l (afterOdd o (levelsFor p l) .offers) (withSide Bid l (afterOdd o (levelsFor p l) .bids) p)
+-- all cells of a side that it touches written anew; another side keeps every byte, also of cells that no reading counts, and its key
+unfoldable pub putSide : Side → ℕ → Odd → Standing → List ℕ → List ℕ
+putSide s l o v p = cond (touches o s) (withSide s l (sideLevels s v) p) p
 
--- an odd part of a space and no items asks for nothing: it leaves every byte of the levels, also of cells that no reading counts
+unfoldable pub putLevels : ℕ → Odd → List ℕ → List ℕ
+putLevels l o p = putSide Offer l o (afterOdd o (levelsFor p l)) (putSide Bid l o (afterOdd o (levelsFor p l)) p)
+
+-- an odd part of a space and no items asks for nothing, and touches no side
 unfoldable pub putOdd : ℕ → Odd → List ℕ → List ℕ
 putOdd l o p = cond (idleOdd o) p (putLevels l o p)
 

@@ -1,27 +1,23 @@
 // What a message does to the page of the symbol that it names.
 ghost use mathlib.Core.Path.{_≡_};
 ghost use mathlib.Core.Bool.{true};
-ghost use Prim.Native.Nat.{_≤_};
+ghost use Prim.Native.Nat.{_+_, _*_, _≤_};
 ghost use lib.ListN.{length};
 ghost use Rattle.field.specs.Field.{field};
 ghost use Rattle.field.specs.Ascii as ascii;
 ghost use Rattle.lists.specs.Lists.{upper};
 ghost use Rattle.ranking.specs.declared.Side.the-variants.{Bid, Offer};
-ghost use Rattle.levels.specs.Levels.{idleOdd};
-ghost use Rattle.oddpart.specs.code.Part.{oddAnswer};
+ghost use Rattle.levels.specs.Levels.{idleOdd, itemsFrom, itemLength};
 ghost use Rattle.message.specs.Message.{oddWith, itemsLength};
 ghost use Rattle.entries.specs.Publication.{changeFlags};
-ghost use Rattle.page.specs.Page.{levelsFor, refreshed};
-ghost use Rattle.slots.specs.code.Slots.{withCells};
+ghost use Rattle.page.specs.Page.{refreshed};
 ghost use Rattle.update.specs.Parts.{finraOn, blankPage, newHead, emptied};
-ghost use Rattle.update.specs.code.Update.{flagged, oddCodeOn, oddTaken, roundLotOn, oddLotOn, makerQuoteOn, tradingStatusOn};
-ghost use Rattle.page.specs.Layout.{pageLength, pageLot, keptEntries};
+ghost use Rattle.update.specs.code.Update.{flagged, sidePart, oneSide, bothSides, oddCodeOn, oddTaken, roundLotOn, oddLotOn, makerQuoteOn, tradingStatusOn};
+ghost use Rattle.page.specs.Layout.{pageLength, keptEntries};
 ghost use Rattle.text.specs.Form.{symbolLength};
 use levels::Judged;
-use levels::Levels;
 use lists::Found;
 use message::OddPart;
-use oddpart::OddAnswer;
 use page::Cell;
 use page::Page;
 use quote::Quote;
@@ -44,33 +40,104 @@ fn renewed(page: &mut [u8], code: u8) -> Effect
     Effect { code, flags }
 }
 
-// What the odd part makes of the letter's levels.
-fn judge_odd(page: &[u8], letter: usize, odd: OddPart, items: &[u8]) -> OddAnswer
+// One side of an odd part: its items are n, the first being item `from`. A refused one is not written.
+fn put_one(
+    page: &mut [u8],
+    letter: usize,
+    side: Side,
+    odd: OddPart,
+    items: &[u8],
+    from: usize,
+    n: usize,
+) -> u8
+    requires { ⌜ length (now page) ≡ pageLength ⌝ }
+    requires { ⌜ (ascii.A ≤ letter) × (letter ≤ ascii.Z) ⌝ }
+    requires { ⌜ itemLength * (from + n) ≤ length (now items) ⌝ }
+    ensures { λ r. ⌜ record { code = r; page = now (page .exit) } ≡ oneSide side letter (sidePart side (odd .mark) (odd .time) letter (itemsFrom (now (items .entry)) from n) (now (page .entry))) (now (page .entry)) ⌝ }
+{
+    let changed = oddpart::with_part(page, letter, side, odd.mark, items, from, n, odd.time);
+    let judged = changed.judged;
+    let Judged::Pass = judged else {
+        return levels::number(judged);
+    };
+    slots::put_side(page, letter, side, changed.levels);
+    0
+}
+
+// Both sides of an odd part. Both are worked out before one is written, so a refusal of either writes none.
+fn put_both(page: &mut [u8], letter: usize, odd: OddPart, items: &[u8]) -> u8
     requires { ⌜ length (now page) ≡ pageLength ⌝ }
     requires { ⌜ (ascii.A ≤ letter) × (letter ≤ ascii.Z) ⌝ }
     requires { ⌜ length (now items) ≡ itemsLength odd ⌝ }
-    ensures { λ r. ⌜ r ≡ oddAnswer (pageLot (now (page .entry))) (levelsFor (now (page .entry)) letter) (oddWith odd (now (items .entry))) ⌝ }
+    ensures { λ r. ⌜ record { code = r; page = now (page .exit) } ≡ bothSides letter (sidePart Bid (odd .mark) (odd .time) letter (itemsFrom (now (items .entry)) 0 (odd .bids)) (now (page .entry))) (sidePart Offer (odd .mark) (odd .time) letter (itemsFrom (now (items .entry)) (odd .bids) (odd .offers)) (now (page .entry))) (now (page .entry)) ⌝ }
 {
-    let bids = slots::levels(page, letter, Side::Bid);
-    let offers = slots::levels(page, letter, Side::Offer);
-    let bid_cells = bids.cells;
-    let offer_cells = offers.cells;
-    let old = [bid_cells, offer_cells];
+    let bids = oddpart::with_part(
+        page,
+        letter,
+        Side::Bid,
+        odd.mark,
+        items,
+        0,
+        odd.bids,
+        odd.time,
+    );
+    let bid_judged = bids.judged;
+    let Judged::Pass = bid_judged else {
+        return levels::number(bid_judged);
+    };
+    let offers = oddpart::with_part(
+        page,
+        letter,
+        Side::Offer,
+        odd.mark,
+        items,
+        odd.bids,
+        odd.offers,
+        odd.time,
+    );
+    let offer_judged = offers.judged;
+    let Judged::Pass = offer_judged else {
+        return levels::number(offer_judged);
+    };
+    slots::put_side(page, letter, Side::Bid, bids.levels);
+    slots::put_side(page, letter, Side::Offer, offers.levels);
+    0
+}
+
+// An odd part on its letter's levels, and its code. A side that it doesn't touch is neither read nor written, and a refused part writes nothing.
+fn put_odd(page: &mut [u8], letter: u8, odd: OddPart, items: &[u8]) -> u8
+    requires { ⌜ (length (now page) ≡ pageLength) × (upper letter ≡ true) ⌝ }
+    requires { ⌜ length (now items) ≡ itemsLength odd ⌝ }
+    ensures { λ r. ⌜ (r ≡ oddCodeOn letter (oddWith odd (now (items .entry))) (now (page .entry))) × (now (page .exit) ≡ oddTaken letter (oddWith odd (now (items .entry))) (now (page .entry))) ⌝ }
+{
     let lot = field::get8(page, Page::LOT) as u32;
-    oddpart::odd_part(odd.mark, odd.bids, odd.offers, lot, odd.time, items, old)
+    let judged = oddpart::judge_part(odd.mark, odd.bids, odd.offers, lot, items);
+    let Judged::Pass = judged else {
+        return levels::number(judged);
+    };
+    let bids = oddpart::is_touched(Side::Bid, odd.mark, odd.bids);
+    let offers = oddpart::is_touched(Side::Offer, odd.mark, odd.offers);
+    if bids {
+        if offers {
+            return put_both(page, letter as usize, odd, items);
+        }
+        return put_one(page, letter as usize, Side::Bid, odd, items, 0, odd.bids);
+    }
+    if offers {
+        return put_one(
+            page,
+            letter as usize,
+            Side::Offer,
+            odd,
+            items,
+            odd.bids,
+            odd.offers,
+        );
+    }
+    0
 }
 
-// Writes both sides of the letter's levels.
-fn put_levels(page: &mut [u8], letter: usize, bids: Levels, offers: Levels)
-    requires { ⌜ length (now page) ≡ pageLength ⌝ }
-    requires { ⌜ (ascii.A ≤ letter) × (letter ≤ ascii.Z) ⌝ }
-    ensures { λ _. ⌜ now (page .exit) ≡ withCells Offer letter (offers .cells) (withCells Bid letter (bids .cells) (now (page .entry))) ⌝ }
-{
-    slots::put_side(page, letter, Side::Bid, bids);
-    slots::put_side(page, letter, Side::Offer, offers);
-}
-
-// Whether an odd part asks for nothing. Most do, so this is asked before levels are read.
+// Whether an odd part asks for nothing. Most of a Q K do, so this is asked first.
 fn is_idle(odd: OddPart, items: &[u8]) -> bool
     requires { ⌜ length (now items) ≡ itemsLength odd ⌝ }
     ensures { λ r. ⌜ r ≡ idleOdd (oddWith odd (now (items .entry))) ⌝ }
@@ -79,24 +146,6 @@ fn is_idle(odd: OddPart, items: &[u8]) -> bool
         return items.len() == 0;
     }
     false
-}
-
-// An odd part on its letter's levels, and its code. An idle and a refused part leave the page alone.
-fn put_odd(page: &mut [u8], letter: u8, odd: OddPart, items: &[u8]) -> u8
-    requires { ⌜ (length (now page) ≡ pageLength) × (upper letter ≡ true) ⌝ }
-    requires { ⌜ length (now items) ≡ itemsLength odd ⌝ }
-    ensures { λ r. ⌜ (r ≡ oddCodeOn letter (oddWith odd (now (items .entry))) (now (page .entry))) × (now (page .exit) ≡ oddTaken letter (oddWith odd (now (items .entry))) (now (page .entry))) ⌝ }
-{
-    if is_idle(odd, items) {
-        return 0;
-    }
-    let answer = judge_odd(page, letter as usize, odd, items);
-    let judged = answer.judged;
-    let Judged::Pass = judged else {
-        return levels::number(judged);
-    };
-    put_levels(page, letter as usize, answer.bids, answer.offers);
-    0
 }
 
 /// A Q K on the page of its symbol: its round part, then its odd part, whose items are lent. A refused odd part does nothing, and the round part stays.
@@ -120,6 +169,9 @@ pub fn round_lot(
     }
     let standing = slots::quote(page, letter as usize);
     slots::put_quote(page, letter as usize, quote.over(standing));
+    if is_idle(odd, items) {
+        return renewed(page, 0);
+    }
     let code = put_odd(page, letter, odd, items);
     renewed(page, code)
 }

@@ -1,41 +1,94 @@
-use mathlib.Core.Path.{sym, _∙_}
-use Rattle.update.proofs.EffectLaws.{letter-inside, levels-idle, levels-left, levels-written}
+use native.Mathlib.Omega.{arith}
+use Rattle.update.proofs.EffectLaws.{letter-inside}
+use Rattle.update.proofs.OddLaws.{check-refused, both-touched, bids-touched, offers-touched, none-touched}
 use borrow.Author.Needs.{needs}
 use Rattle.update.proofs.put_odd.Statement.{statement}
 use Rattle.update.proofs.put_odd.Tie as tie
 
 returns : tie.Need-returns
-returns c = levels-idle _ _ _ (sym (c .before .is-idle .ensures) ∙ c .if1 .taken)
+returns c =
+    let j = c .before .before .before in
+    let s = j .before .before .before .before .before in
+    check-refused _ (s .pre .0 .0) _ (s .pre .0 .1) _ _ _ _ _ _ (j .before .get8 .ensures) _ (j .judge-part .ensures) _ _ (c .before .enum-told2 .given .1) (c .number .ensures)
 
-judge-odd-requires : tie.Need-judge-odd-requires
-judge-odd-requires c κs = let s = c .before .before .before .before .before in (s .pre .0 .0, (letter-inside _ (s .pre .0 .1), s .pre .1))
+put-both-requires : tie.Need-put-both-requires
+put-both-requires c κs =
+    let s = c .before .before .before .before .before .before .before .before .before .before .before .before in
+    (s .pre .0 .0, (letter-inside _ (s .pre .0 .1), s .pre .1))
 
 returns-2 : tie.Need-returns-2
-returns-2 c = levels-left _ _ _ _ (c .before .before .before .judge-odd .ensures) _ _ (c .before .enum-told2 .given .1) (c .number .ensures)
+returns-2 c =
+    let w = c .before .before in
+    let i = w .before .before in
+    let k = i .before .before in
+    let t = k .before .before in
+    let j = t .before .before in
+    let s = j .before .before .before .before .before in
+    both-touched _ (s .pre .0 .0) _ (s .pre .0 .1) _ _ _ _ _ _ (j .before .get8 .ensures) _ (j .judge-part .ensures) (t .enum-told .given .1) _ _ (k .before .is-touched .ensures) (k .is-touched2 .ensures) _ _
+    (i .before .if1 .taken) (i .if2 .taken) (w .put-both .ensures)
 
-put-levels-requires : tie.Need-put-levels-requires
-put-levels-requires c κs = let s = c .before .before .before .before .before .before .before .before .before in (s .pre .0 .0, letter-inside _ (s .pre .0 .1))
+put-one-requires : tie.Need-put-one-requires
+put-one-requires c κs =
+    let s = c .before .before .before .before .before .before .before .before .before .before .before .before in
+    (s .pre .0 .0, (letter-inside _ (s .pre .0 .1), omega (arith, s .pre .1)))
 
 returns-3 : tie.Need-returns-3
 returns-3 c =
-    let l = c .before .before in
-    let t = l .before .before in
+    let w = c .before .before in
+    let i = w .before .before in
+    let k = i .before .before in
+    let t = k .before .before in
     let j = t .before .before in
-    let i = j .before .before in
-    levels-written _ _ _ _ (j .judge-odd .ensures) _ (sym (i .before .is-idle .ensures) ∙ i .if1 .left) (t .enum-told .given .1) (l .put-levels .ensures)
+    let s = j .before .before .before .before .before in
+    bids-touched _ (s .pre .0 .0) _ (s .pre .0 .1) _ _ _ _ _ _ (j .before .get8 .ensures) _ (j .judge-part .ensures) (t .enum-told .given .1) _ _ (k .before .is-touched .ensures) (k .is-touched2 .ensures) _ _
+    (i .before .if1 .taken) (i .if2 .left) (w .put-one .ensures)
+
+put-one-requires-2 : tie.Need-put-one-requires-2
+put-one-requires-2 c κs =
+    let s = c .before .before .before .before .before .before .before .before .before .before .before .before in
+    (s .pre .0 .0, (letter-inside _ (s .pre .0 .1), omega (arith, s .pre .1)))
+
+returns-4 : tie.Need-returns-4
+returns-4 c =
+    let w = c .before .before in
+    let i = w .before .before in
+    let k = i .before .before in
+    let t = k .before .before in
+    let j = t .before .before in
+    let s = j .before .before .before .before .before in
+    offers-touched _ (s .pre .0 .0) _ (s .pre .0 .1) _ _ _ _ _ _ (j .before .get8 .ensures) _ (j .judge-part .ensures) (t .enum-told .given .1) _ _ (k .before .is-touched .ensures) (k .is-touched2 .ensures) _ _
+    (i .before .if1 .left) (i .if3 .taken) (w .put-one2 .ensures)
+
+returns-5 : tie.Need-returns-5
+returns-5 c =
+    let k = c .before .before in
+    let t = k .before .before in
+    let j = t .before .before in
+    let s = j .before .before .before .before .before in
+    none-touched _ (s .pre .0 .0) _ (s .pre .0 .1) _ _ _ _ _ _ (j .before .get8 .ensures) _ (j .judge-part .ensures) (t .enum-told .given .1) _ _ (k .before .is-touched .ensures) (k .is-touched2 .ensures) (c .before .if1 .left) (c .if3 .left)
 
 pub put-odd-spec : {M : Type 1} → statement M
 put-odd-spec =
     tie.close
     (tie.spec
     (λ c κs. search needs)
-    returns
-    judge-odd-requires
+    (λ c. search needs)
+    (λ c κs. search needs)
     (λ c. search needs)
     (λ c. search needs)
     (λ c κs. search needs)
     (λ c. search needs)
-    returns-2
-    put-levels-requires
+    returns
+    (λ c κs. search needs)
+    (λ c κs. search needs)
+    put-both-requires
     (λ c. search needs)
-    returns-3)
+    returns-2
+    put-one-requires
+    (λ c. search needs)
+    returns-3
+    put-one-requires-2
+    (λ c. search needs)
+    returns-4
+    (λ c. search needs)
+    returns-5)
