@@ -4,4 +4,5 @@ pub mod KeyLaws
 pub mod ReadLaws
 pub mod StepLaws
 pub mod WalkLaws
-mod LeadingLaws
+pub mod LeadingLaws
+pub mod CellLaws

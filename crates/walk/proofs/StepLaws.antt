@@ -119,16 +119,6 @@ sides-none f k t e = λ i. record { bid = one Bid (t .bid) i; offer = one Offer 
     one s b = rw (e s) (choose-none s b)
 
 module _ (p : List ℕ) (k : ℕ) (t : Sides) (a : ℕ) (ea : a ≡ cellAt k) (c : ℕ) (ec : c ≡ field p (a + nameLength) 1) where
-  pub maker-read : (n : ℕ) (qb qo rb ro : Candidate) → c ≡ 82 → n ≡ field p a 4
-      → qb ≡ orNone (candidateOf Bid n (quoteIn (part p (a + nameLength) quoteLength))) → qo ≡ orNone (candidateOf Offer n (quoteIn (part p (a + nameLength) quoteLength)))
-      → rb ≡ choose Bid (t .bid) qb → ro ≡ choose Offer (t .offer) qo → _≡_ {A = Sides} (record { bid = rb; offer = ro }) (stepSides (asked (makerAt p)) k t)
-  unfolding makerAt
-  maker-read n qb qo rb ro e en fb fo eb eo =
-      sides-read (asked (makerAt p)) k t rb ro (eb ∙ ap (choose Bid (t .bid)) (fb ∙ ap orNone (found Bid))) (eo ∙ ap (choose Offer (t .offer)) (fo ∙ ap orNone (found Offer)))
-    where
-      found : (s : Side) → candidateOf s n (quoteIn (part p (a + nameLength) quoteLength)) ≡ makerAt p s k
-      found s = rw (en, ← ea) (sym (maker-r p a s (sym ec ∙ e)))
-
   pub maker-free : (c ≡ 82 → ⊥) → t ≡ stepSides (asked (makerAt p)) k t
   unfolding makerAt
   maker-free n = sides-none (makerAt p) k t (λ s. rw (← ea) (maker-other p a s (λ e. n (ec ∙ e))))

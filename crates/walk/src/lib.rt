@@ -12,13 +12,14 @@ ghost use Rattle.ranking.specs.declared.Side.the-variants.{Bid, Offer};
 ghost use Rattle.ranking.specs.code.Chosen.{anyOther};
 ghost use Rattle.keys.specs.Keys.{keyOf, barOf};
 ghost use Rattle.keysets.specs.Sets.{NoneAbove, keyAt, keyCount, has, setOf, withMember, foldSet};
-ghost use Rattle.ranking.specs.code.Choice.{live, stepSides, sidesFrom, bestFrom, leadFrom, beyondOf};
+ghost use Rattle.ranking.specs.code.Choice.{live, choose, sidesFrom, bestFrom, leadFrom, beyondOf};
 ghost use Rattle.quote.specs.Quote.{quoteIn, candidateOf, quoteLength};
 ghost use Rattle.entries.specs.Entries.{asD, ranks};
 ghost use Rattle.page.specs.Page.{quotesIn, pageEntries, publishedEntries};
 ghost use Rattle.page.specs.Cut.{cut};
 ghost use Rattle.walk.specs.Bests.{bestsOf};
 ghost use Rattle.walk.specs.code.Walk.{asked, askedOf, makerAt, finraSides, standingAt, firstBy, dPlace, oddStep, another, noShown, shownOf, wonBy, keptBy, besideOf, showStep, membersOf, decidedBy, fullOf, isHidden, InLetters, ledBy, leadersOf};
+ghost use Rattle.walk.specs.code.Cells.{cellAs, bestCell, Kept, goesBefore};
 ghost use Rattle.page.specs.Layout.{pageLength, makerCount, quoteKeysAt, firstKeysAt};
 use page::Cell;
 use page::Letter;
@@ -41,6 +42,21 @@ impl BestEntries {
         national: Leads::NONE,
         finra: Sides::NONE,
         odd: Sides::NONE,
+    };
+}
+
+// The best maker so far on a side: its rank and size, and its cell. Size 0 is none.
+struct BestCell {
+    rank: u64,
+    size: u32,
+    cell: u32,
+}
+
+impl BestCell {
+    const NONE: BestCell = BestCell {
+        rank: 0,
+        size: 0,
+        cell: 0,
     };
 }
 
@@ -73,37 +89,98 @@ pub fn quoted(page: &[u8], at: usize, side: Side, name: u32) -> Candidate
     Candidate::NONE
 }
 
-// One maker cell more, both sides. Of the conditions of makers only R counts.
-fn with_maker(page: &[u8], k: usize, best: Sides) -> Sides
+// Whether cell k, of so many lots, goes before the best of the same price: by larger size, earlier time, lower name.
+fn is_before(page: &[u8], side: Side, k: usize, lots: u32, best: BestCell) -> bool
     requires { ⌜ length (now page) ≡ pageLength ⌝ }
-    requires { ⌜ k < makerCount ⌝ }
-    ensures { λ r. ⌜ r ≡ stepSides (asked (makerAt (now (page .entry)))) k best ⌝ }
+    requires { ⌜ (k < makerCount) × (best .cell < makerCount) ⌝ }
+    ensures { λ r. ⌜ r ≡ goesBefore (now (page .entry)) side k lots best ⌝ }
 {
-    let at = page::cell_at(k);
-    let quote = at + Cell::QUOTE;
-    if field::get8(page, quote) == b'R' {
-        let name = field::get32(page, at);
-        let bid = ranking::choose(Side::Bid, best.bid, quoted(page, quote, Side::Bid, name));
-        let offer = ranking::choose(
-            Side::Offer,
-            best.offer,
-            quoted(page, quote, Side::Offer, name),
-        );
-        return Sides { bid, offer };
+    if lots < best.size {
+        return false;
     }
-    best
+    if best.size < lots {
+        return true;
+    }
+    let at = page::cell_at(k);
+    let to = page::cell_at(best.cell as usize);
+    let level = page::in_quote(side);
+    let time = field::low64(page, at + Cell::QUOTE + level + 12);
+    let before = field::low64(page, to + Cell::QUOTE + level + 12);
+    if time == before {
+        return field::get32(page, at) < field::get32(page, to);
+    }
+    time < before
 }
 
-// The best of the makers, both sides.
+// One cell more that counts by its condition. Most are behind by price, and nothing else of them is read.
+fn with_cell(page: &[u8], side: Side, k: usize, best: BestCell) -> BestCell
+    requires { ⌜ length (now page) ≡ pageLength ⌝ }
+    requires { ⌜ k < makerCount ⌝ }
+    requires { ⌜ Kept best ⌝ }
+    ensures { λ r. ⌜ (Kept r) × (bestCell (now (page .entry)) side r ≡ choose side (bestCell (now (page .entry)) side best) (cellAs (now (page .entry)) side k)) ⌝ }
+{
+    // price 8, size 4, time 8
+    let level = page::cell_at(k) + Cell::QUOTE + page::in_quote(side);
+    let price = field::low64(page, level);
+    let rank = ranking::rank(side, price);
+    if rank < best.rank {
+        return best;
+    }
+    let lots = field::low32(page, level + 8);
+    if lots == 0 {
+        return best;
+    }
+    if rank == best.rank {
+        if price == 0 {
+            return best;
+        }
+        if !is_before(page, side, k, lots, best) {
+            return best;
+        }
+    }
+    BestCell {
+        rank,
+        size: lots,
+        cell: k as u32,
+    }
+}
+
+// The candidate in a best cell.
+fn in_cell(page: &[u8], side: Side, best: BestCell) -> Candidate
+    requires { ⌜ length (now page) ≡ pageLength ⌝ }
+    requires { ⌜ best .cell < makerCount ⌝ }
+    ensures { λ r. ⌜ r ≡ bestCell (now (page .entry)) side best ⌝ }
+{
+    if best.size == 0 {
+        return Candidate::NONE;
+    }
+    let at = page::cell_at(best.cell as usize);
+    Candidate {
+        name: field::get32(page, at),
+        price: ranking::rank(side, best.rank),
+        size: best.size,
+        time: field::low64(page, at + Cell::QUOTE + page::in_quote(side) + 12),
+        condition: b'R' as u32,
+    }
+}
+
+// The best of the makers, both sides. Of the conditions of makers only R counts.
 fn walk_makers(page: &[u8]) -> Sides
     requires { ⌜ length (now page) ≡ pageLength ⌝ }
     ensures { λ r. ⌜ r ≡ sidesFrom (asked (makerAt (now (page .entry)))) 0 makerCount noSides ⌝ }
 {
-    let mut best = Sides::NONE;
+    let mut bid = BestCell::NONE;
+    let mut offer = BestCell::NONE;
     for k in 0..Page::MAKERS {
-        best = with_maker(page, k, best);
+        if field::get8(page, page::cell_at(k) + Cell::QUOTE) == b'R' {
+            bid = with_cell(page, Side::Bid, k, bid);
+            offer = with_cell(page, Side::Offer, k, offer);
+        }
     }
-    best
+    Sides {
+        bid: in_cell(page, Side::Bid, bid),
+        offer: in_cell(page, Side::Offer, offer),
+    }
 }
 
 // The FINRA best of a walk that stops behind the letter `last`: none if D is behind it.
