@@ -131,7 +131,7 @@ module _ (p : List ℕ) (l : ℕ) (h : A ≤ l) (k : l ≤ Z) (s : Side) where
         go false e false true c = refl
         go false e false false c = absurd (c .price refl)
 
-  first-key : (fb : Option Candidate) → Counts (orNone (firstBy p s fb l)) → keyOf s (orNone (firstBy p s fb l) .price) ≡ keyAt p (firstKeysAt s) (l - A)
+  pub first-key : (fb : Option Candidate) → Counts (orNone (firstBy p s fb l)) → keyOf s (orNone (firstBy p s fb l) .price) ≡ keyAt p (firstKeysAt s) (l - A)
   unfolding firstBy firstIn letterLevels keyAt agreedSide
   first-key fb = rw (side-here p l h k s) (go (eqb l S) (ranks s (quotesIn p) fb l) (eqb (low p (firstKeyAt s l) keyLength) (firstKey s cells)) refl cells refl)
     where
@@ -342,8 +342,8 @@ odd-stopped s best w x r ex er = er ∙ ap (beyondOf s best) ex
 pub set-small : (q : ℕ → Bool) (m : ℕ) → m ≡ setOf q keyCount → m < 2 ^ keyCount
 set-small q m e = rw e (set-lt q keyCount)
 
-pub above-is : (p : List ℕ) (s : Side) (v a k r : ℕ) → a ≡ firstKeysAt s → k ≡ barOf s v → r ≡ setOf (λ i. ltb k (keyAt p a i)) keyCount → r ≡ setOf (λ i. ltb (barOf s v) (keyAt p (firstKeysAt s) i)) keyCount
-above-is p s v a k r ea ek er = rw (← ea, ← ek) er
+pub above-is : (p : List ℕ) (s : Side) (a k r : ℕ) → a ≡ firstKeysAt s → r ≡ setOf (λ i. ltb k (keyAt p a i)) keyCount → r ≡ setOf (λ i. ltb k (keyAt p (firstKeysAt s) i)) keyCount
+above-is p s a k r ea er = rw (← ea) er
 
 pub same-is : (p : List ℕ) (s : Side) (a t r : ℕ) → a ≡ quoteKeysAt s → r ≡ setOf (λ i. eqb (keyAt p a i) t) keyCount → r ≡ setOf (λ i. eqb (keyAt p (quoteKeysAt s) i) t) keyCount
 same-is p s a t r ea er = rw (← ea) er

@@ -1,3 +1,4 @@
+pub mod GuessLaws
 pub mod HaltLaws
 pub mod OddLaws
 pub mod KeyLaws

@@ -10,7 +10,7 @@ ghost use Rattle.ranking.specs.Held.{noCandidate, orNone, noSides, noLead};
 ghost use Rattle.lists.specs.Lists.{isSome};
 ghost use Rattle.ranking.specs.declared.Side.the-variants.{Bid, Offer};
 ghost use Rattle.ranking.specs.code.Chosen.{anyOther};
-ghost use Rattle.keys.specs.Keys.{keyOf, barOf};
+ghost use Rattle.keys.specs.Keys.{keyOf};
 ghost use Rattle.keysets.specs.Sets.{NoneAbove, keyAt, keyCount, has, setOf, withMember, foldSet};
 ghost use Rattle.ranking.specs.code.Choice.{live, choose, sidesFrom, bestFrom, leadFrom, beyondOf};
 ghost use Rattle.quote.specs.Quote.{quoteIn, candidateOf, quoteLength};
@@ -18,12 +18,14 @@ ghost use Rattle.entries.specs.Entries.{asD, ranks};
 ghost use Rattle.page.specs.Page.{quotesIn, pageEntries, publishedEntries};
 ghost use Rattle.page.specs.Cut.{cut};
 ghost use Rattle.walk.specs.Bests.{bestsOf};
-ghost use Rattle.walk.specs.code.Walk.{asked, askedOf, makerAt, finraSides, standingAt, firstBy, dPlace, oddStep, another, noShown, shownOf, wonBy, keptBy, besideOf, showStep, membersOf, decidedBy, fullOf, isHidden, InLetters, ledBy, leadersOf};
+ghost use Rattle.walk.specs.code.Walk.{asked, askedOf, makerAt, finraSides, standingAt, firstBy, dPlace, oddStep, another, noShown, shownOf, wonBy, keptBy, besideOf, showStep, membersOf, decidedBy, fullOf, isHidden, InLetters, ledBy, leadersOf, storedFirst, oddAbove, LetterOrNone};
 ghost use Rattle.walk.specs.code.Cells.{cellAs, bestCell, Kept, goesBefore};
 ghost use Rattle.page.specs.Layout.{pageLength, makerCount, quoteKeysAt, firstKeysAt};
 use page::Cell;
 use page::Letter;
 use page::Page;
+use page::Slot;
+use quote::Level;
 use ranking::Candidate;
 use ranking::Lead;
 use ranking::Leads;
@@ -588,24 +590,111 @@ fn odd_among(page: &[u8], side: Side, set: u32, finra: Candidate) -> Candidate
     best
 }
 
-// The best odd lot of the letters A to `last` that is beyond the national best: `above` are the letters whose key may be.
-fn odd(
-    page: &[u8],
-    side: Side,
-    last: usize,
-    finra: Candidate,
-    best: Candidate,
-    above: u32,
-) -> Candidate
+// The best odd lot of the letters A to `last` that is beyond the national best.
+fn odd_stopped(page: &[u8], side: Side, last: usize, finra: Candidate, best: Candidate) -> Candidate
     requires { ⌜ length (now page) ≡ pageLength ⌝ }
     requires { ⌜ (ascii.A ≤ last) × (last ≤ ascii.Z) ⌝ }
-    requires { ⌜ above ≡ setOf (λ i. ltb (barOf side (best .price)) (keyAt (now page) (firstKeysAt side) i)) keyCount ⌝ }
     ensures { λ r. ⌜ r ≡ beyondOf side best (bestFrom side (askedOf (firstBy (now (page .entry)) side (live finra))) ascii.A (last + 1 - ascii.A) noCandidate) ⌝ }
 {
-    if last < Letter::Z {
-        return ranking::beyond(side, best, odd_all(page, side, last, finra));
+    ranking::beyond(side, best, odd_all(page, side, last, finra))
+}
+
+// ---- the best odd lot above a bar. The odd-lot entry that stands in the page is a guess, whatever it holds: if one letter only has a key from the entry's on
+// and its first level counts, that is the best. In every other case all letters above the bar are looked at. The functions give the letter, a plain number.
+
+// Where the prices of the odd-lot entries stand: they are the last two of the six, the bid's first.
+struct OddEntry {}
+
+impl OddEntry {
+    const PRICE: usize = 4;
+
+    const BID: usize = Page::ENTRIES + 4 * Page::ENTRY_LEN + OddEntry::PRICE;
+
+    const OFFER: usize = OddEntry::BID + Page::ENTRY_LEN;
+}
+
+// That place for a side.
+fn odd_price_at(side: Side) -> usize
+    ensures { λ r. ⌜ r + 8 ≤ pageLength ⌝ }
+{
+    match side {
+        Side::Bid => OddEntry::BID,
+        Side::Offer => OddEntry::OFFER,
     }
-    ranking::beyond(side, best, odd_among(page, side, above, finra))
+}
+
+// One less, or 0.
+fn below(key: u32) -> u32
+    ensures { λ r. ⌜ r ≡ key - 1 ⌝ }
+{
+    if key == 0 {
+        return 0;
+    }
+    key - 1
+}
+
+// The bar, or one less than the key of the entry if that is higher.
+fn odd_floor(page: &[u8], side: Side, bar: u32) -> u32
+    requires { ⌜ length (now page) ≡ pageLength ⌝ }
+    ensures { λ r. ⌜ bar ≤ r ⌝ }
+{
+    let price = field::get64(page, odd_price_at(side));
+    keysets::higher(bar, below(keys::key(side, price)))
+}
+
+// The letter with the best odd lot among those with a key above `bar`, 0 if there is none.
+fn odd_above(page: &[u8], side: Side, finra: Candidate, bar: u32) -> u32
+    requires { ⌜ length (now page) ≡ pageLength ⌝ }
+    ensures { λ r. ⌜ (LetterOrNone r) × (storedFirst (now (page .entry)) side r ≡ oddAbove (now (page .entry)) side finra bar) ⌝ }
+{
+    let set = keysets::above(page, page::first_keys(side), bar);
+    let best = odd_among(page, side, set, finra);
+    best.name
+}
+
+// The same letter, where `set` are those with a key above `floor`: the only one of them, if its first level counts.
+fn odd_by(page: &[u8], side: Side, finra: Candidate, bar: u32, floor: u32, set: u32) -> u32
+    requires { ⌜ (length (now page) ≡ pageLength) × (bar ≤ floor) ⌝ }
+    requires { ⌜ set ≡ setOf (λ i. ltb floor (keyAt (now page) (firstKeysAt side) i)) keyCount ⌝ }
+    ensures { λ r. ⌜ (LetterOrNone r) × (storedFirst (now (page .entry)) side r ≡ oddAbove (now (page .entry)) side finra bar) ⌝ }
+{
+    if set == 0 {
+        if bar < floor {
+            return odd_above(page, side, copied(finra), bar);
+        }
+        return 0;
+    }
+    let i = keysets::lowest(set);
+    if keysets::without(set, i) != 0 {
+        return odd_above(page, side, copied(finra), bar);
+    }
+    let letter = Letter::A + i as usize;
+    let first = odd_first(page, letter, side, finra);
+    if first.price == 0 {
+        return odd_above(page, side, copied(finra), bar);
+    }
+    letter as u32
+}
+
+// The first level that stands under a letter, none for 0.
+fn odd_at(page: &[u8], side: Side, letter: usize) -> Candidate
+    requires { ⌜ (length (now page) ≡ pageLength) × (LetterOrNone letter) ⌝ }
+    ensures { λ r. ⌜ r ≡ storedFirst (now (page .entry)) side letter ⌝ }
+{
+    if letter == 0 {
+        return Candidate::NONE;
+    }
+    let level = Level::get(
+        page,
+        page::slot_at(letter) + Slot::LEVELS + page::in_levels(side),
+    );
+    Candidate {
+        name: letter as u32,
+        price: level.price,
+        size: level.size,
+        time: level.time,
+        condition: 0x20,
+    }
 }
 
 // The best odd lots beyond the national bests, both sides.
@@ -614,19 +703,30 @@ fn walk_odd(page: &[u8], last: usize, finra: Sides, bid: Candidate, offer: Candi
     requires { ⌜ (ascii.A ≤ last) × (last ≤ ascii.Z) ⌝ }
     ensures { λ r. ⌜ (r .bid ≡ beyondOf Bid bid (bestFrom Bid (askedOf (firstBy (now (page .entry)) Bid (live (finra .bid)))) ascii.A (last + 1 - ascii.A) noCandidate)) × (r .offer ≡ beyondOf Offer offer (bestFrom Offer (askedOf (firstBy (now (page .entry)) Offer (live (finra .offer)))) ascii.A (last + 1 - ascii.A) noCandidate)) ⌝ }
 {
-    let bids = keysets::above(
+    if last < Letter::Z {
+        return Sides {
+            bid: odd_stopped(page, Side::Bid, last, finra.bid, bid),
+            offer: odd_stopped(page, Side::Offer, last, finra.offer, offer),
+        };
+    }
+    let bar_bid = keys::bar(Side::Bid, bid.price);
+    let bar_offer = keys::bar(Side::Offer, offer.price);
+    let floor_bid = odd_floor(page, Side::Bid, bar_bid);
+    let floor_offer = odd_floor(page, Side::Offer, bar_offer);
+    let bids = keysets::above(page, page::first_keys(Side::Bid), floor_bid);
+    let offers = keysets::above(page, page::first_keys(Side::Offer), floor_offer);
+    let odd_bid = odd_by(page, Side::Bid, finra.bid, bar_bid, floor_bid, bids) as usize;
+    let odd_offer = odd_by(
         page,
-        page::first_keys(Side::Bid),
-        keys::bar(Side::Bid, bid.price),
-    );
-    let offers = keysets::above(
-        page,
-        page::first_keys(Side::Offer),
-        keys::bar(Side::Offer, offer.price),
-    );
+        Side::Offer,
+        finra.offer,
+        bar_offer,
+        floor_offer,
+        offers,
+    ) as usize;
     Sides {
-        bid: odd(page, Side::Bid, last, finra.bid, bid, bids),
-        offer: odd(page, Side::Offer, last, finra.offer, offer, offers),
+        bid: ranking::beyond(Side::Bid, bid, odd_at(page, Side::Bid, odd_bid)),
+        offer: ranking::beyond(Side::Offer, offer, odd_at(page, Side::Offer, odd_offer)),
     }
 }
 

@@ -1,61 +1,64 @@
 -- `walk::walk_odd` meets its contract.
-use borrow.Author.Needs.{needs}
+use Prim.Native.Nat.{_^_, _<_}
+use denote.Ref.{now}
+use Rattle.field.specs.Field.{Bytes}
+use Rattle.ranking.specs.declared.Side.the-variants.{Bid, Offer}
+use Rattle.walk.proofs.GuessLaws.{guess-whole}
 use Rattle.walk.proofs.KeyLaws.{above-is}
+use borrow.Author.Needs.{needs}
 use Rattle.walk.proofs.walk_odd.Statement.{statement}
 use Rattle.walk.proofs.walk_odd.Tie as tie
-use Rattle.walk.proofs.walk_odd.Reads as reads
-use Rattle.walk.proofs.walk_odd.Lts as lts
-use Rattle.keys.proofs.bar.Reads as bar-reads
-use Rattle.keysets.proofs.above.Reads as above-reads
-use Rattle.page.proofs.first_keys.Reads as first-keys-reads
-use Rattle.walk.proofs.odd.Reads as odd-reads
 
--- src/lib.rt:364:9
-first-keys-requires : tie.Need-first-keys-requires
-first-keys-requires c κs = search needs
+bid-fits : (c : tie.Start) → c .args .bid .price < 2 ^ 64
+bid-fits c = search needs
 
--- src/lib.rt:365:9
-bar-requires : tie.Need-bar-requires
-bar-requires c κs = search needs
+offer-fits : (c : tie.Start) → c .args .offer .price < 2 ^ 64
+offer-fits c = search needs
 
--- src/lib.rt:362:9
-above-requires : tie.Need-above-requires
-above-requires c κs = search needs
+odd-by-requires : tie.Need-odd-by-requires
+odd-by-requires c κs =
+    let x = c .before .before .before .before .before in
+    ((x .before .before .before .before .before .pre .0, x .odd-floor .ensures), above-is _ Bid _ _ _ (c .before .before .before .first-keys .ensures .0) (c .before .before .above .ensures))
 
--- src/lib.rt:369:9
-first-keys-requires-2 : tie.Need-first-keys-requires-2
-first-keys-requires-2 c κs = search needs
+odd-by-requires-2 : tie.Need-odd-by-requires-2
+odd-by-requires-2 c κs =
+    let x = c .before .before .before .before .before in
+    ((x .before .before .before .before .before .before .pre .0, x .odd-floor2 .ensures), above-is _ Offer _ _ _ (c .before .before .first-keys2 .ensures .0) (c .before .above2 .ensures))
 
--- src/lib.rt:370:9
-bar-requires-2 : tie.Need-bar-requires-2
-bar-requires-2 c κs = search needs
+odd-at-requires-2 : tie.Need-odd-at-requires-2
+odd-at-requires-2 c κs = (c .before .before .before .before .before .before .before .before .before .before .before .before .before .before .pre .0, c .before .before .odd-by2 .ensures .0)
 
--- src/lib.rt:367:9
-above-requires-2 : tie.Need-above-requires-2
-above-requires-2 c κs = search needs
-
--- src/lib.rt:373:14
-odd-requires : tie.Need-odd-requires
-odd-requires c κs = (c .before .before .before .before .before .before .before .pre .0, (c .before .before .before .before .before .before .before .pre .1, above-is _ _ _ _ _ _ (c .before .before .before .before .before .first-keys .ensures .0) (c .before .before .before .before .bar .ensures) (c .before .before .before .above .ensures)))
-
--- src/lib.rt:374:16
-odd-requires-2 : tie.Need-odd-requires-2
-odd-requires-2 c κs = (c .before .before .before .before .before .before .before .before .pre .0, (c .before .before .before .before .before .before .before .before .pre .1, above-is _ _ _ _ _ _ (c .before .before .before .first-keys2 .ensures .0) (c .before .before .bar2 .ensures) (c .before .above2 .ensures)))
-
--- src/lib.rt:357:1
-returns : tie.Need-returns
-returns c = search needs
+returns-2 : tie.Need-returns-2
+returns-2 c =
+    let y = c .before .before .before .before .before in
+    let x = y .before .before .before .before .before .before .before in
+    let s = x .before .before .before .before in
+    let b : Bytes (now (s .args .page)) = λ i. x .before .before .before .shared-slice-known .given i .fits in (
+      guess-whole _ b Bid _ _ (bid-fits s) _ (x .before .bar .ensures) _ (x .before .before .if1 .left) (s .pre .1 .1) _ (y .odd-by .ensures .1) _ _ (c .before .before .before .odd-at .ensures) (c .before .before .beyond .ensures),
+      guess-whole _ b Offer _ _ (offer-fits s) _ (x .bar2 .ensures) _ (x .before .before .if1 .left) (s .pre .1 .1) _ (c .before .before .before .before .odd-by2 .ensures .1) _ _ (c .before .odd-at2 .ensures) (c .beyond2 .ensures),
+    )
 
 pub walk-odd-spec : {M : Type 1} → statement M
 walk-odd-spec =
     tie.close
     (tie.spec
-    first-keys-requires
-    bar-requires
-    above-requires
-    first-keys-requires-2
-    bar-requires-2
-    above-requires-2
-    odd-requires
-    odd-requires-2
-    returns)
+    (λ c κs. search needs)
+    (λ c κs. search needs)
+    (λ c. search needs)
+    (λ c κs. search needs)
+    (λ c κs. search needs)
+    (λ c κs. search needs)
+    (λ c κs. search needs)
+    (λ c κs. search needs)
+    (λ c κs. search needs)
+    (λ c κs. search needs)
+    (λ c κs. search needs)
+    odd-by-requires
+    (λ c. search needs)
+    odd-by-requires-2
+    (λ c. search needs)
+    (λ c κs. search needs)
+    (λ c κs. search needs)
+    odd-at-requires-2
+    (λ c κs. search needs)
+    returns-2)

@@ -7,7 +7,7 @@ use mathlib.Core.List.{List}
 use mathlib.Core.Option.{Option}
 use lib.Dec.{eqb, ltb}
 use Rattle.field.specs.Field.{part}
-use Rattle.field.specs.Ascii.{A, D, S, Z}
+use Rattle.field.specs.Ascii.{A, D, S, Z, space}
 use Rattle.lists.specs.Lists.{bindOption, isSome}
 use Rattle.ranking.specs.declared.Side.{Side}
 use Rattle.ranking.specs.declared.Candidate.{Candidate}
@@ -18,13 +18,13 @@ use Rattle.ranking.specs.declared.Lead.{Lead}
 use Rattle.ranking.specs.declared.Leads.{Leads}
 use Rattle.ranking.specs.code.Choice.{live, choose, leadWith, leadFrom}
 use Rattle.ranking.specs.code.Chosen.{anyOther}
-use Rattle.quote.specs.Quote.{candidateOf}
+use Rattle.quote.specs.Quote.{candidateOf, levelCandidate, levelIn, quoteLength, levelLength}
 use Rattle.entries.specs.Entries.{asD, finraBest, makerCandidate, letterLevels}
 use Rattle.page.specs.Page.{quotesIn, levelsFor, makerIn, makersIn, occupied}
-use Rattle.page.specs.Layout.{cellLength, cellAt}
+use Rattle.page.specs.Layout.{cellLength, cellAt, slotAt, inLevels, firstKeysAt}
 use Rattle.slots.specs.code.Slots.{firstIn}
 use Rattle.keys.specs.Keys.{fullKey}
-use Rattle.keysets.specs.Sets.{has, withMember}
+use Rattle.keysets.specs.Sets.{keyAt, keyCount, has, setOf, withMember, foldSet}
 use Rattle.walk.specs.declared.Shown.{Shown}
 
 -- a side's candidate or none, with none as price 0
@@ -125,3 +125,17 @@ ledBy p s f m by = cond (eqb (m .size) 0) noLead (record { best = standingAt p s
 -- both sides' leaders of the letters A to l
 unfoldable pub leadersOf : List ℕ → ℕ → Sides → Leads
 leadersOf p l f = record { bid = leadFrom Bid (standingAt p Bid (f .bid)) A (l + 1 - A) noLead; offer = leadFrom Offer (standingAt p Offer (f .offer)) A (l + 1 - A) noLead }
+
+-- ---- the best odd lot above a bar
+
+-- the best of the first levels of the letters with a key above k
+unfoldable pub oddAbove : List ℕ → Side → Candidate → ℕ → Candidate
+oddAbove p s f k = foldSet (oddStep p s f) (has (setOf (λ i. ltb k (keyAt p (firstKeysAt s) i)) keyCount)) 0 keyCount noCandidate
+
+-- a letter, or 0 for none
+abbrev pub LetterOrNone : ℕ → Type 0
+LetterOrNone l = (l ≡ 0 → ⊥) → (A ≤ l) × (l ≤ Z)
+
+-- the first level that stands under it, whether or not it counts
+unfoldable pub storedFirst : List ℕ → Side → ℕ → Candidate
+storedFirst p s l = cond (eqb l 0) noCandidate (levelCandidate l space (levelIn (part p (slotAt l + quoteLength + inLevels s) levelLength)))
