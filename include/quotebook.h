@@ -29,7 +29,7 @@ extern "C" {
 
 /* The version of this header, 10000 * major + 100 * minor + patch. That of the linked library is qb_version(): compare the two where they
  * are installed apart. What may change from version to version is in docs/CHANGES.md. */
-#define QB_LIBRARY_VERSION 10300
+#define QB_LIBRARY_VERSION 10301
 
 /* Sizes in bytes. A book for n symbols has QB_OPENING_LEN + n * QB_PAGE_LEN. */
 enum {

@@ -15,7 +15,7 @@ use Rattle.opening.specs.Layout.{bookLength, symbolsMost}
 
 -- 10000 * major + 100 * minor + patch; QB_LIBRARY_VERSION in the header
 abbrev pub libraryVersion : ℕ
-libraryVersion = 10300
+libraryVersion = 10301
 
 -- 0 where n is not 1 to 64
 unfoldable pub bookLen : ℕ → ℕ

@@ -11,7 +11,7 @@ const OPENING: u64 = Book::OPENING_LEN as u64;
 const PAGE: u64 = Book::PAGE_LEN as u64;
 
 // 10000 * major + 100 * minor + patch
-const VERSION: u32 = 10300;
+const VERSION: u32 = 10301;
 
 /// The library's version; the header's is QB_LIBRARY_VERSION.
 #[no_mangle]
