@@ -7,3 +7,4 @@ pub mod StepLaws
 pub mod WalkLaws
 pub mod LeadingLaws
 pub mod CellLaws
+pub mod MarkLaws

@@ -18,7 +18,7 @@ ghost use Rattle.entries.specs.Entries.{asD, ranks};
 ghost use Rattle.page.specs.Page.{quotesIn, pageEntries, publishedEntries};
 ghost use Rattle.page.specs.Cut.{cut};
 ghost use Rattle.walk.specs.Bests.{bestsOf};
-ghost use Rattle.walk.specs.code.Walk.{asked, askedOf, makerAt, finraSides, standingAt, firstBy, dPlace, oddStep, another, noShown, shownOf, wonBy, keptBy, besideOf, showStep, membersOf, decidedBy, fullOf, isHidden, InLetters, ledBy, leadersOf, storedFirst, oddAbove, LetterOrNone};
+ghost use Rattle.walk.specs.code.Walk.{asked, askedOf, makerAt, finraSides, standingAt, firstBy, dPlace, oddStep, another, noShown, shownOf, wonBy, keptBy, besideOf, showStep, membersOf, decidedBy, fullOf, isHidden, InLetters, ledBy, leadersOf, storedFirst, oddAbove, LetterOrNone, markOf};
 ghost use Rattle.walk.specs.code.Cells.{cellAs, bestCell, Kept, goesBefore};
 ghost use Rattle.page.specs.Layout.{pageLength, makerCount, quoteKeysAt, firstKeysAt};
 use page::Cell;
@@ -233,6 +233,22 @@ fn stands(c: Candidate) -> bool
         return false;
     }
     c.size != 0
+}
+
+// A candidate for D that counts, or none: where nothing else of D is asked, that is handed on, a plain number, in place of its FINRA best.
+fn marked(d: bool) -> Candidate
+    ensures { λ r. ⌜ r ≡ markOf d ⌝ }
+{
+    if d {
+        return Candidate {
+            name: 0,
+            price: 1,
+            size: 1,
+            time: 0,
+            condition: 0,
+        };
+    }
+    Candidate::NONE
 }
 
 // Whether a letter's levels rank: D's while its FINRA best has that side, another letter's while its round quote admits it or it has none.
@@ -452,14 +468,14 @@ fn is_other(page: &[u8], side: Side, finra: Candidate, leader: u32) -> bool
 }
 
 // What put the leader ahead: price, if it has no second among those of its price and any other letter counts.
-fn decided(page: &[u8], side: Side, finra: Candidate, leader: u32, by: u32) -> u32
+fn decided(page: &[u8], side: Side, d: bool, leader: u32, by: u32) -> u32
     requires { ⌜ length (now page) ≡ pageLength ⌝ }
-    ensures { λ r. ⌜ r ≡ decidedBy (now (page .entry)) side finra leader by ⌝ }
+    ensures { λ r. ⌜ r ≡ decidedBy (now (page .entry)) side (markOf d) leader by ⌝ }
 {
     if by != 0 {
         return by;
     }
-    if is_other(page, side, finra, leader) {
+    if is_other(page, side, marked(d), leader) {
         return 1;
     }
     0
@@ -566,8 +582,10 @@ fn leaders(page: &[u8], last: usize, finra: Sides) -> Leads
     if is_hidden(Side::Offer, top_offer, offers, offer) {
         return leaders_of_all(page, last, finra);
     }
-    let bid_by = decided(page, Side::Bid, finra.bid, bid.letter, bid.decided);
-    let offer_by = decided(page, Side::Offer, finra.offer, offer.letter, offer.decided);
+    let d_bid = stands(finra.bid);
+    let d_offer = stands(finra.offer);
+    let bid_by = decided(page, Side::Bid, d_bid, bid.letter, bid.decided);
+    let offer_by = decided(page, Side::Offer, d_offer, offer.letter, offer.decided);
     Leads {
         bid: led(page, Side::Bid, finra.bid, bid, bid_by),
         offer: led(page, Side::Offer, finra.offer, offer, offer_by),
@@ -643,35 +661,35 @@ fn odd_floor(page: &[u8], side: Side, bar: u32) -> u32
 }
 
 // The letter with the best odd lot among those with a key above `bar`, 0 if there is none.
-fn odd_above(page: &[u8], side: Side, finra: Candidate, bar: u32) -> u32
+fn odd_above(page: &[u8], side: Side, d: bool, bar: u32) -> u32
     requires { ⌜ length (now page) ≡ pageLength ⌝ }
-    ensures { λ r. ⌜ (LetterOrNone r) × (storedFirst (now (page .entry)) side r ≡ oddAbove (now (page .entry)) side finra bar) ⌝ }
+    ensures { λ r. ⌜ (LetterOrNone r) × (storedFirst (now (page .entry)) side r ≡ oddAbove (now (page .entry)) side (markOf d) bar) ⌝ }
 {
     let set = keysets::above(page, page::first_keys(side), bar);
-    let best = odd_among(page, side, set, finra);
+    let best = odd_among(page, side, set, marked(d));
     best.name
 }
 
 // The same letter, where `set` are those with a key above `floor`: the only one of them, if its first level counts.
-fn odd_by(page: &[u8], side: Side, finra: Candidate, bar: u32, floor: u32, set: u32) -> u32
+fn odd_by(page: &[u8], side: Side, d: bool, bar: u32, floor: u32, set: u32) -> u32
     requires { ⌜ (length (now page) ≡ pageLength) × (bar ≤ floor) ⌝ }
     requires { ⌜ set ≡ setOf (λ i. ltb floor (keyAt (now page) (firstKeysAt side) i)) keyCount ⌝ }
-    ensures { λ r. ⌜ (LetterOrNone r) × (storedFirst (now (page .entry)) side r ≡ oddAbove (now (page .entry)) side finra bar) ⌝ }
+    ensures { λ r. ⌜ (LetterOrNone r) × (storedFirst (now (page .entry)) side r ≡ oddAbove (now (page .entry)) side (markOf d) bar) ⌝ }
 {
     if set == 0 {
         if bar < floor {
-            return odd_above(page, side, copied(finra), bar);
+            return odd_above(page, side, d, bar);
         }
         return 0;
     }
     let i = keysets::lowest(set);
     if keysets::without(set, i) != 0 {
-        return odd_above(page, side, copied(finra), bar);
+        return odd_above(page, side, d, bar);
     }
     let letter = Letter::A + i as usize;
-    let first = odd_first(page, letter, side, finra);
+    let first = odd_first(page, letter, side, marked(d));
     if first.price == 0 {
-        return odd_above(page, side, copied(finra), bar);
+        return odd_above(page, side, d, bar);
     }
     letter as u32
 }
@@ -715,15 +733,10 @@ fn walk_odd(page: &[u8], last: usize, finra: Sides, bid: Candidate, offer: Candi
     let floor_offer = odd_floor(page, Side::Offer, bar_offer);
     let bids = keysets::above(page, page::first_keys(Side::Bid), floor_bid);
     let offers = keysets::above(page, page::first_keys(Side::Offer), floor_offer);
-    let odd_bid = odd_by(page, Side::Bid, finra.bid, bar_bid, floor_bid, bids) as usize;
-    let odd_offer = odd_by(
-        page,
-        Side::Offer,
-        finra.offer,
-        bar_offer,
-        floor_offer,
-        offers,
-    ) as usize;
+    let d_bid = stands(finra.bid);
+    let d_offer = stands(finra.offer);
+    let odd_bid = odd_by(page, Side::Bid, d_bid, bar_bid, floor_bid, bids) as usize;
+    let odd_offer = odd_by(page, Side::Offer, d_offer, bar_offer, floor_offer, offers) as usize;
     Sides {
         bid: ranking::beyond(Side::Bid, bid, odd_at(page, Side::Bid, odd_bid)),
         offer: ranking::beyond(Side::Offer, offer, odd_at(page, Side::Offer, odd_offer)),

@@ -51,6 +51,10 @@ standingAt p s f l = cond (eqb l D) (asD f) (cond (eqb l S) noCandidate (orNone 
 unfoldable pub firstBy : List ℕ → Side → Option Candidate → ℕ → Option Candidate
 firstBy p s fb l = firstIn l (letterLevels s (quotesIn p) fb (levelsFor p) l)
 
+-- a candidate for D that counts, or none: whether D's levels rank, and whether D counts beside a leader, depend on no more of its FINRA best
+unfoldable pub markOf : Bool → Candidate
+markOf t = cond t (record { name = 0; price = 1; size = 1; time = 0; condition = 0 }) noCandidate
+
 -- ---- the letters of a set, by their places from A on
 
 -- D's place
