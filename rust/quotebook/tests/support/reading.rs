@@ -211,8 +211,8 @@ impl Reading {
     }
 
     /// The keys that an accepted part of a message writes, this reading being that of the page behind it,
-    /// and where they stand: those of a Q K's quote, both of the levels if the odd part was taken and is
-    /// not idle.
+    /// and where they stand: those of a Q K's quote, and those of the levels on the sides that its odd part,
+    /// if taken, clears or names.
     pub fn written_keys(&self, message: &[u8], code: u8) -> Vec<(Range<usize>, [u8; 4])> {
         let clear = match &message[..2] {
             b"QK" => 56,
@@ -220,14 +220,19 @@ impl Reading {
             _ => return Vec::new(),
         };
         let at = usize::from(message[2] - b'A');
-        let odd = code == 0 && message[clear..clear + 3] != *b" \0\0";
+        let [mark, named_bids, named_offers] = message[clear..clear + 3] else {
+            unreachable!("three bytes")
+        };
         let [bid, offer, bids, offers] = keys(at, &self.letters[at]);
         let mut written = Vec::new();
         if clear == 56 {
             written.extend([bid, offer]);
         }
-        if odd {
-            written.extend([bids, offers]);
+        if code == 0 && (b"BX".contains(&mark) || named_bids != 0) {
+            written.push(bids);
+        }
+        if code == 0 && (b"SX".contains(&mark) || named_offers != 0) {
+            written.push(offers);
         }
         written
     }
