@@ -1,5 +1,7 @@
 // One allowance for all lines: whether a line's share and the spare are used, and the charge of a block. The bytes lent are the allowance's part
 // of the opening: B, the shares, the charges.
+#![tactic(auto)]
+
 ghost use Rattle.std.specs.Prelude.{◌≡◌, ◌+◌, ◌*◌, ◌-◌, ◌≤◌, ◌<◌, leb, get_or, length};
 ghost use Rattle.field.specs.Field.{field};
 ghost use Rattle.lists.specs.Lists.{sum};
@@ -7,7 +9,7 @@ ghost use Rattle.allowance.specs.Allowance.{allowance_in, allowance_length, char
 ghost use Rattle.allowance.specs.code.Kept.{kept_from, larger};
 
 /// Where B, the shares and the charges stand in these bytes. specs/Allowance.antt says the same.
-#[derive(Drop)]
+#[derive(Clone, Copy)]
 pub struct Allowance {}
 
 impl Allowance {

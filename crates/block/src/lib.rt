@@ -1,11 +1,13 @@
 // A block of messages, and the sequence numbers of a line.
+#![tactic(auto)]
+
 ghost use Rattle.std.specs.Prelude.{◌≡◌, ◌+◌, ◌*◌, ◌<◌, ◌≤◌, true, length};
 ghost use Rattle.lists.specs.Lists.{at, sum};
 ghost use Rattle.block.specs.Block.{block_longest, Readable, count_in, sequence_in, checksum_of, start_at, spaced, table_good, control_among, idle_block, checked, checked_number};
 ghost use Rattle.block.specs.Sequence.{arrival_of};
 
 /// A block's lengths. Header: version 1, message count 1, length 2, sequence number 4, checksum 2; then a table of 2 bytes a message.
-#[derive(Drop)]
+#[derive(Clone, Copy)]
 pub struct Block {}
 
 impl Block {
@@ -23,7 +25,7 @@ impl Block {
 }
 
 /// What checks 30 to 34 give: the count of messages, or the number of the first check that refuses.
-#[derive(Drop)]
+#[derive(Clone, Copy)]
 pub enum Checked {
     Pass(usize),
     Refused(u8),
@@ -189,7 +191,7 @@ pub fn is_idle(block: &[u8], c: usize) -> bool
 }
 
 /// How a block's sequence number meets the next expected one.
-#[derive(Drop)]
+#[derive(Clone, Copy)]
 pub enum Arrival {
     /// In order (gap 0) or behind a gap; then the next expected number.
     Taken { gap: u32, next: u32 },

@@ -1,4 +1,6 @@
 // The calls that make a book and set it up: its symbols, its lines, its day.
+#![tactic(auto)]
+
 ghost use Rattle.std.specs.Prelude.{◌≡◌};
 ghost use Rattle.lists.specs.Lists.{member};
 ghost use Rattle.calls.specs.Call.{bare, number_on, lots, call, make, add, open_line, start_day, end_day};

@@ -1,7 +1,8 @@
 // The rules of every call stand in specs/Call.antt; here is what the block call and the two queries report.
+#![tactic(auto)]
 
 /// What the block call reports. The number is 0 or 70 for a taken block, else the refusal.
-#[derive(Drop)]
+#[derive(Clone, Copy)]
 pub struct Report {
     pub number: u8,
     pub gap: u32,
@@ -13,7 +14,7 @@ pub struct Report {
 }
 
 /// What `is_protected` reports: with number 0 whether the price is protected, and how many letters were looked at; after a refusal no and 0.
-#[derive(Drop)]
+#[derive(Clone, Copy)]
 pub struct Protected {
     pub number: u8,
     pub yes: bool,
@@ -21,7 +22,7 @@ pub struct Protected {
 }
 
 /// What `try_order` reports: with number 0 how many steps it has, and the lots not found; after a refusal 0 and 0.
-#[derive(Drop)]
+#[derive(Clone, Copy)]
 pub struct Tried {
     pub number: u8,
     pub steps: u8,

@@ -1,4 +1,6 @@
 // The calls that convert a venue's block (document 02, T-11). The book is read for round lots and not changed.
+#![tactic(auto)]
+
 ghost use Rattle.std.specs.Prelude.{◌≡◌, true, [], ◌≤◌, length};
 ghost use Rattle.field.specs.Field.{be, splice};
 ghost use Rattle.text.specs.Form.{symbol_length};

@@ -1,4 +1,6 @@
 // A symbol's snapshot, written from its page (document 02, T-12).
+#![tactic(auto)]
+
 ghost use Rattle.std.specs.Prelude.{◌≡◌, cond, [], ◌+◌, ◌*◌, ◌-◌, ◌≤◌, ◌<◌, length};
 ghost use Rattle.field.specs.Field.{splice};
 ghost use Rattle.field.specs.Ascii as ascii;
@@ -15,7 +17,7 @@ use feedform::Feed;
 use page::{Letter, Page};
 
 /// How many blocks and bytes a snapshot has.
-#[derive(Drop)]
+#[derive(Clone, Copy)]
 pub struct Size {
     pub blocks: usize,
     pub bytes: usize,
@@ -49,7 +51,7 @@ impl Size {
 }
 
 // Where the entries of a page stand that a snapshot takes, two and two.
-#[derive(Drop)]
+#[derive(Clone, Copy)]
 struct Kept {}
 
 impl Kept {

@@ -1,4 +1,6 @@
 // A snapshot's messages and block headers, written (document 02, T-12). It knows no book: symbol, entries and quotes are handed to it.
+#![tactic(auto)]
+
 ghost use Rattle.std.specs.Prelude.{◌≡◌, ◌+◌, ◌*◌, ◌%◌, ◌≤◌, length, replicate};
 ghost use Rattle.field.specs.Field.{splice, be_bytes};
 ghost use Rattle.lists.specs.Lists.{sum};
@@ -11,7 +13,7 @@ use quote::{Level, Quote};
 use text::Symbol;
 
 /// Lengths and places of the form.
-#[derive(Drop)]
+#[derive(Clone, Copy)]
 pub struct Feed {}
 
 impl Feed {

@@ -1,6 +1,8 @@
 // Unsigned numbers in lent bytes: big-endian ones, and little-endian ones in `low` and `put_low`, the machine's own order. A big-endian number is
 // read or written in that order and swapped by arithmetic: LLVM makes one load or store and one bswap of it, early enough that readers stay small
 // and are inlined.
+#![tactic(auto)]
+
 ghost use Rattle.std.specs.Prelude.{◌≡◌, ◌+◌, ◌≤◌, length, get_or};
 ghost use Rattle.field.specs.Field.{field, splice, be_bytes};
 ghost use Rattle.field.specs.Low.{low, le_bytes};

@@ -1,4 +1,6 @@
 // FINRA Close and Open on every page of a book.
+#![tactic(auto)]
+
 ghost use Rattle.std.specs.Prelude.{◌≡◌, true, ◌-◌, ◌≤◌, length};
 ghost use Rattle.update.specs.Parts.{finra_on};
 ghost use Rattle.opening.specs.Layout.{page_start, symbols_most};

@@ -1,4 +1,6 @@
 // A tape on standard input, through a buffer: how far it is read, and why the reading stopped.
+#![tactic(auto)]
+
 ghost use Rattle.std.specs.Prelude.{◌+◌, ◌≤◌, ◌≡◌, length};
 ghost use Rattle.input.specs.Held.{input_length, Held, Reaches, Ready, head_length, block_most};
 
@@ -11,7 +13,7 @@ pub type Input = [u8; LEN];
 pub const LEN: usize = 131072;
 
 /// Why the reading stopped.
-#[derive(Drop)]
+#[derive(Clone, Copy)]
 pub enum Stop {
     /// It goes on.
     Going,
@@ -24,7 +26,7 @@ pub enum Stop {
 }
 
 /// The input buffer's bytes from `from` to `to` are read and not yet used; `filled` bytes of the output buffer wait.
-#[derive(Drop)]
+#[derive(Clone, Copy)]
 pub struct Tape {
     pub from: usize,
     pub to: usize,
@@ -69,14 +71,14 @@ fn answered(number: u8) -> Stop {
 }
 
 /// A count of symbols or lines, and the tape behind it; 0 where the reading stopped.
-#[derive(Drop)]
+#[derive(Clone, Copy)]
 pub struct Counted {
     pub n: u8,
     pub tape: Tape,
 }
 
 /// A record of `len` bytes, with which the tape goes on: a line, the length of its block, the block.
-#[derive(Drop)]
+#[derive(Clone, Copy)]
 pub struct Record {
     pub tape: Tape,
     pub len: usize,

@@ -1,4 +1,6 @@
 // The block call.
+#![tactic(auto)]
+
 ghost use Rattle.std.specs.Prelude.{◌≡◌};
 ghost use Rattle.calls.specs.Buffers.{taken};
 

@@ -1,4 +1,6 @@
 // Keys: the prices of a page once more, in four bytes each and side by side, so that the walk compares those of all letters at once.
+#![tactic(auto)]
+
 ghost use Rattle.std.specs.Prelude.{◌≡◌};
 ghost use Rattle.keys.specs.Keys.{short_of, key_of, level_key, side_key, bar_of};
 
@@ -6,7 +8,7 @@ use quote::Level;
 use ranking::Side;
 
 /// A key's bytes, and the key of every price that four bytes can't hold.
-#[derive(Drop)]
+#[derive(Clone, Copy)]
 pub struct Keys {}
 
 impl Keys {

@@ -1,11 +1,13 @@
 // Numbers of four bytes side by side in lent bytes, one for each letter: the highest of them, and which of them are equal to a number or above it.
 // Such a set of places is a number, with place i in bit i. The loops have no branch in them and one addition for each place, which LLVM makes a few
 // vector instructions.
+#![tactic(auto)]
+
 ghost use Rattle.std.specs.Prelude.{◌≡◌, true, cond, ◌+◌, ◌-◌, ◌^◌, ◌≤◌, ◌<◌, eqb, ltb, length};
 ghost use Rattle.keysets.specs.Sets.{NoneAbove, has, key_at, key_count, keys_length, lowest_of, set_of, with_member};
 
 /// How many numbers stand side by side, and their bytes. specs/Sets.antt says the same.
-#[derive(Drop)]
+#[derive(Clone, Copy)]
 pub struct Keys {}
 
 impl Keys {

@@ -1,4 +1,6 @@
 // The odd-lot levels of one side, and what an item does to them.
+#![tactic(auto)]
+
 ghost use Rattle.std.specs.Prelude.{◌≡◌, true, false, cond, ◌+◌, ◌*◌, ◌≤◌, eqb, length};
 ghost use Rattle.field.specs.Field.{part, splice};
 ghost use Rattle.levels.specs.Levels.{side_in, item_at, item_length, side_length};
@@ -8,20 +10,20 @@ use quote::Level;
 use ranking::Side;
 
 /// The levels of one side, best first, then empty cells.
-#[derive(Drop)]
+#[derive(Clone, Copy)]
 pub struct Levels {
     pub cells: [Level; 4],
 }
 
 /// One item of an odd part: the shares of a price, or zero shares to remove its level.
-#[derive(Drop)]
+#[derive(Clone, Copy)]
 pub struct Item {
     pub price: u64,
     pub shares: u32,
 }
 
 /// What judging gives: a pass, or the number of the refusal (60 to 64).
-#[derive(Drop)]
+#[derive(Clone, Copy)]
 pub enum Judged {
     Pass,
     Refused(u8),
@@ -38,21 +40,21 @@ pub fn number(judged: Judged) -> u8
 }
 
 /// The changed levels with a pass, or the old ones with a refusal.
-#[derive(Drop)]
+#[derive(Clone, Copy)]
 pub struct Changed {
     pub judged: Judged,
     pub levels: Levels,
 }
 
 // Two levels, the one that ranks first, then the other.
-#[derive(Drop)]
+#[derive(Clone, Copy)]
 struct Pair {
     first: Level,
     second: Level,
 }
 
 // The cells with a level put in, and what falls out behind the last.
-#[derive(Drop)]
+#[derive(Clone, Copy)]
 struct Inserted {
     levels: Levels,
     over: Level,

@@ -1,4 +1,6 @@
 // A block on its line: the checks before its messages are worked, and the line's record after it.
+#![tactic(auto)]
+
 ghost use Rattle.std.specs.Prelude.{◌≡◌, cond, eqb, ◌≤◌, ◌<◌, length};
 ghost use Rattle.block.specs.Block.{checked};
 ghost use Rattle.allowance.specs.Allowance.{is_used_up};
@@ -11,7 +13,7 @@ use block::{Arrival, Block, Checked};
 use opening::{Book, Line, LineState};
 
 /// What the checks of a block call give.
-#[derive(Drop)]
+#[derive(Clone, Copy)]
 pub enum Gate {
     /// Refused, before a line is known: 1, 9, 21.
     Bare(u8),

@@ -1,4 +1,6 @@
 // Functions of the rooms below, exported one by one so that their machine code can be read. Nothing links against this crate.
+#![tactic(auto)]
+
 ghost use Rattle.std.specs.Prelude.{◌+◌, ◌≤◌, length};
 ghost use Rattle.keysets.specs.Sets.{keys_length};
 

@@ -1,4 +1,6 @@
 // What a replay of a log needs beside the calls: an answer's numbers as bytes, how much of the output a call is lent, and which records hold a call.
+#![tactic(auto)]
+
 ghost use Rattle.std.specs.Prelude.{◌≡◌, ◌≤◌, length};
 ghost use Rattle.lists.specs.Lists.{is_some};
 ghost use Rattle.field.specs.Field.{splice};
@@ -7,7 +9,7 @@ ghost use Rattle.logcalls.specs.Kinds.{call_of};
 ghost use Rattle.logcalls.specs.Answers.{words_bytes, words_length, answer_bytes, answer_most, lent_of};
 
 /// Lengths of an answer's bytes.
-#[derive(Drop)]
+#[derive(Clone, Copy)]
 pub struct Answers {}
 
 impl Answers {
@@ -41,7 +43,7 @@ pub fn lent(room: u64, most: usize) -> usize
 }
 
 /// What a record gave: whether it is a call, and the bytes of its answer.
-#[derive(Drop)]
+#[derive(Clone, Copy)]
 pub struct Ran {
     pub known: bool,
     pub len: usize,

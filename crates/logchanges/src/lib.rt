@@ -1,4 +1,6 @@
 // The calls that change a book, as records of a log (docs/LOG.md): the arguments read, the call carried out, its answer written.
+#![tactic(auto)]
+
 ghost use Rattle.std.specs.Prelude.{◌≡◌, cond, ◌*◌, ◌≤◌, length, drop};
 ghost use Rattle.field.specs.Field.{field};
 ghost use Rattle.block.specs.Block.{count_in};

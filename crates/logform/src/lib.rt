@@ -1,9 +1,11 @@
 // The form of a log of calls: its head, and its records one behind the other (docs/LOG.md). Any bytes may stand in a log.
+#![tactic(auto)]
+
 ghost use Rattle.std.specs.Prelude.{◌≡◌, ◌<◌};
 ghost use Rattle.logform.specs.Log.{mixed, check_of, is_head, head_of, entry_at};
 
 /// Lengths and places of a log.
-#[derive(Drop)]
+#[derive(Clone, Copy)]
 pub struct Log {}
 
 impl Log {
@@ -29,7 +31,7 @@ impl Log {
 }
 
 /// What the head of a log tells.
-#[derive(Drop)]
+#[derive(Clone, Copy)]
 pub struct Head {
     pub number: u8,
     pub n: u8,
@@ -37,7 +39,7 @@ pub struct Head {
 }
 
 /// A whole record: the kind of its call, and where its arguments stand.
-#[derive(Drop)]
+#[derive(Clone, Copy)]
 pub struct Place {
     pub kind: u8,
     pub start: usize,
@@ -45,7 +47,7 @@ pub struct Place {
 }
 
 /// What stands at a place of a log: nothing more, a record that the log's end cuts, one that is damaged, or a whole one.
-#[derive(Drop)]
+#[derive(Clone, Copy)]
 pub enum Entry {
     End,
     Cut,

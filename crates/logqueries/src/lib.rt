@@ -1,4 +1,6 @@
 // The calls that read a book, as records of a log (docs/LOG.md): the arguments read, the call carried out, its answer written.
+#![tactic(auto)]
+
 ghost use Rattle.std.specs.Prelude.{◌≡◌, cond, ◌≤◌, eqb, length, drop};
 ghost use Rattle.std.proofs.Math.Option.{some};
 ghost use Rattle.field.specs.Field.{field};

@@ -1,4 +1,6 @@
 // The maker cells of a page: search, writing, FINRA Close and Open.
+#![tactic(auto)]
+
 ghost use Rattle.std.specs.Prelude.{◌≡◌, not, ◌+◌, ◌-◌, ◌≤◌, ◌<◌, length, replicate};
 ghost use Rattle.field.specs.Field.{part, splice};
 ghost use Rattle.lists.specs.Lists.{is_some};

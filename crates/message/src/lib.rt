@@ -1,4 +1,6 @@
 // The reader of one message. It sees that message's bytes and the letter of its line, and nothing else.
+#![tactic(auto)]
+
 ghost use Rattle.std.specs.Prelude.{◌≡◌, cond, ◌+◌, ◌*◌, ◌≤◌, ◌<◌, length};
 ghost use Rattle.lists.specs.Lists.{at, member};
 ghost use Rattle.text.specs.Form.{maker_good};
@@ -10,7 +12,7 @@ use quote::{Level, Quote};
 use text::{Maker, Symbol};
 
 /// Where each field of a message stands.
-#[derive(Drop)]
+#[derive(Clone, Copy)]
 pub struct Layout {}
 
 impl Layout {
@@ -60,7 +62,7 @@ impl Layout {
 }
 
 /// The type of a message. C I and C T are alike.
-#[derive(Drop)]
+#[derive(Clone, Copy)]
 pub enum Kind {
     Inquiry,
     Close,
@@ -76,7 +78,7 @@ pub enum Kind {
 }
 
 /// The odd part of a message: its clear mark, the counts of its items, the timestamp, and where in the message its items start.
-#[derive(Drop)]
+#[derive(Clone, Copy)]
 pub struct OddPart {
     pub mark: u8,
     pub bids: usize,
@@ -86,7 +88,7 @@ pub struct OddPart {
 }
 
 /// What a message says. A fault is the code that the message gets if its symbol is listed, 0 for none.
-#[derive(Drop)]
+#[derive(Clone, Copy)]
 pub enum Message {
     /// Rejected with this code, 40 to 45, whatever the book holds.
     Refused(u8),

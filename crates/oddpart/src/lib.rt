@@ -1,4 +1,6 @@
 // What the odd part of a message asks: checks 60 to 63, which sides it touches, and a side's levels after its clear mark and its items (64).
+#![tactic(auto)]
+
 ghost use Rattle.std.specs.Prelude.{◌≡◌, ◌+◌, ◌*◌, ◌≤◌, length};
 ghost use Rattle.field.specs.Ascii as ascii;
 ghost use Rattle.levels.specs.Levels.{side_levels, clears, items_from, items_bad, odd_bad, odd_in, item_length};

@@ -1,4 +1,6 @@
 // The opening of a book: its head, its lines, and where the page of a symbol is.
+#![tactic(auto)]
+
 ghost use Rattle.std.specs.Prelude.{◌≡◌, ◌+◌, ◌*◌, ◌%◌, ◌<◌, ◌≤◌, true, length, ◌==◌};
 ghost use Rattle.field.specs.Field.{be, field, part, splice};
 ghost use Rattle.block.specs.Sequence.{next_of};
@@ -14,7 +16,7 @@ use lists::Found;
 use page::Page;
 
 /// Where the book's bytes stand: an opening, then n pages. specs/Layout.antt says the same.
-#[derive(Drop)]
+#[derive(Clone, Copy)]
 pub struct Book {}
 
 impl Book {
@@ -47,7 +49,7 @@ impl Book {
 }
 
 /// A line's record: its letter, its next expected number and its count.
-#[derive(Drop)]
+#[derive(Clone, Copy)]
 pub struct Line {
     pub letter: u8,
     pub expected: u32,
@@ -68,7 +70,7 @@ impl Line {
 }
 
 /// A line as it stands in the book.
-#[derive(Drop)]
+#[derive(Clone, Copy)]
 pub enum LineState {
     Open(Line),
     Closed,

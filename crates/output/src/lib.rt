@@ -1,5 +1,7 @@
 // Standard output through a buffer: `filled` is how many of its bytes wait. What could not be written is told on standard error: a program has
 // no exit status.
+#![tactic(auto)]
+
 ghost use Rattle.std.specs.Prelude.{◌≤◌};
 ghost use Rattle.output.specs.Output.{output_length};
 

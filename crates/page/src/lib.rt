@@ -1,4 +1,6 @@
 // A symbol's page: where its symbol, entries, quotes, levels and makers stand.
+#![tactic(auto)]
+
 ghost use Rattle.std.specs.Prelude.{◌≡◌, [], ◌∷◌, ◌≤◌, ◌<◌, length};
 ghost use Rattle.lists.specs.Lists.{member};
 ghost use Rattle.page.specs.Layout.{in_quote, in_levels, slot_at, cell_at, quote_keys_at, first_keys_at, first_key_at, quote_key_at, maker_count, page_length};
@@ -15,7 +17,7 @@ use text::{Maker, Symbol};
 
 /// The bytes of a page: symbol, round lot, primary letter and hints, six entries, a slot for each letter, the maker cells, the trading status, the keys.
 /// specs/Layout.antt says the same.
-#[derive(Drop)]
+#[derive(Clone, Copy)]
 pub struct Page {}
 
 impl Page {
@@ -55,7 +57,7 @@ impl Page {
 }
 
 /// The bytes of a letter's slot: its round quote, then its odd-lot levels, four bids and four offers.
-#[derive(Drop)]
+#[derive(Clone, Copy)]
 pub struct Slot {}
 
 impl Slot {
@@ -67,7 +69,7 @@ impl Slot {
 }
 
 /// The bytes of a maker cell: the maker's name, then its quote. A cell stands if the quote's condition is L or R, else it is free.
-#[derive(Drop)]
+#[derive(Clone, Copy)]
 pub struct Cell {}
 
 impl Cell {
@@ -79,7 +81,7 @@ impl Cell {
 }
 
 /// Letters, as numbers from A on.
-#[derive(Drop)]
+#[derive(Clone, Copy)]
 pub struct Letter {}
 
 impl Letter {

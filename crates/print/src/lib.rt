@@ -1,4 +1,6 @@
 // What the tape program prints: a refused setup, a cut tape, a block and its messages, a symbol and its entries.
+#![tactic(auto)]
+
 ghost use Rattle.std.specs.Prelude.{◌*◌, ◌≤◌, ◌≡◌, length};
 ghost use Rattle.text.specs.Form.{name_length};
 ghost use Rattle.entries.specs.Publication.{entry_length, publication_length};
@@ -10,7 +12,7 @@ use publication::Entry;
 use text::Maker;
 
 /// What a block got.
-#[derive(Drop)]
+#[derive(Clone, Copy)]
 pub struct Got {
     pub line: u8,
     pub number: u8,
@@ -21,7 +23,7 @@ pub struct Got {
 }
 
 /// The four bytes of an answer buffer that tell of one message.
-#[derive(Drop)]
+#[derive(Clone, Copy)]
 struct Quad {}
 
 impl Quad {
@@ -35,7 +37,7 @@ impl Quad {
 }
 
 /// The label of an entry: its kind (N national, F FINRA, O odd), its side (B bid, O offer) and a space.
-#[derive(Drop)]
+#[derive(Clone, Copy)]
 struct Label {}
 
 impl Label {

@@ -1,4 +1,6 @@
 // Is a price protected (document 02, T-06)? The search down a page's national candidates.
+#![tactic(auto)]
+
 ghost use Rattle.std.specs.Prelude.{◌≡◌, ◌+◌, ◌≤◌, ◌<◌, length};
 ghost use Rattle.field.specs.Field.{part};
 ghost use Rattle.field.specs.Ascii as ascii;
@@ -15,7 +17,7 @@ use quote::Level;
 use ranking::Side;
 
 /// Whether a price is protected, and how many letters were looked at: the position of the letter that answered yes, or 26.
-#[derive(Drop)]
+#[derive(Clone, Copy)]
 pub struct Protection {
     pub yes: bool,
     pub looked: u8,

@@ -1,4 +1,6 @@
 // A publication's 96 bytes: six entries as they stand in a page, and which of them changed.
+#![tactic(auto)]
+
 ghost use Rattle.std.specs.Prelude.{◌≡◌, cond, ◌+◌, ◌≤◌, length};
 ghost use Rattle.field.specs.Field.{splice, be_bytes};
 ghost use Rattle.entries.specs.Publication.{entry_bytes, reason_byte, national_name, finra_name, odd_name, publication, change_flags, no_entries, entry_length};
@@ -11,7 +13,7 @@ use ranking::{Candidate, Lead};
 use walk::BestEntries;
 
 /// One published entry: its four bytes of name as one number, price and size.
-#[derive(Drop)]
+#[derive(Clone, Copy)]
 pub struct Entry {
     pub name: u32,
     pub price: u64,
@@ -34,7 +36,7 @@ impl Entry {
 }
 
 /// A published bid and offer.
-#[derive(Drop)]
+#[derive(Clone, Copy)]
 pub struct EntrySides {
     pub bid: Entry,
     pub offer: Entry,
@@ -48,7 +50,7 @@ impl EntrySides {
 }
 
 /// The six entries of a publication.
-#[derive(Drop)]
+#[derive(Clone, Copy)]
 pub struct Published {
     pub national: EntrySides,
     pub finra: EntrySides,

@@ -1,4 +1,6 @@
 // The calls that read a book.
+#![tactic(auto)]
+
 ghost use Rattle.std.specs.Prelude.{◌≡◌, cond, ◌+◌, ◌≤◌, length};
 ghost use Rattle.field.specs.Field.{part, splice};
 ghost use Rattle.calls.specs.Buffers.{read_out, order_out};
@@ -46,7 +48,7 @@ fn copy(book: &[u8], at: usize, publication: &mut [u8])
 }
 
 /// What the checks of a query with a side mark give: which page its symbol has, or a refusal.
-#[derive(Drop)]
+#[derive(Clone, Copy)]
 pub enum Asked {
     Page(usize),
     Refused(u8),

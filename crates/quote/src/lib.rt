@@ -1,4 +1,6 @@
 // A quote: a condition and two sides of price, size and time, in memory and in bytes.
+#![tactic(auto)]
+
 ghost use Rattle.std.specs.Prelude.{◌≡◌, ◌+◌, ◌≤◌, length};
 ghost use Rattle.field.specs.Field.{part, splice};
 ghost use Rattle.quote.specs.Quote.{level_length, quote_length, is_quoted, admits, is_bid, with_time, time_kept, quote_over, level_in, level_bytes, quote_in, quote_bytes};
@@ -6,7 +8,7 @@ ghost use Rattle.quote.specs.Quote.{level_length, quote_length, is_quoted, admit
 use ranking::Side;
 
 /// One side of a quote, or one odd-lot level. Sizes are round lots in a quote and shares in a level.
-#[derive(Drop)]
+#[derive(Clone, Copy)]
 pub struct Level {
     pub price: u64,
     pub size: u32,
@@ -75,7 +77,7 @@ impl Level {
 }
 
 /// A round-lot quote of a letter or a maker.
-#[derive(Drop)]
+#[derive(Clone, Copy)]
 pub struct Quote {
     pub condition: u8,
     pub bid: Level,

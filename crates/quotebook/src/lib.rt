@@ -1,4 +1,6 @@
 // The C interface: the calls on a book and the writer of blocks under the names of include/quotebook.h. A `&[u8]` is a pointer and a length there.
+#![tactic(auto)]
+
 ghost use Rattle.std.specs.Prelude.{◌≡◌, cond};
 ghost use Rattle.calls.specs.Call.{bare, call, make, add, open_line, start_day, end_day, set_allowance, tick};
 ghost use Rattle.calls.specs.Buffers.{read_out};

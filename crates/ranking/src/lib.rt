@@ -1,10 +1,12 @@
 // Which candidate is better, and what decided it.
+#![tactic(auto)]
+
 ghost use Rattle.std.specs.Prelude.{◌≡◌, nat_lt};
 ghost use Rattle.ranking.specs.Held.{lateness};
 ghost use Rattle.ranking.specs.code.Choice.{rank_of, by_rest, by_rank, choose, beyond_of, lead_by, lead_with};
 
 /// Bids or offers. Every definition, law and loop that serves both takes it as a parameter.
-#[derive(Drop)]
+#[derive(Clone, Copy)]
 pub enum Side {
     Bid,
     Offer,
@@ -13,7 +15,7 @@ pub enum Side {
 /// What is ranked: a counting side of a quote, or an odd-lot level, under a name (a letter, or the four bytes of a maker).
 /// Price 0 is none. The condition is carried along for the publication and is not ranked. It is wider than a byte, and the fields stand in this order,
 /// so that no seven bytes are left over: such a rest is copied through memory with every candidate.
-#[derive(Drop)]
+#[derive(Clone, Copy)]
 pub struct Candidate {
     pub name: u32,
     pub condition: u32,
@@ -33,7 +35,7 @@ impl Candidate {
 }
 
 /// The best bid and the best offer so far.
-#[derive(Drop)]
+#[derive(Clone, Copy)]
 pub struct Sides {
     pub bid: Candidate,
     pub offer: Candidate,
@@ -47,7 +49,7 @@ impl Sides {
 }
 
 /// Which of the four decided between two candidates.
-#[derive(Drop)]
+#[derive(Clone, Copy)]
 pub enum Reason {
     Price,
     Size,
@@ -56,7 +58,7 @@ pub enum Reason {
 }
 
 /// The comparison of two candidates: whether the first is ahead, and by what.
-#[derive(Drop)]
+#[derive(Clone, Copy)]
 pub struct Compared {
     pub ahead: bool,
     pub by: Reason,
@@ -64,7 +66,7 @@ pub struct Compared {
 
 /// The best so far and what put it ahead: how late its comparison with the second best was decided, 1 by price, 2 by size, 3 by time, 4 by name.
 /// 0 if there is no second.
-#[derive(Drop)]
+#[derive(Clone, Copy)]
 pub struct Lead {
     pub best: Candidate,
     pub decided: u32,
@@ -78,7 +80,7 @@ impl Lead {
 }
 
 /// The leading bid and the leading offer so far.
-#[derive(Drop)]
+#[derive(Clone, Copy)]
 pub struct Leads {
     pub bid: Lead,
     pub offer: Lead,

@@ -1,4 +1,6 @@
 // The calls for subscribers that recover from a failure: a symbol's snapshot (document 02, T-12).
+#![tactic(auto)]
+
 ghost use Rattle.std.specs.Prelude.{◌≡◌, [], length};
 ghost use Rattle.calls.specs.Buffers.{feed_of, feed_out};
 ghost use Rattle.calls.specs.Call.{call, snapshot_len, fed, snapshot_told};
@@ -10,7 +12,7 @@ use lists::Found;
 use opening::Book;
 
 /// What is told of a snapshot: with number 0 its blocks and bytes, after a refusal 0 and 0.
-#[derive(Drop)]
+#[derive(Clone, Copy)]
 pub struct Fed {
     pub number: u8,
     pub blocks: usize,
@@ -18,7 +20,7 @@ pub struct Fed {
 }
 
 /// What checks 1 and 10 give: which page the symbol has, or a refusal.
-#[derive(Drop)]
+#[derive(Clone, Copy)]
 pub enum Known {
     Page(usize),
     Refused(u8),

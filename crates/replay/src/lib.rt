@@ -1,4 +1,6 @@
 // A log replayed on a book: each record's call is carried out, and its answer written behind the last (docs/LOG.md).
+#![tactic(auto)]
+
 ghost use Rattle.std.specs.Prelude.{◌≡◌, false, ◌≤◌, length};
 ghost use Rattle.logcalls.specs.Answers.{answer_most};
 ghost use Rattle.logcalls.specs.Kinds.{call_of};
@@ -33,7 +35,7 @@ fn run(book: &mut [u8], kind: u8, args: &[u8], output: &mut [u8]) -> Ran
 }
 
 /// What a step did: whether it carried out a call, and where the next record begins; if not, the number that it stops with.
-#[derive(Drop)]
+#[derive(Clone, Copy)]
 pub struct Stepped {
     pub going: bool,
     pub number: u8,
@@ -83,7 +85,7 @@ pub fn step(book: &mut [u8], log: &[u8], at: usize, output: &mut [u8]) -> Steppe
 }
 
 /// Where a replay stopped in the log, by which number, and the bytes of the answers.
-#[derive(Drop)]
+#[derive(Clone, Copy)]
 pub struct Replayed {
     pub number: u8,
     pub place: usize,

@@ -1,4 +1,6 @@
 // A book rebuilt from a log (docs/LOG.md).
+#![tactic(auto)]
+
 ghost use Rattle.std.specs.Prelude.{◌≡◌};
 ghost use Rattle.logcalls.specs.Restored.{restored};
 

@@ -1,1 +1,2 @@
 // What the execution reviewer works out, and the theorem that the book agrees. Definitions and laws only.
+#![tactic(auto)]

@@ -1,4 +1,6 @@
 // A tape's setup: makes the book, adds its symbols and opens its lines as they are read, then opens the day.
+#![tactic(auto)]
+
 ghost use Rattle.std.specs.Prelude.{◌≤◌, ◌≡◌, length};
 ghost use Rattle.input.specs.Held.{Held};
 ghost use Rattle.setup.specs.declared.Setup.TheVariants as setup;
@@ -10,7 +12,7 @@ use output::Output;
 use text::Symbol;
 
 /// What a book is set up with.
-#[derive(Drop)]
+#[derive(Clone, Copy)]
 pub enum Setup {
     /// A symbol, its round lot and its primary letter.
     Symbol,

@@ -1,4 +1,6 @@
 // A letter's slot and its keys: its quote and its odd-lot levels, read and written. A side whose key is not its own has no quote and no levels.
+#![tactic(auto)]
+
 ghost use Rattle.std.specs.Prelude.{◌≡◌, [], ◌∷◌, ◌+◌, ◌≤◌, eqb, length};
 ghost use Rattle.field.specs.Field.{splice};
 ghost use Rattle.field.specs.Low.{low};

@@ -1,1 +1,2 @@
 // Snapshots in the form of source document 002: definitions and laws alone.
+#![tactic(auto)]

@@ -1,4 +1,6 @@
 // Trying an order (document 02, T-13): step by step down a page's national candidates.
+#![tactic(auto)]
+
 ghost use Rattle.std.specs.Prelude.{◌≡◌, ◌+◌, ◌≤◌, ◌<◌, length};
 ghost use Rattle.field.specs.Field.{splice};
 ghost use Rattle.field.specs.Ascii as ascii;
@@ -18,7 +20,7 @@ use page::{Cell, Letter, Page};
 use ranking::{Candidate, Side};
 
 /// The bytes of the steps: letter 1, price 8, lots 4 each.
-#[derive(Drop)]
+#[derive(Clone, Copy)]
 pub struct Steps {}
 
 impl Steps {
@@ -34,7 +36,7 @@ impl Steps {
 }
 
 /// What an order gives: how many steps, and the lots not found.
-#[derive(Drop)]
+#[derive(Clone, Copy)]
 pub struct Swept {
     pub steps: u8,
     pub unfilled: u32,

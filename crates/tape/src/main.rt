@@ -1,5 +1,7 @@
 // The tape program. From standard input: symbols with their round lots, lines with their letters, then records of a line and a block. To standard
 // output: what each block got, and last each symbol's six entries. Both go through buffers, and a tape of any length takes the same memory.
+#![tactic(auto)]
+
 ghost use Rattle.std.specs.Prelude.{◌≤◌};
 ghost use Rattle.output.specs.Output.{output_length};
 ghost use Rattle.input.specs.Held.{Held};

@@ -1,4 +1,6 @@
 // The records of a tape: each block taken, and what it got printed.
+#![tactic(auto)]
+
 ghost use Rattle.std.specs.Prelude.{◌+◌, ◌≤◌};
 ghost use Rattle.input.specs.Held.{Held, head_length};
 

@@ -1,10 +1,12 @@
 // Symbols, makers and letters: the form of their bytes.
+#![tactic(auto)]
+
 ghost use Rattle.std.specs.Prelude.{◌≡◌, true, ◌≤◌, eqb, length, drop};
 ghost use Rattle.lists.specs.Lists.{at, every, upper};
 ghost use Rattle.text.specs.Form.{is_space, symbol_length, padded, follows, symbol_good, maker_good, letter_good};
 
 /// The bytes of a symbol.
-#[derive(Drop)]
+#[derive(Clone, Copy)]
 pub struct Symbol {}
 
 impl Symbol {
@@ -12,7 +14,7 @@ impl Symbol {
 }
 
 /// The bytes of a maker's name.
-#[derive(Drop)]
+#[derive(Clone, Copy)]
 pub struct Maker {}
 
 impl Maker {

@@ -1,4 +1,6 @@
 // The calls of the allowance: its setting and the tick.
+#![tactic(auto)]
+
 ghost use Rattle.std.specs.Prelude.{◌≡◌};
 ghost use Rattle.calls.specs.Call.{bare, call, number_on, set_allowance, tick};
 

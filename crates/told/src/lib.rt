@@ -1,4 +1,6 @@
 // What is told of a block's messages: a code, change flags, answer bytes and counts.
+#![tactic(auto)]
+
 ghost use Rattle.std.specs.Prelude.{◌≡◌, cond, ◌*◌, ◌≤◌, ◌<◌, length};
 ghost use Rattle.field.specs.Field.{splice};
 ghost use Rattle.block.specs.Block.{messages_most, answer_length};
@@ -6,7 +8,7 @@ ghost use Rattle.told.specs.Told.{is_rejected};
 ghost use Rattle.told.specs.code.Steps.{quad, tally_with};
 
 /// What is told of one message: its code, its change flags, and whether it was partly accepted.
-#[derive(Drop)]
+#[derive(Clone, Copy)]
 pub struct Told {
     pub code: u8,
     pub flags: u8,
@@ -23,7 +25,7 @@ impl Told {
 }
 
 /// How many messages were accepted, partly accepted and rejected.
-#[derive(Drop)]
+#[derive(Clone, Copy)]
 pub struct Tally {
     pub accepted: u8,
     pub partly: u8,

@@ -1,4 +1,6 @@
 // What a message does to the page of the symbol that it names.
+#![tactic(auto)]
+
 ghost use Rattle.std.specs.Prelude.{◌≡◌, true, ◌+◌, ◌*◌, ◌≤◌, length};
 ghost use Rattle.field.specs.Field.{field};
 ghost use Rattle.field.specs.Ascii as ascii;
@@ -21,7 +23,7 @@ use quote::Quote;
 use ranking::Side;
 
 /// What a message gets: its code, and the flags of the entries that it changed.
-#[derive(Drop)]
+#[derive(Clone, Copy)]
 pub struct Effect {
     pub code: u8,
     pub flags: u8,

@@ -1,9 +1,11 @@
 // A block in the form of source document 000: where its messages stand, and checks 78 and 79 (document 02, T-11).
+#![tactic(auto)]
+
 ghost use Rattle.std.specs.Prelude.{◌≡◌, true, ◌+◌, ◌≤◌, ◌<◌, length};
 ghost use Rattle.venue.specs.Venue.{venue_first, venue_longest, venue_sequence, venue_count, size_good, lies_at, ends_at, laid_from, block_good, next_at, venue_from, venue_messages, messages_good, messages_placed, venue_number};
 
 /// The lengths of a venue's block, and where the fields of its header stand.
-#[derive(Drop)]
+#[derive(Clone, Copy)]
 pub struct Venues {}
 
 impl Venues {

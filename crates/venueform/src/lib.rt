@@ -1,10 +1,12 @@
 // A message in the form of source document 000: the table of its forms, and the fields that every form has.
+#![tactic(auto)]
+
 ghost use Rattle.std.specs.Prelude.{◌≡◌, ◌+◌, ◌≤◌, ◌<◌, length};
 ghost use Rattle.venueform.specs.Form.{layout_of, symbol_bytes, price_bytes, size_bytes, side_bytes, bid_at, clear_at, price_at, item_count, item_bytes, item_at};
 ghost use Rattle.field.specs.Field.{field};
 
 /// Where the fields of a message's header stand, and those of the long round-lot quote alone.
-#[derive(Drop)]
+#[derive(Clone, Copy)]
 pub struct Venue {}
 
 impl Venue {
@@ -46,14 +48,14 @@ impl Venue {
 }
 
 /// A form of quote: round lot or odd lot, long or short.
-#[derive(Drop)]
+#[derive(Clone, Copy)]
 pub struct Form {
     pub round: bool,
     pub long: bool,
 }
 
 /// How a message is read: as a quote of this form, or its header alone.
-#[derive(Drop)]
+#[derive(Clone, Copy)]
 pub enum Layout {
     Quote(Form),
     Other,

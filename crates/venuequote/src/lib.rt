@@ -1,4 +1,6 @@
 // A quote of source document 000 written in our form (document 02, T-11).
+#![tactic(auto)]
+
 ghost use Rattle.std.specs.Prelude.{◌≡◌, true, cond, [], ◌∷◌, ◌+◌, ◌*◌, ◌≤◌, ◌<◌, length};
 ghost use Rattle.field.specs.Field.{splice};
 ghost use Rattle.field.specs.Ascii.{K, M};

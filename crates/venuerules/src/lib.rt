@@ -1,4 +1,6 @@
 // The rules of one message in the form of source document 000 (document 02, T-11): what check 78 asks of it, and check 79.
+#![tactic(auto)]
+
 ghost use Rattle.std.specs.Prelude.{◌≡◌, true, ◌&&◌, cond, ◌+◌, ◌≤◌, ◌<◌, length};
 ghost use Rattle.lists.specs.Lists.{member, every, between};
 ghost use Rattle.venueform.specs.Form.{venue_header, long_round, layout_of, market_in, mark_in, item_count};

@@ -1,4 +1,6 @@
 // A venue's block written as a run of our blocks (document 02, T-11).
+#![tactic(auto)]
+
 ghost use Rattle.std.specs.Prelude.{◌≡◌, ◌+◌, ◌*◌, ◌<◌, ◌≤◌, true, map, length, if◌then◌else◌, nat_eq};
 ghost use Rattle.field.specs.Field.{splice};
 ghost use Rattle.lists.specs.Lists.{sum};
@@ -12,7 +14,7 @@ use block::Block;
 use venue::Venues;
 
 /// What a conversion answers: 0 and the bytes of the run, or the number of the check that refuses and 0.
-#[derive(Drop)]
+#[derive(Clone, Copy)]
 pub struct Converted {
     pub number: u8,
     pub len: usize,
@@ -45,7 +47,7 @@ pub fn judge(block: &[u8], room: usize) -> Converted
 }
 
 // The block that is being filled, and the bytes of those before it.
-#[derive(Drop)]
+#[derive(Clone, Copy)]
 struct Fill {
     used: usize,
     closed: usize,
@@ -93,7 +95,7 @@ fn needed(block: &[u8]) -> usize
 }
 
 // How many messages go into one block, its length, and where the next message starts.
-#[derive(Drop)]
+#[derive(Clone, Copy)]
 struct Fit {
     count: usize,
     len: usize,

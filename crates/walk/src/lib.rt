@@ -1,4 +1,6 @@
 // The six best entries of a page, on one way down it.
+#![tactic(auto)]
+
 ghost use Rattle.std.specs.Prelude.{◌≡◌, true, false, cond, ◌+◌, ◌-◌, ◌^◌, ◌≤◌, ◌<◌, eqb, ltb, length};
 ghost use Rattle.field.specs.Field.{part};
 ghost use Rattle.field.specs.Ascii as ascii;
@@ -23,7 +25,7 @@ use quote::Level;
 use ranking::{Candidate, Lead, Leads, Side, Sides};
 
 /// The six best entries of a symbol; price 0 is none. A national one tells what put it ahead.
-#[derive(Drop)]
+#[derive(Clone, Copy)]
 pub struct BestEntries {
     pub national: Leads,
     pub finra: Sides,
@@ -39,7 +41,7 @@ impl BestEntries {
 }
 
 // The best maker so far on a side: its rank and size, and its cell. Size 0 is none.
-#[derive(Drop)]
+#[derive(Clone, Copy)]
 struct BestCell {
     rank: u64,
     size: u32,
@@ -342,7 +344,7 @@ fn members(same: u32, d: u32, top: u32) -> u32
 
 // What the leader so far shows. Those with the highest key have one price, so that size, time and letter decide, and no more of them is kept.
 // Size 0 is none.
-#[derive(Drop)]
+#[derive(Clone, Copy)]
 struct Shown {
     letter: u32,
     size: u32,
@@ -614,7 +616,7 @@ fn odd_stopped(page: &[u8], side: Side, last: usize, finra: Candidate, best: Can
 // and its first level counts, that is the best. In every other case all letters above the bar are looked at. The functions give the letter, a plain number.
 
 // Where the prices of the odd-lot entries stand: they are the last two of the six, the bid's first.
-#[derive(Drop)]
+#[derive(Clone, Copy)]
 struct OddEntry {}
 
 impl OddEntry {

@@ -1,4 +1,6 @@
 // A message worked on a book, and a block of them.
+#![tactic(auto)]
+
 ghost use Rattle.std.specs.Prelude.{◌≡◌, true, ◌+◌, ◌*◌, ◌-◌, ◌≤◌, ◌<◌, length};
 ghost use Rattle.lists.specs.Lists.{upper};
 ghost use Rattle.block.specs.Block.{checked, answer_length};

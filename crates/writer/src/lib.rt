@@ -1,4 +1,6 @@
 // A block written from its messages (document 02, T-01).
+#![tactic(auto)]
+
 ghost use Rattle.std.specs.Prelude.{◌≡◌, true, ◌+◌, ◌*◌, ◌≤◌, ◌<◌, length, drop, leb};
 ghost use Rattle.field.specs.Field.{splice};
 ghost use Rattle.lists.specs.Lists.{every, sum};
@@ -10,7 +12,7 @@ use block::Block;
 const SHORTEST: u32 = Block::MESSAGE_SHORTEST as u32;
 
 /// What the writer answers: 0 and the bytes written, or the number of the check that refuses and 0.
-#[derive(Drop)]
+#[derive(Clone, Copy)]
 pub struct Written {
     pub number: u8,
     pub len: usize,

@@ -1,0 +1,12 @@
+use mathlib.Core.Path.{ap, ◌∙◌}
+use Rattle.field.specs.Field.{Bytes}
+use Rattle.field.specs.code.Swap.{swapped}
+use Rattle.field.proofs.LowLaws.{swapped-low}
+use borrow.Author.Rules.{rules}
+use Rattle.field.proofs.get32.Goals as goal
+
+pub returns : goal.returns
+returns c =
+    let a = c in
+    let b : Bytes a.args.s.now = λ i. (c.shared_slice_known-1.given i).fits in
+    c.swap32.ensures ∙ ap (swapped 4) c.low32.ensures ∙ swapped-low a.args.s.now a.args.at 4 a.requires b

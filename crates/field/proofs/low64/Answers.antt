@@ -1,0 +1,7 @@
+use Rattle.field.proofs.LowLaws.{low-join}
+use borrow.Author.Rules.{rules}
+use Rattle.field.proofs.low64.Goals as goal
+
+pub returns : goal.returns
+returns c = let a = c in
+    cc (low-join 4 4 a.args.s.now a.args.at a.requires)

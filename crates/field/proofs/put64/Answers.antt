@@ -1,0 +1,6 @@
+use Rattle.field.proofs.LowLaws.{le_bytes-swapped}
+use borrow.Author.Rules.{rules}
+use Rattle.field.proofs.put64.Goals as goal
+
+pub returns : goal.returns
+returns c = rw (← le_bytes-swapped 8) (cc)

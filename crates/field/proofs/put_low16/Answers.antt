@@ -1,0 +1,6 @@
+use Rattle.field.proofs.LowLaws.{put-low-join, le_bytes-one}
+use borrow.Author.Rules.{rules}
+use Rattle.field.proofs.put_low16.Goals as goal
+
+pub returns : goal.returns
+returns c = rw (← put-low-join 1 1) (simp le_bytes-one (cc))

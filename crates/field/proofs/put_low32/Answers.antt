@@ -1,0 +1,6 @@
+use Rattle.field.proofs.LowLaws.{put-low-join}
+use borrow.Author.Rules.{rules}
+use Rattle.field.proofs.put_low32.Goals as goal
+
+pub returns : goal.returns
+returns c = rw (← put-low-join 2 2) (cc)

@@ -1,0 +1,6 @@
+use Rattle.field.proofs.LowLaws.{swap-two}
+use borrow.Author.Rules.{rules}
+use Rattle.field.proofs.swap16.Goals as goal
+
+pub returns : goal.returns
+returns c = swap-two _ c.ranges.v.fits

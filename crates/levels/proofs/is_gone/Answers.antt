@@ -1,0 +1,6 @@
+use Rattle.levels.proofs.CellLaws.{when_false}
+use borrow.Author.Rules.{rules}
+use Rattle.levels.proofs.is_gone.Goals as goal
+
+pub returns : goal.returns
+returns c = when_false _ _ _ c.if-gone.false
