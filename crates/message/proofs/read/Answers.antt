@@ -14,10 +14,9 @@ use Rattle.message.specs.contracts.Kind.{the_type}
 use borrow.Author.Rules.{rules}
 use Rattle.message.proofs.read.Goals as goal
 
--- a type whose tag is not that of the last
+-- a type that is not the last
 
-known : (k : Kind) → OneOf (0 ∷ 1 ∷ 2 ∷ 3 ∷ 4 ∷ 5 ∷ 6 ∷ 7 ∷ []) (tag_of the_type k) → is_unknown k ≡ false
-unfolding member
+known : (k : Kind) → (k ≡ kind.Unknown → ⊥) → is_unknown k ≡ false
 known kind.Inquiry h = refl
 known kind.Close h = refl
 known kind.Open h = refl
@@ -26,7 +25,7 @@ known kind.RoundLot h = refl
 known (kind.OddLot f) h = refl
 known kind.Maker h = refl
 known kind.Status h = refl
-known kind.Unknown h = clash (sym (one_of (0 ∷ 1 ∷ 2 ∷ 3 ∷ 4 ∷ 5 ∷ 6 ∷ 7 ∷ []) 8 h))
+known kind.Unknown h = absurd (h refl)
 
 pub returns-in-Unknown : goal.returns-in-Unknown
 unfolding message_of
@@ -36,7 +35,7 @@ pub returns-then-byte-letter : goal.returns-then-byte-letter
 unfolding message_of
 returns-then-byte-letter c =
     let m = c in
-    rw (← m.kind_of-kind.ensures, known _ m.in-Unknown.in-Unknown-own.keys2, ← c.byte.ensures, ne_eqb _ _ c.if-byte-letter.true)
+    rw (← m.kind_of-kind.ensures, known _ c.in_default.not-Unknown, ← c.byte.ensures, ne_eqb _ _ c.if-byte-letter.true)
 
 pub returns-in-Inquiry : goal.returns-in-Inquiry
 unfolding message_of
