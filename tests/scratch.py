@@ -10,6 +10,8 @@ ROWS = os.path.join(ROOT, "tests", "rows")
 ONE = "scratch"
 # what the prover says of a row that is false
 FALSE = r"((as printed|computed as far as they go), the two types|this `◌▹◌` lands at index|expected type `)"
+# what it says of what stands on a row that is false
+UNCHECKED = r"depends? on `[^`]+`, which was rejected"
 
 
 def crates(*last):
@@ -129,22 +131,27 @@ def declare(top):
     write(os.path.join(proofs, "Lib.antt"), "".join("pub mod %s\n" % c for c in stated))
 
 
+def row(crate, module, name):
+    """What is said of a row that is false: patterns of its module's name and of its own."""
+    return r"proofs/of_%s/%s\.antt:\d+:\d+: error: `%s`: %s" % (crate, module, name, FALSE)
+
+
 def keep(top):
     """Keeps what is checked, to go back to it."""
     shutil.rmtree(os.path.join(top, "kept"), ignore_errors=True)
-    shutil.copytree(os.path.join(top, "target"), os.path.join(top, "kept"))
+    shutil.copytree(os.path.join(top, "crates", ONE, "out"), os.path.join(top, "kept"))
 
 
 def back(top):
     """Goes back to what was kept: only what a plant touches is checked again, and nothing for the sake of the plant before it."""
-    shutil.rmtree(os.path.join(top, "target"))
-    shutil.copytree(os.path.join(top, "kept"), os.path.join(top, "target"))
+    shutil.rmtree(os.path.join(top, "crates", ONE, "out"))
+    shutil.copytree(os.path.join(top, "kept"), os.path.join(top, "crates", ONE, "out"))
 
 
-def errors(top, crate):
-    """What a check of the crate says against it: nothing if it is proved."""
-    run = subprocess.run(["rt", "dev", crate], cwd=top, capture_output=True, text=True, env={**os.environ, "RT_JOBS": "1"})
+def errors(top):
+    """What a check says against the definitions and the proofs that were put there: nothing if it is proved."""
+    run = subprocess.run(["rt", "check", "--jobs", "1"], cwd=os.path.join(top, "crates", ONE), capture_output=True, text=True)
     out = run.stdout + run.stderr
-    found = [line.split("crates/")[-1] for line in out.split("\n") if ": error:" in line and "was not admitted" not in line]
+    found = [line.removeprefix("./") for line in out.split("\n") if re.search(r": error(\[[\w-]+\])?:", line) and not re.search(UNCHECKED, line)]
     last = out.strip().split("\n")[-1]
     return [] if not found and last.startswith("logic=proved") else found or [last]
