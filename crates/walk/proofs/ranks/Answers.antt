@@ -1,0 +1,26 @@
+use borrow.Author.Rules.{rules}
+use Rattle.walk.proofs.StepLaws.{ranks-d, ranks-quoted, ranks-unquoted}
+use Rattle.walk.proofs.ranks.Goals as goal
+
+-- `walk::ranks` meets its contract.
+
+pub returns-then-letter-eq-D : goal.returns-then-letter-eq-D
+returns-then-letter-eq-D c = ranks-d _ _ _ _ _ c.if-letter-eq-D.true c.stands.ensures
+
+pub returns-then-is_quoted : goal.returns-then-is_quoted
+returns-then-is_quoted c =
+    let q = c in
+    let g = q in
+    let a = g in
+    let n = a in
+    let s = n in
+    ranks-quoted _ _ _ _ s.requires.a_le_letter.0 s.requires.a_le_letter.1 n.if-letter-eq-D.false _ a.slot_at.ensures _ g.get8-condition.ensures _ _ q.is_quoted.ensures c.if-is_quoted.true c.admits.ensures
+
+pub returns : goal.returns
+returns c =
+    let q = c in
+    let g = q in
+    let a = g in
+    let n = a in
+    let s = n in
+    ranks-unquoted _ _ _ _ s.requires.a_le_letter.0 s.requires.a_le_letter.1 n.if-letter-eq-D.false _ a.slot_at.ensures _ g.get8-condition.ensures _ q.is_quoted.ensures c.if-is_quoted.false
