@@ -7,11 +7,8 @@ use Rattle.walk.proofs.entries_behind.Goals as goal
 
 pub returns-then-is_halted : goal.returns-then-is_halted
 returns-then-is_halted c =
-    let s = c in
-    none-behind _ s.requires.page_len _ s.requires.a_le_last.0 s.requires.a_le_last.1 (sym c.is_halted.ensures ∙ c.if-is_halted.true)
+    none-behind _ c.requires.page_len _ c.requires.a_le_last.0 c.requires.a_le_last.1 (sym c.is_halted.ensures ∙ c.if-is_halted.true)
 
 pub returns : goal.returns
 returns c =
-    let i = c in
-    let s = i in
-    trading-behind _ s.requires.page_len _ s.requires.a_le_last.0 s.requires.a_le_last.1 (sym i.is_halted.ensures ∙ i.if-is_halted.false) _ c.walk_page.ensures
+    trading-behind _ c.requires.page_len _ c.requires.a_le_last.0 c.requires.a_le_last.1 (sym c.is_halted.ensures ∙ c.if-is_halted.false) _ c.walk_page.ensures

@@ -9,6 +9,4 @@ returns-then-best-eq0 c = best_none _ _ _ c.if-best-eq0.true
 
 pub returns : goal.returns
 returns c =
-    let r = c in
-    let a = r in
-    best-read _ _ _ a.if-best-eq0.false _ _ _ _ _ a.Cell-at.ensures c.in_quote.ensures.0 r.get32.ensures r.rank.ensures c.low64.ensures
+    best-read _ _ _ c.if-best-eq0.false _ _ _ _ _ c.cell_at-at.ensures c.in_quote.ensures.0 c.get32.ensures c.rank.ensures c.low64.ensures

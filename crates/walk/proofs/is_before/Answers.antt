@@ -12,12 +12,8 @@ returns-then-best-lots c = before-larger _ _ _ _ _ c.if-best-lots.true
 
 pub returns-then-time-before : goal.returns-then-time-before
 returns-then-time-before c =
-    let q = c in
-    let e = q in
-    before-name _ _ _ _ _ e.if-lots-best.false e.if-best-lots.false _ _ _ _ _ q.Cell-at.ensures q.cell_at-to.ensures q.in_quote-level.ensures.0 c.low64-time.ensures c.low64-before.ensures _ _ c.get32.ensures c.get32-then-time-before.ensures c.if-time-before.true
+    before-name _ _ _ _ _ c.if-lots-best.false c.if-best-lots.false _ _ _ _ _ c.cell_at-at.ensures c.cell_at-to.ensures c.in_quote-level.ensures.0 c.low64-time.ensures c.low64-before.ensures _ _ c.get32.ensures c.get32-then-time-before.ensures c.if-time-before.true
 
 pub returns : goal.returns
 returns c =
-    let q = c in
-    let e = q in
-    before-time _ _ _ _ _ e.if-lots-best.false e.if-best-lots.false _ _ _ _ _ q.Cell-at.ensures q.cell_at-to.ensures q.in_quote-level.ensures.0 c.low64-time.ensures c.low64-before.ensures c.if-time-before.false
+    before-time _ _ _ _ _ c.if-lots-best.false c.if-best-lots.false _ _ _ _ _ c.cell_at-at.ensures c.cell_at-to.ensures c.in_quote-level.ensures.0 c.low64-time.ensures c.low64-before.ensures c.if-time-before.false

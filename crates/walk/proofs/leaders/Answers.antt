@@ -30,10 +30,10 @@ pub members-offer_set-requires : goal.members-offer_set-requires
 members-offer_set-requires c = set-small _ _ c.same-offers.ensures
 
 pub leaders_of_all-requires-then-is_hidden : goal.leaders_of_all-requires-then-is_hidden
-leaders_of_all-requires-then-is_hidden c = (c.requires.page_len, c.requires.a_le_last)
+leaders_of_all-requires-then-is_hidden c = record { page_len = c.requires.page_len; a_le_last = c.requires.a_le_last }
 
 pub leaders_of_all-requires-then-is_hidden-2 : goal.leaders_of_all-requires-then-is_hidden-2
-leaders_of_all-requires-then-is_hidden-2 c = (c.requires.page_len, c.requires.a_le_last)
+leaders_of_all-requires-then-is_hidden-2 c = record { page_len = c.requires.page_len; a_le_last = c.requires.a_le_last }
 
 pub decided-bid_by-requires : goal.decided-bid_by-requires
 decided-bid_by-requires c = c.requires.page_len
@@ -47,7 +47,7 @@ led-requires c =
         search rules in
     let bid-fits : c.args.finra.bid.price < 2 ^ 64 =
         search rules in
-    (c.requires.page_len, in_letters _ (λ i. (c.shared_slice_known-1.given i).fits) Bid _ bid-fits _ c.top_key-top_bid.ensures.0 c.top_key-top_bid.ensures.1 top-bid-fits _ (same-is _ Bid _ _ _ c.quote_keys.ensures.0 c.same-bids.ensures) _ c.key.ensures _ c.members-bid_set.ensures.0 _ c.leading-bid.ensures (sym c.is_hidden.ensures ∙ c.if-is_hidden.false))
+    record { page_len = c.requires.page_len; in_letters = in_letters _ (λ i. (c.shared_slice_known-1.given i).fits) Bid _ bid-fits _ c.top_key-top_bid.ensures.0 c.top_key-top_bid.ensures.1 top-bid-fits _ (same-is _ Bid _ _ _ c.quote_keys.ensures.0 c.same-bids.ensures) _ c.key.ensures _ c.members-bid_set.ensures.0 _ c.leading-bid.ensures (sym c.is_hidden.ensures ∙ c.if-is_hidden.false) }
 
 pub led-requires-2 : goal.led-requires-2
 led-requires-2 c =
@@ -55,7 +55,7 @@ led-requires-2 c =
         search rules in
     let offer-fits : c.args.finra.offer.price < 2 ^ 64 =
         search rules in
-    (c.requires.page_len, in_letters _ (λ i. (c.shared_slice_known-1.given i).fits) Offer _ offer-fits _ c.top_key-top_offer.ensures.0 c.top_key-top_offer.ensures.1 top-offer-fits _ (same-is _ Offer _ _ _ c.quote_keys-2.ensures.0 c.same-offers.ensures) _ c.key-2.ensures _ c.members-offer_set.ensures.0 _ c.leading-offer.ensures (sym c.is_hidden-2.ensures ∙ c.if-is_hidden-2.false))
+    record { page_len = c.requires.page_len; in_letters = in_letters _ (λ i. (c.shared_slice_known-1.given i).fits) Offer _ offer-fits _ c.top_key-top_offer.ensures.0 c.top_key-top_offer.ensures.1 top-offer-fits _ (same-is _ Offer _ _ _ c.quote_keys-2.ensures.0 c.same-offers.ensures) _ c.key-2.ensures _ c.members-offer_set.ensures.0 _ c.leading-offer.ensures (sym c.is_hidden-2.ensures ∙ c.if-is_hidden-2.false) }
 
 pub returns : goal.returns
 returns c =

@@ -18,9 +18,8 @@ use Rattle.walk.proofs.odd_by.Goals as goal
 
 pub returns-then-set-eq0 : goal.returns-then-set-eq0
 returns-then-set-eq0 c =
-    let s = c in
-    let b : Bytes s.args.page.now = λ i. (c.shared_slice_known-1.given i).fits in
-    guess-nobody _ b _ _ _ _ _ s.requires.page_len.1 s.requires.set_value c.if-set-eq0.true c.if-bar-floor.false
+    let b : Bytes c.args.page.now = λ i. (c.shared_slice_known-1.given i).fits in
+    guess-nobody _ b _ _ _ _ _ c.requires.page_len.1 c.requires.set_value c.if-set-eq0.true c.if-bar-floor.false
 
 pub lowest-i-requires : goal.lowest-i-requires
 lowest-i-requires c = (omega (arith, c.if-set-eq0.false), set-small _ _ c.requires.set_value)
@@ -30,6 +29,5 @@ without-requires c = lowest-member _ _ (omega (arith, c.if-set-eq0.false)) (set-
 
 pub returns : goal.returns
 returns c =
-    let s = c in
-    let b : Bytes s.args.page.now = λ i. (c.shared_slice_known-1.given i).fits in
-    guess-alone _ b _ _ _ _ _ s.requires.page_len.1 s.requires.set_value _ _ (omega (arith, c.if-set-eq0.false)) c.lowest-i.ensures.0 c.without.ensures (omega (arith, c.if-without-ne0.false)) _ (first-marked _ _ _ _ _ _ c.marked.ensures c.odd_first-first.ensures) (λ z. omega (arith, c.if-first-eq0.false, z))
+    let b : Bytes c.args.page.now = λ i. (c.shared_slice_known-1.given i).fits in
+    guess-alone _ b _ _ _ _ _ c.requires.page_len.1 c.requires.set_value _ _ (omega (arith, c.if-set-eq0.false)) c.lowest-i.ensures.0 c.without.ensures (omega (arith, c.if-without-ne0.false)) _ (first-marked _ _ _ _ _ _ c.marked.ensures c.odd_first-first.ensures) (λ z. omega (arith, c.if-first-eq0.false, z))

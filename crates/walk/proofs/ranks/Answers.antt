@@ -9,18 +9,8 @@ returns-then-letter-eq-D c = ranks-d _ _ _ _ _ c.if-letter-eq-D.true c.stands.en
 
 pub returns-then-is_quoted : goal.returns-then-is_quoted
 returns-then-is_quoted c =
-    let q = c in
-    let g = q in
-    let a = g in
-    let n = a in
-    let s = n in
-    ranks-quoted _ _ _ _ s.requires.a_le_letter.0 s.requires.a_le_letter.1 n.if-letter-eq-D.false _ a.slot_at.ensures _ g.get8-condition.ensures _ _ q.is_quoted.ensures c.if-is_quoted.true c.admits.ensures
+    ranks-quoted _ _ _ _ c.requires.a_le_letter.0 c.requires.a_le_letter.1 c.if-letter-eq-D.false _ c.slot_at.ensures _ c.get8-condition.ensures _ _ c.is_quoted.ensures c.if-is_quoted.true c.admits.ensures
 
 pub returns : goal.returns
 returns c =
-    let q = c in
-    let g = q in
-    let a = g in
-    let n = a in
-    let s = n in
-    ranks-unquoted _ _ _ _ s.requires.a_le_letter.0 s.requires.a_le_letter.1 n.if-letter-eq-D.false _ a.slot_at.ensures _ g.get8-condition.ensures _ q.is_quoted.ensures c.if-is_quoted.false
+    ranks-unquoted _ _ _ _ c.requires.a_le_letter.0 c.requires.a_le_letter.1 c.if-letter-eq-D.false _ c.slot_at.ensures _ c.get8-condition.ensures _ c.is_quoted.ensures c.if-is_quoted.false

@@ -14,6 +14,5 @@ use Rattle.walk.proofs.walk_page.Goals as goal
 
 pub returns : goal.returns
 returns c =
-    let s = c in
-    walked_both _ s.requires.page_len (λ i. (c.shared_slice_known-1.given i).fits) _ s.requires.a_le_last.0 s.requires.a_le_last.1 _ c.walk_finra-finra.ensures _ _ _ _ _ _ (leaders-bid _ _ _ _ c.leaders-national.ensures) (leaders-offer _ _ _ _ c.leaders-national.ensures)
+    walked_both _ c.requires.page_len (λ i. (c.shared_slice_known-1.given i).fits) _ c.requires.a_le_last.0 c.requires.a_le_last.1 _ c.walk_finra-finra.ensures _ _ _ _ _ _ (leaders-bid _ _ _ _ c.leaders-national.ensures) (leaders-offer _ _ _ _ c.leaders-national.ensures)
     refl c.walk_odd-odd.ensures.0 refl c.walk_odd-odd.ensures.1

@@ -10,14 +10,12 @@ use Rattle.walk.proofs.with_cell.Goals as goal
 pub returns-then-rank-best : goal.returns-then-rank-best
 returns-then-rank-best c =
     let priced : let a = c.args in Priced a.page.now a.side a.k a.best c.low64-price.result c.rank-rank.result =
-        let o = c in
-        let s = o in
         record {
-          kept = s.requires.k_lt_maker_count.1;
+          kept = c.requires.kept;
           held = search rules;
-          cell = s.requires.k_lt_maker_count.0;
+          cell = c.requires.k_lt_maker_count;
           fits = search rules;
-          price = price-read _ _ _ _ _ o.Cell-at.ensures o.in_quote.ensures.0 _ c.low64-price.ensures;
+          price = price-read _ _ _ _ _ c.cell_at.ensures c.in_quote.ensures.0 _ c.low64-price.ensures;
           rank = c.rank-rank.ensures;
         } in
     cell-behind _ _ _ _ _ _ priced c.if-rank-best.true
@@ -25,31 +23,27 @@ returns-then-rank-best c =
 pub returns-then-lots-eq0 : goal.returns-then-lots-eq0
 returns-then-lots-eq0 c =
     let priced : let a = c.args in Priced a.page.now a.side a.k a.best c.low64-price.result c.rank-rank.result =
-        let o = c in
-        let s = o in
         record {
-          kept = s.requires.k_lt_maker_count.1;
+          kept = c.requires.kept;
           held = search rules;
-          cell = s.requires.k_lt_maker_count.0;
+          cell = c.requires.k_lt_maker_count;
           fits = search rules;
-          price = price-read _ _ _ _ _ o.Cell-at.ensures o.in_quote.ensures.0 _ c.low64-price.ensures;
+          price = price-read _ _ _ _ _ c.cell_at.ensures c.in_quote.ensures.0 _ c.low64-price.ensures;
           rank = c.rank-rank.ensures;
         } in
     let sized : let a = c.args in c.low32-lots.result ≡ (cell_as a.page.now a.side a.k).size =
-        let o = c in size-read _ _ _ _ _ o.Cell-at.ensures o.in_quote.ensures.0 _ c.low32-lots.ensures in
+        size-read _ _ _ _ _ c.cell_at.ensures c.in_quote.ensures.0 _ c.low32-lots.ensures in
     cell-sizeless _ _ _ _ _ _ priced _ sized c.if-lots-eq0.true
 
 pub returns-then-price-eq0 : goal.returns-then-price-eq0
 returns-then-price-eq0 c =
     let priced : let a = c.args in Priced a.page.now a.side a.k a.best c.low64-price.result c.rank-rank.result =
-        let o = c in
-        let s = o in
         record {
-          kept = s.requires.k_lt_maker_count.1;
+          kept = c.requires.kept;
           held = search rules;
-          cell = s.requires.k_lt_maker_count.0;
+          cell = c.requires.k_lt_maker_count;
           fits = search rules;
-          price = price-read _ _ _ _ _ o.Cell-at.ensures o.in_quote.ensures.0 _ c.low64-price.ensures;
+          price = price-read _ _ _ _ _ c.cell_at.ensures c.in_quote.ensures.0 _ c.low64-price.ensures;
           rank = c.rank-rank.ensures;
         } in
     cell-priceless _ _ _ _ _ _ priced c.if-price-eq0.true
@@ -57,42 +51,34 @@ returns-then-price-eq0 c =
 pub returns-then-not-is_before : goal.returns-then-not-is_before
 returns-then-not-is_before c =
     let priced : let a = c.args in Priced a.page.now a.side a.k a.best c.low64-price.result c.rank-rank.result =
-        let o = c in
-        let s = o in
         record {
-          kept = s.requires.k_lt_maker_count.1;
+          kept = c.requires.kept;
           held = search rules;
-          cell = s.requires.k_lt_maker_count.0;
+          cell = c.requires.k_lt_maker_count;
           fits = search rules;
-          price = price-read _ _ _ _ _ o.Cell-at.ensures o.in_quote.ensures.0 _ c.low64-price.ensures;
+          price = price-read _ _ _ _ _ c.cell_at.ensures c.in_quote.ensures.0 _ c.low64-price.ensures;
           rank = c.rank-rank.ensures;
         } in
     let sized : let a = c.args in c.low32-lots.result ≡ (cell_as a.page.now a.side a.k).size =
-        let o = c in size-read _ _ _ _ _ o.Cell-at.ensures o.in_quote.ensures.0 _ c.low32-lots.ensures in
-    let n = c in
-    let z = n in
-    cell-after _ _ _ _ _ _ priced _ sized n.if-lots-eq0.false c.if-rank-best-2.true c.if-price-eq0.false _
+        size-read _ _ _ _ _ c.cell_at.ensures c.in_quote.ensures.0 _ c.low32-lots.ensures in
+    cell-after _ _ _ _ _ _ priced _ sized c.if-lots-eq0.false c.if-rank-best-2.true c.if-price-eq0.false _
     c.is_before.ensures c.if-not-is_before.true
 
 pub returns : goal.returns
 returns c =
     let priced : let a = c.args in Priced a.page.now a.side a.k a.best c.low64-price.result c.rank-rank.result =
-        let o = c in
-        let s = o in
         record {
-          kept = s.requires.k_lt_maker_count.1;
+          kept = c.requires.kept;
           held = search rules;
-          cell = s.requires.k_lt_maker_count.0;
+          cell = c.requires.k_lt_maker_count;
           fits = search rules;
-          price = price-read _ _ _ _ _ o.Cell-at.ensures o.in_quote.ensures.0 _ c.low64-price.ensures;
+          price = price-read _ _ _ _ _ c.cell_at.ensures c.in_quote.ensures.0 _ c.low64-price.ensures;
           rank = c.rank-rank.ensures;
         } in
     let sized : let a = c.args in c.low32-lots.result ≡ (cell_as a.page.now a.side a.k).size =
-        let o = c in size-read _ _ _ _ _ o.Cell-at.ensures o.in_quote.ensures.0 _ c.low32-lots.ensures in
-    let n = c in
-    let z = n in
+        size-read _ _ _ _ _ c.cell_at.ensures c.in_quote.ensures.0 _ c.low32-lots.ensures in
     let g = priced in
     ⊎_elim
-    (λ w. cell-before _ _ _ _ _ _ g _ sized n.if-lots-eq0.false w.0.taken w.1.left _ w.2.ensures w.3.left)
-    (λ w. cell-ahead _ _ _ _ _ _ g _ sized n.if-lots-eq0.false z.if-rank-best.false w.left)
+    (λ w. cell-before _ _ _ _ _ _ g _ sized c.if-lots-eq0.false w.0.taken w.1.left _ w.2.ensures w.3.left)
+    (λ w. cell-ahead _ _ _ _ _ _ g _ sized c.if-lots-eq0.false c.if-rank-best.false w.left)
     c.if-rank-best-2.branch
