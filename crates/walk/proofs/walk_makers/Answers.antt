@@ -10,6 +10,7 @@ use Rattle.ranking.specs.code.Choice.{sides_from}
 use Rattle.page.specs.Layout.{maker_count}
 use borrow.Author.Rules.{rules}
 use Rattle.walk.proofs.walk_makers.Goals as goal
+use Rattle.walk.proofs.walk_makers.Goals.{then-get8-eq82, else-get8-eq82}
 
 -- `walk::walk_makers` meets its contract.
 
@@ -29,8 +30,8 @@ loop-k-preserved c =
     let next : Next c.args.page.now c.loop-k.k c.loop-k.bid c.loop-k.offer c.if-get8-eq82.bid c.if-get8-eq82.offer =
         let l = c.loop-k in
         elim c.if-get8-eq82.branch [
-          | inl w ↦ cells-read _ _ _ _ _ c.cell_at.ensures _ c.get8.ensures _ _ w.0.taken w.1.ensures w.2.ensures _ _ w.3 w.4
-          | inr w ↦ cells_free _ _ _ _ _ c.cell_at.ensures _ c.get8.ensures w.0.left l.invariant.1 l.invariant.2 _ _ w.1 w.2
+          | then-get8-eq82 w ↦ cells-read _ _ _ _ _ c.cell_at.ensures _ c.get8.ensures _ _ w.if-get8-eq82.true w.with_cell-bid.ensures w.with_cell-offer.ensures _ _ w.bid-is w.offer-is
+          | else-get8-eq82 w ↦ cells_free _ _ _ _ _ c.cell_at.ensures _ c.get8.ensures w.if-get8-eq82.false l.invariant.1 l.invariant.2 _ _ w.bid-is w.offer-is
         ] in
     let n = next in (search rules, n.0, n.1, sides-again _ maker_count _ _ _ _ c.loop-k-test.true c.loop-k.invariant.3 n.2)
 

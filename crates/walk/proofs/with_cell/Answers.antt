@@ -1,9 +1,11 @@
-use mathlib.Core.Path.{◌≡◌}
-use mathlib.Core.Logic.{⊎_elim}
+use mathlib.Core.Path.{◌≡◌, ap}
+use mathlib.Core.Bool.{not}
 use Rattle.walk.specs.code.Cells.{cell_as}
 use Rattle.walk.proofs.CellLaws.{Priced, price-read, size-read, cell-behind, cell-sizeless, cell-priceless, cell-ahead, cell-after, cell-before}
 use borrow.Author.Rules.{rules}
 use Rattle.walk.proofs.with_cell.Goals as goal
+use Rattle.walk.proofs.with_cell.Goals.{then-rank-best-2+else-price-eq0+else-not-is_before, else-rank-best-2}
+
 
 -- `walk::with_cell` meets its contract.
 
@@ -62,7 +64,7 @@ returns-then-not-is_before c =
     let sized : let a = c.args in c.low32-lots.result ≡ (cell_as a.page.now a.side a.k).size =
         size-read _ _ _ _ _ c.cell_at.ensures c.in_quote.ensures.0 _ c.low32-lots.ensures in
     cell-after _ _ _ _ _ _ priced _ sized c.if-lots-eq0.false c.if-rank-best-2.true c.if-price-eq0.false _
-    c.is_before.ensures c.if-not-is_before.true
+    c.is_before.ensures (ap not c.if-not-is_before.true)
 
 pub returns : goal.returns
 returns c =
@@ -77,8 +79,7 @@ returns c =
         } in
     let sized : let a = c.args in c.low32-lots.result ≡ (cell_as a.page.now a.side a.k).size =
         size-read _ _ _ _ _ c.cell_at.ensures c.in_quote.ensures.0 _ c.low32-lots.ensures in
-    let g = priced in
-    ⊎_elim
-    (λ w. cell-before _ _ _ _ _ _ g _ sized c.if-lots-eq0.false w.0.taken w.1.left _ w.2.ensures w.3.left)
-    (λ w. cell-ahead _ _ _ _ _ _ g _ sized c.if-lots-eq0.false c.if-rank-best.false w.left)
-    c.if-rank-best-2.branch
+    elim c.if-rank-best-2.branch [
+      | then-rank-best-2+else-price-eq0+else-not-is_before w ↦ cell-before _ _ _ _ _ _ priced _ sized c.if-lots-eq0.false w.if-rank-best-2.true w.if-price-eq0.false _ w.is_before.ensures (ap not w.if-not-is_before.false)
+      | else-rank-best-2 w ↦ cell-ahead _ _ _ _ _ _ priced _ sized c.if-lots-eq0.false c.if-rank-best.false w.if-rank-best-2.false
+    ]
