@@ -5,7 +5,6 @@ use Rattle.opening.specs.Opening.{first_place}
 use Rattle.opening.proofs.ReadLaws.{counted-room, page-symbol, has_symbol, find-start}
 use Rattle.page.specs.Layout.{page_length}
 use Rattle.opening.specs.Layout.{page_start, symbols_most}
-use Rattle.opening.proofs.first.Goals.{After-has_symbol}
 use Rattle.opening.proofs.first.Goals as goal
 
 pub loop-k-init : goal.loop-k-init
@@ -29,17 +28,13 @@ has_symbol-requires c =
         counted-room _ _ _ c.requires.0 c.requires.1 (omega (arith, c.loop-k-test.true)) in
     omega (arith, room.0)
 
-has : (c : After-has_symbol) (t : Bool) → c.has_symbol.result ≡ t
-    → has_symbol c.args.book.now (c.args.high * 16777216 + (c.args.middle * 256 + c.args.low)) c.loop-k.k ≡ t
-has c t e = page-symbol _ _ _ _ _ _ refl c.has_symbol.ensures e
-
 pub returns-then-has_symbol : goal.returns-then-has_symbol
 returns-then-has_symbol c =
-    first_found _ _ _ _ c.loop-k-test.true c.loop-k.invariant.1 (has c _ c.if-has_symbol.true)
+    first_found _ _ _ _ c.loop-k-test.true c.loop-k.invariant.1 (page-symbol _ _ _ _ _ _ refl c.has_symbol.ensures c.if-has_symbol.true)
 
 pub loop-k-preserved : goal.loop-k-preserved
 loop-k-preserved c =
-    (search rules, first-again _ _ _ _ c.loop-k-test.true c.loop-k.invariant.1 (has c _ c.if-has_symbol.false))
+    (search rules, first-again _ _ _ _ c.loop-k-test.true c.loop-k.invariant.1 (page-symbol _ _ _ _ _ _ refl c.has_symbol.ensures c.if-has_symbol.false))
 
 pub returns : goal.returns
 returns c = first-end _ _ _ _ c.loop-k-test.false c.loop-k.invariant.1
