@@ -4,8 +4,8 @@
 ghost use Rattle.std.specs.Prelude.{◌+◌, ◌≤◌, ◌≡◌, length};
 ghost use Rattle.input.specs.Held.{input_length, Held, Reaches, Ready, head_length, block_most};
 
-use libc::STDIN_FILENO;
-use output::Output;
+use output::{Output, Streams};
+use std::io::Read;
 
 /// The input buffer: the longest record fits.
 pub type Input = [u8; LEN];
@@ -95,7 +95,14 @@ impl Record {
 
 /// Holds n bytes from `from` on. A tape that has fewer is cut; one that has none has ended, where it may.
 /// What waits in the output is written before the program may wait.
-pub fn hold(input: &mut Input, out: &Output, tape: Tape, n: usize, may_end: bool) -> Tape
+pub fn hold(
+    streams: Streams,
+    input: &mut Input,
+    out: &Output,
+    tape: Tape,
+    n: usize,
+    may_end: bool,
+) -> Tape
     requires { (n ≤ input_length) × Held tape }
     ensures { Held result × Ready result n }
 {
@@ -107,9 +114,9 @@ pub fn hold(input: &mut Input, out: &Output, tape: Tape, n: usize, may_end: bool
     if n <= have {
         return tape;
     }
-    output::flush(out, tape.filled);
+    output::flush(streams, out, tape.filled);
     move_front(input, tape.from, have);
-    let to = fill(input, have, n);
+    let to = fill(streams, input, have, n);
     Tape {
         from: 0,
         to,
@@ -119,11 +126,11 @@ pub fn hold(input: &mut Input, out: &Output, tape: Tape, n: usize, may_end: bool
 }
 
 /// One byte: how many symbols or lines follow.
-pub fn count(input: &mut Input, out: &Output, tape: Tape) -> Counted
+pub fn count(streams: Streams, input: &mut Input, out: &Output, tape: Tape) -> Counted
     requires { Held tape }
     ensures { Held result.tape }
 {
-    let held = hold(input, out, tape, Tape::COUNT, false);
+    let held = hold(streams, input, out, tape, Tape::COUNT, false);
     let stop = held.stop;
     let Stop::Going = stop else {
         return Counted { n: 0, tape: held };
@@ -136,12 +143,12 @@ pub fn count(input: &mut Input, out: &Output, tape: Tape) -> Counted
 }
 
 /// The next record: its line, the length of its block, the block. A tape may end before it.
-pub fn next_record(input: &mut Input, out: &Output, tape: Tape) -> Record
+pub fn next_record(streams: Streams, input: &mut Input, out: &Output, tape: Tape) -> Record
     requires { Held tape }
     ensures held { Held result.tape × Ready result.tape result.len }
     ensures head_length_le_len { head_length ≤ result.len }
 {
-    let head = hold(input, out, tape, Record::HEAD, true);
+    let head = hold(streams, input, out, tape, Record::HEAD, true);
     let stop = head.stop;
     let Stop::Going = stop else {
         return Record {
@@ -154,7 +161,7 @@ pub fn next_record(input: &mut Input, out: &Output, tape: Tape) -> Record
     let low = from + Record::LOW;
     let len = Record::HEAD + number(input[high], input[low]);
     Record {
-        tape: hold(input, out, head, len, false),
+        tape: hold(streams, input, out, head, len, false),
         len,
     }
 }
@@ -191,13 +198,13 @@ fn move_front(input: &mut [u8], from: usize, n: usize)
 }
 
 // Reads until n bytes stand in front, or the input ends; how many stand there.
-fn fill(input: &mut [u8], have: usize, n: usize) -> usize
+fn fill(streams: Streams, input: &mut [u8], have: usize, n: usize) -> usize
     requires { (length input.old ≡ input_length) × ((have ≤ input_length) × (n ≤ input_length)) }
     ensures { result ≤ input_length }
 {
     let mut to = have;
     while to < n {
-        let got = read_behind(input, to);
+        let got = read_behind(streams, input, to);
         if got == 0 {
             return to;
         }
@@ -207,20 +214,21 @@ fn fill(input: &mut [u8], have: usize, n: usize) -> usize
 }
 
 // One read behind the first `to` bytes; how many came.
-fn read_behind(input: &mut [u8], to: usize) -> usize
+fn read_behind(streams: Streams, input: &mut [u8], to: usize) -> usize
     requires { to ≤ length input.old }
     ensures { to + result ≤ length input.old }
 {
-    read_part(&mut input[to..])
+    read_part(streams, &mut input[to..])
 }
 
 // A read that fails is told on standard error, and is an end of the input otherwise.
-fn read_part(part: &mut [u8]) -> usize
+fn read_part(streams: Streams, part: &mut [u8]) -> usize
     ensures { result ≤ length part.old }
 {
-    let got = libc::read(STDIN_FILENO, part);
-    if got < 0 {
-        output::warn(b"tape: the input could not be read\n");
-    }
-    io::count(got, part)
+    let mut input = streams.input;
+    let Ok(got) = input.read(part) else {
+        output::warn(streams, b"tape: the input could not be read\n");
+        return 0;
+    };
+    got
 }

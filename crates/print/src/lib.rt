@@ -7,7 +7,7 @@ ghost use Rattle.entries.specs.Publication.{entry_length, publication_length};
 ghost use Rattle.output.specs.Output.{output_length};
 ghost use Rattle.print.specs.Print.{quad_length, label_length, entry_count};
 
-use output::Output;
+use output::{Output, Streams};
 use publication::Entry;
 use text::Maker;
 
@@ -48,22 +48,28 @@ impl Label {
     const COUNT: usize = 6;
 }
 
-pub fn put_cut(out: &mut Output, filled: usize) -> usize
+pub fn put_cut(streams: Streams, out: &mut Output, filled: usize) -> usize
     requires { filled ≤ output_length }
     ensures { result ≤ output_length }
 {
-    output::put_text(out, filled, b"cut\n")
+    output::put_text(streams, out, filled, b"cut\n")
 }
 
-pub fn put_setup(out: &mut Output, filled: usize, number: u8) -> usize
+pub fn put_setup(streams: Streams, out: &mut Output, filled: usize, number: u8) -> usize
     requires { filled ≤ output_length }
     ensures { result ≤ output_length }
 {
-    output::put_line(out, filled, b"setup", &[number as u64])
+    output::put_line(streams, out, filled, b"setup", &[number as u64])
 }
 
 /// A block's line, number, gap and expected, and of a taken block each message's index, code and flags.
-pub fn put_block(out: &mut Output, filled: usize, got: Got, answer: &[u8]) -> usize
+pub fn put_block(
+    streams: Streams,
+    out: &mut Output,
+    filled: usize,
+    got: Got,
+    answer: &[u8],
+) -> usize
     requires { filled ≤ output_length }
     ensures { result ≤ output_length }
 {
@@ -73,8 +79,9 @@ pub fn put_block(out: &mut Output, filled: usize, got: Got, answer: &[u8]) -> us
         got.gap as u64,
         got.expected as u64,
     ];
-    let at = output::put_line(out, filled, b"block", &numbers);
+    let at = output::put_line(streams, out, filled, b"block", &numbers);
     put_messages(
+        streams,
         out,
         at,
         least(got.messages, answer.len() / Quad::LEN),
@@ -91,7 +98,13 @@ fn least(a: usize, b: usize) -> usize
     a
 }
 
-fn put_messages(out: &mut Output, filled: usize, count: usize, answer: &[u8]) -> usize
+fn put_messages(
+    streams: Streams,
+    out: &mut Output,
+    filled: usize,
+    count: usize,
+    answer: &[u8],
+) -> usize
     requires filled_le_output_length { filled ≤ output_length }
     requires count_in_bounds { quad_length * count ≤ length answer.now }
     ensures { result ≤ output_length }
@@ -99,12 +112,12 @@ fn put_messages(out: &mut Output, filled: usize, count: usize, answer: &[u8]) ->
     let mut at = filled;
     for i in 0..count {
         let from = Quad::LEN * i;
-        at = put_message(out, at, &answer[from..from + Quad::LEN]);
+        at = put_message(streams, out, at, &answer[from..from + Quad::LEN]);
     }
     at
 }
 
-fn put_message(out: &mut Output, filled: usize, quad: &[u8]) -> usize
+fn put_message(streams: Streams, out: &mut Output, filled: usize, quad: &[u8]) -> usize
     requires filled_le_output_length { filled ≤ output_length }
     requires quad_len { length quad.now ≡ quad_length }
     ensures { result ≤ output_length }
@@ -112,23 +125,35 @@ fn put_message(out: &mut Output, filled: usize, quad: &[u8]) -> usize
     let index = field::get8(quad, Quad::INDEX) as u64;
     let code = field::get8(quad, Quad::CODE) as u64;
     let flags = field::get8(quad, Quad::FLAGS) as u64;
-    output::put_line(out, filled, b"msg", &[index, code, flags])
+    output::put_line(streams, out, filled, b"msg", &[index, code, flags])
 }
 
 /// A symbol and its six entries.
-pub fn put_symbol(out: &mut Output, filled: usize, name: &[u8], publication: &[u8]) -> usize
+pub fn put_symbol(
+    streams: Streams,
+    out: &mut Output,
+    filled: usize,
+    name: &[u8],
+    publication: &[u8],
+) -> usize
     requires filled_le_output_length { filled ≤ output_length }
     requires publication_len { length publication.now ≡ publication_length }
     ensures { result ≤ output_length }
 {
-    let word = output::put_text(out, filled, b"sym ");
-    let named = output::put_name(out, word, name);
-    let at = output::put(out, named, b'\n');
-    put_entries(out, at, b"NB NO FB FO OB OO ", publication)
+    let word = output::put_text(streams, out, filled, b"sym ");
+    let named = output::put_name(streams, out, word, name);
+    let at = output::put(streams, out, named, b'\n');
+    put_entries(streams, out, at, b"NB NO FB FO OB OO ", publication)
 }
 
 // Each entry behind its label.
-fn put_entries(out: &mut Output, filled: usize, labels: &[u8], publication: &[u8]) -> usize
+fn put_entries(
+    streams: Streams,
+    out: &mut Output,
+    filled: usize,
+    labels: &[u8],
+    publication: &[u8],
+) -> usize
     requires filled_le_output_length { filled ≤ output_length }
     requires labels_len { (length labels.now ≡ entry_count * label_length) × (length publication.now ≡ publication_length) }
     ensures { result ≤ output_length }
@@ -138,6 +163,7 @@ fn put_entries(out: &mut Output, filled: usize, labels: &[u8], publication: &[u8
         let l = k * Label::LEN;
         let e = k * Entry::LEN;
         at = put_entry(
+            streams,
             out,
             at,
             &labels[l..l + Label::LEN],
@@ -148,30 +174,30 @@ fn put_entries(out: &mut Output, filled: usize, labels: &[u8], publication: &[u8
 }
 
 // One entry; none is four spaces and zeros.
-fn put_entry(out: &mut Output, filled: usize, label: &[u8], entry: &[u8]) -> usize
+fn put_entry(streams: Streams, out: &mut Output, filled: usize, label: &[u8], entry: &[u8]) -> usize
     requires filled_le_output_length { filled ≤ output_length }
     requires label_len { (length label.now ≡ label_length) × (length entry.now ≡ entry_length) }
     ensures { result ≤ output_length }
 {
-    let at = output::put_text(out, filled, label);
+    let at = output::put_text(streams, out, filled, label);
     if field::get8(entry, 0) == b' ' {
-        return output::put_text(out, at, b"- - 0 0\n");
+        return output::put_text(streams, out, at, b"- - 0 0\n");
     }
-    put_standing(out, at, field::get8(label, Label::KIND), entry)
+    put_standing(streams, out, at, field::get8(label, Label::KIND), entry)
 }
 
 // Name, condition, price and size.
-fn put_standing(out: &mut Output, filled: usize, kind: u8, entry: &[u8]) -> usize
+fn put_standing(streams: Streams, out: &mut Output, filled: usize, kind: u8, entry: &[u8]) -> usize
     requires filled_le_output_length { filled ≤ output_length }
     requires len { length entry.now ≡ entry_length }
     ensures { result ≤ output_length }
 {
     let width = name_width(kind);
-    let at = output::put_name(out, filled, &entry[0..width]);
+    let at = output::put_name(streams, out, filled, &entry[0..width]);
     let condition = [b' ', condition(kind, entry)];
     let price = field::get64(entry, Entry::PRICE);
     let size = field::get32(entry, Entry::SIZE) as u64;
-    output::put_line(out, at, &condition, &[price, size])
+    output::put_line(streams, out, at, &condition, &[price, size])
 }
 
 // A maker's name has four bytes; of the others the first is the letter.

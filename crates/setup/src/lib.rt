@@ -8,7 +8,7 @@ ghost use Rattle.setup.specs.Setup.{setup_length, tape_symbols};
 
 use input::{Input, Stop, Tape};
 use opening::Book;
-use output::Output;
+use output::{Output, Streams};
 use text::Symbol;
 
 /// What a book is set up with.
@@ -38,29 +38,51 @@ impl Setup {
 }
 
 /// The whole setup behind its count of symbols. A count that make refuses stops it.
-pub fn set_up(book: &mut [u8], n: usize, input: &mut Input, out: &Output, counted: Tape) -> Tape
+pub fn set_up(
+    streams: Streams,
+    book: &mut [u8],
+    n: usize,
+    input: &mut Input,
+    out: &Output,
+    counted: Tape,
+) -> Tape
     requires { (n ≤ tape_symbols) × Held counted }
     ensures { Held result }
 {
     let number = book::make(book, n as u32);
     let made = counted.after(0, number);
-    let listed = each(book, Setup::Symbol, n, input, out, made);
-    open_lines(book, input, out, listed)
+    let listed = each(streams, book, Setup::Symbol, n, input, out, made);
+    open_lines(streams, book, input, out, listed)
 }
 
 // The count of lines and the lines; then the day is opened.
-fn open_lines(book: &mut [u8], input: &mut Input, out: &Output, listed: Tape) -> Tape
+fn open_lines(
+    streams: Streams,
+    book: &mut [u8],
+    input: &mut Input,
+    out: &Output,
+    listed: Tape,
+) -> Tape
     requires { Held listed }
     ensures { Held result }
 {
-    let lines = input::count(input, out, listed);
-    let opened = each(book, Setup::Line, lines.n as usize, input, out, lines.tape);
+    let lines = input::count(streams, input, out, listed);
+    let opened = each(
+        streams,
+        book,
+        Setup::Line,
+        lines.n as usize,
+        input,
+        out,
+        lines.tape,
+    );
     book::start_day(book);
     opened
 }
 
 // All the symbols, or all the lines.
 fn each(
+    streams: Streams,
     book: &mut [u8],
     what: Setup,
     count: usize,
@@ -73,17 +95,24 @@ fn each(
 {
     let mut tape = begun;
     for _ in 0..count {
-        tape = one(book, what, input, out, tape);
+        tape = one(streams, book, what, input, out, tape);
     }
     tape
 }
 
-fn one(book: &mut [u8], what: Setup, input: &mut Input, out: &Output, tape: Tape) -> Tape
+fn one(
+    streams: Streams,
+    book: &mut [u8],
+    what: Setup,
+    input: &mut Input,
+    out: &Output,
+    tape: Tape,
+) -> Tape
     requires { Held tape }
     ensures { Held result }
 {
     let len = setup_len(what);
-    let held = input::hold(input, out, tape, len, false);
+    let held = input::hold(streams, input, out, tape, len, false);
     let stop = held.stop;
     let Stop::Going = stop else {
         return held;

@@ -1,7 +1,7 @@
 -- A snapshot that is written decodes to what it carries; its blocks and bytes are those told beforehand; no block is over 1,000 bytes.
 -- Assumes nothing.
 use Prim.Native.Nat.{ℕ, zero, suc, ◌+◌, ◌*◌, ◌-◌, ◌%◌, ◌≤◌, ◌<◌}
-use mathlib.Core.Path.{◌≡◌, refl, sym, ap, ◌∙◌}
+use mathlib.Core.Path.{◌≡◌, refl, sym, ap, subst, ◌∙◌}
 use mathlib.Core.Bool.{Bool, true, false, ◌&&◌, cond}
 use mathlib.Core.Logic.{◌⊎◌, inl, inr, ⊎_elim}
 use mathlib.Core.List.{List, [], ◌∷◌, ◌++◌, map, append_assoc, append-nil}
@@ -121,6 +121,9 @@ module _ (x : Snapshot) (whole : Whole x) where
   about [] = rw (last-typed.symbol, same-list s)
   about (v ∷ vs) = rw ((letter-typed v).symbol, same-list s, about vs)
 
+  about-first : (vs : List Shown) → every_message (is_about (symbol_in (opening x w))) (closing x w vs) ≡ true
+  about-first vs = subst (λ (t : List ℕ). every_message (is_about t) (closing x w vs) ≡ true) (sym first-typed.symbol) (about vs)
+
   letters-back : (vs : List Shown) → map letter_in (of_letters x w vs) ≡ map (λ (v : Shown). v.letter) vs
   letters-back [] = refl
   letters-back (v ∷ vs) = λ i. letter-back s v w.symbol i ∷ letters-back vs i
@@ -138,7 +141,7 @@ module _ (x : Snapshot) (whole : Whole x) where
       let vs = x.letters in
       let d : is_distinct (map letter_in (of_letters x w vs)) ≡ true = ap is_distinct (letters-back vs) ∙ whole.once in
       rw (first-typed.is_c, no-consolidated vs, first-typed.is_p, participants vs, first-typed.is_f, finras vs)
-      (rw (first-typed.symbol, first-typed.is_c, known vs, same-list s, about vs, d)
+      (rw (about-first vs, first-typed.symbol, first-typed.is_c, known vs, same-list s, d)
       (λ i. some (record { symbol = s; national = national-back s x.national w.symbol w.national i; finra = finra-back s x.finra w.symbol w.finra i; letters = all_back vs whole.fits i })))
 
   -- ---- the messages from the blocks

@@ -1,7 +1,7 @@
 -- The best candidate not yet used, again and again: a walk down the candidates in order. And those not yet used are those behind the last one used.
 -- Assumes nothing.
 use Prim.Native.Nat.{ℕ, zero, suc, ◌+◌, ◌-◌, ◌≤◌, ◌<◌}
-use mathlib.Core.Path.{◌≡◌, refl, sym, ap, ◌∙◌}
+use mathlib.Core.Path.{◌≡◌, refl, sym, ap, subst, ◌∙◌}
 use mathlib.Core.Bool.{Bool, true, false, cond}
 use mathlib.Core.Logic.{inl, inr}
 use mathlib.Core.List.{List, [], ◌∷◌}
@@ -83,7 +83,7 @@ module _ (f : Candidate → ℕ) (c : Candidate) where
   unfolding without total
   total-without [] m d = absurd m
   total-without (x ∷ xs) (inl p) d =
-      rw p (go (cut x.name x.name))
+      subst (λ (y : Candidate). total f (x ∷ xs) ≡ f y + total f (without y.name (x ∷ xs))) (sym p) (go (cut x.name x.name))
     where
       go : Cut x.name x.name → f x + total f xs ≡ f x + total f (cond (eqb x.name x.name) (without x.name xs) (x ∷ without x.name xs))
       go (equal t e) = rw (t, without-none x.name xs d.0)
@@ -152,7 +152,7 @@ module _ (s : Side) where
   unfolding ranked
   in-ranked zero d cs m = absurd m
   in-ranked (suc k) d [] m = m
-  in-ranked (suc k) d (x ∷ xs) (inl p) = rw p (is-top x xs).member
+  in-ranked (suc k) d (x ∷ xs) (inl p) = subst (λ (y : Candidate). In y (x ∷ xs)) (sym p) (is-top x xs).member
   in-ranked (suc k) d (x ∷ xs) (inr m) = in_without (top x xs).name d (x ∷ xs) (in-ranked k d (without (top x xs).name (x ∷ xs)) m)
 
   -- no name twice

@@ -9,19 +9,31 @@ ghost use Rattle.setup.specs.Setup.{tape_symbols, Memory};
 
 use input::{Input, Stop, Tape};
 use opening::Book;
-use output::Output;
+use output::{Output, Streams};
 use setup::Setup;
 use text::Symbol;
 
-fn main() {
+fn main(rt: HostRuntime) {
+    let streams = Streams {
+        input: rt.stdin(),
+        output: rt.stdout(),
+        errors: rt.stderr(),
+    };
     let mut memory = [0; Setup::MEMORY];
     let mut input = [0; input::LEN];
     let mut out = [0; output::LEN];
-    let counted = input::count(&mut input, &out, Tape::START);
+    let counted = input::count(streams, &mut input, &out, Tape::START);
     let n = symbols(counted.n);
     let len = Book::OPENING_LEN + n * Book::PAGE_LEN;
-    let filled = play(&mut memory[0..len], n, &mut input, &mut out, counted.tape);
-    output::flush(&out, filled);
+    let filled = play(
+        streams,
+        &mut memory[0..len],
+        n,
+        &mut input,
+        &mut out,
+        counted.tape,
+    );
+    output::flush(streams, &out, filled);
 }
 
 // More than a tape may have count as none: make refuses both.
@@ -36,18 +48,25 @@ fn symbols(n: u8) -> usize
 }
 
 // A tape behind its count of symbols, on the memory of their book; what waits in the output buffer afterwards.
-fn play(book: &mut [u8], n: usize, input: &mut Input, out: &mut Output, counted: Tape) -> usize
+fn play(
+    streams: Streams,
+    book: &mut [u8],
+    n: usize,
+    input: &mut Input,
+    out: &mut Output,
+    counted: Tape,
+) -> usize
     requires memory { Memory n book.old }
     requires held { Held counted }
     ensures { result ≤ output_length }
 {
-    let opened = setup::set_up(book, n, input, out, counted);
-    let last = tapeblocks::take_blocks(book, input, out, opened);
-    finish(book, n, out, last)
+    let opened = setup::set_up(streams, book, n, input, out, counted);
+    let last = tapeblocks::take_blocks(streams, book, input, out, opened);
+    finish(streams, book, n, out, last)
 }
 
 // What is printed last: each symbol, or why the reading stopped.
-fn finish(book: &[u8], n: usize, out: &mut Output, last: Tape) -> usize
+fn finish(streams: Streams, book: &[u8], n: usize, out: &mut Output, last: Tape) -> usize
     requires memory { Memory n book.now }
     requires filled_le_output_length { last.filled ≤ output_length }
     ensures { result ≤ output_length }
@@ -56,14 +75,14 @@ fn finish(book: &[u8], n: usize, out: &mut Output, last: Tape) -> usize
     let stop = last.stop;
     match stop {
         Stop::Going => filled,
-        Stop::End => put_symbols(book, n, out, filled),
-        Stop::Cut => print::put_cut(out, filled),
-        Stop::Refused(number) => print::put_setup(out, filled, number),
+        Stop::End => put_symbols(streams, book, n, out, filled),
+        Stop::Cut => print::put_cut(streams, out, filled),
+        Stop::Refused(number) => print::put_setup(streams, out, filled, number),
     }
 }
 
 // Each symbol in the order added, with its six entries. A page begins with its symbol.
-fn put_symbols(book: &[u8], n: usize, out: &mut Output, filled: usize) -> usize
+fn put_symbols(streams: Streams, book: &[u8], n: usize, out: &mut Output, filled: usize) -> usize
     requires memory { Memory n book.now }
     requires filled_le_output_length { filled ≤ output_length }
     ensures { result ≤ output_length }
@@ -74,7 +93,7 @@ fn put_symbols(book: &[u8], n: usize, out: &mut Output, filled: usize) -> usize
         let e = a + Symbol::LEN;
         let mut publication = [0u8; Book::PUBLICATION_LEN];
         query::read(book, &book[a..e], &mut publication);
-        at = print::put_symbol(out, at, &book[a..e], &publication);
+        at = print::put_symbol(streams, out, at, &book[a..e], &publication);
     }
     at
 }

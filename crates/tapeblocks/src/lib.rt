@@ -7,31 +7,44 @@ ghost use Rattle.input.specs.Held.{Held, head_length};
 use block::Block;
 use calls::Report;
 use input::{Input, Record, Stop, Tape};
-use output::Output;
+use output::{Output, Streams};
 use print::Got;
 
 // Every record. Nothing says that a tape ends, so the turns are counted, from a number that no run uses up.
-pub fn take_blocks(book: &mut [u8], input: &mut Input, out: &mut Output, opened: Tape) -> Tape
+pub fn take_blocks(
+    streams: Streams,
+    book: &mut [u8],
+    input: &mut Input,
+    out: &mut Output,
+    opened: Tape,
+) -> Tape
     requires { Held opened }
     ensures { Held result }
 {
     let mut tape = opened;
     let mut turns = u64::MAX;
     while 0 < turns {
-        let record = input::next_record(input, out, tape);
+        let record = input::next_record(streams, input, out, tape);
         tape = record.tape;
         let stop = tape.stop;
         let Stop::Going = stop else {
             return tape;
         };
-        tape = take_block(book, input, out, tape, record.len);
+        tape = take_block(streams, book, input, out, tape, record.len);
         turns = turns - 1;
     }
     tape
 }
 
 // The record in hand.
-fn take_block(book: &mut [u8], input: &Input, out: &mut Output, tape: Tape, len: usize) -> Tape
+fn take_block(
+    streams: Streams,
+    book: &mut [u8],
+    input: &Input,
+    out: &mut Output,
+    tape: Tape,
+    len: usize,
+) -> Tape
     requires held { Held tape }
     requires head_length_le_len { (head_length ≤ len) × (tape.from + len ≤ tape.to) }
     ensures { Held result }
@@ -43,7 +56,7 @@ fn take_block(book: &mut [u8], input: &Input, out: &mut Output, tape: Tape, len:
     let line = field::get8(bytes, from);
     let mut answer = [0u8; Block::ANSWER_LEN];
     let got = take(book, line, &bytes[start..end], &mut answer);
-    let filled = print::put_block(out, tape.filled, got, &answer);
+    let filled = print::put_block(streams, out, tape.filled, got, &answer);
     Tape {
         from: end,
         to: tape.to,

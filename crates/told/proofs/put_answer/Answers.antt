@@ -8,7 +8,6 @@ use Rattle.told.proofs.put_answer.Goals as goal
 
 pub returns : goal.returns
 returns c =
-    let s = c in
-    let code : s.args.told.code < 256 = search rules in
-    let flags : s.args.told.flags < 256 = search rules in
-    c.put32.ensures ∙ ap (splice _ _) (quad_is s.args.i _ _ (omega arith) code flags)
+    let code : c.args.told.code < 256 = search rules in
+    let flags : c.args.told.flags < 256 = search rules in
+    c.put32.ensures ∙ ap (splice _ _) (quad_is c.args.i _ _ (omega arith) code flags)

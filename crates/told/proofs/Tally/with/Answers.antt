@@ -5,5 +5,4 @@ use Rattle.told.proofs.Tally.with.Goals as goal
 pub returns : goal.returns
 unfolding tally_with
 returns c =
-    let p = c in
-    rw (p.one_if.ensures.0, p.one_if-2.ensures.0, c.one_if-3.ensures.0, c.is_rejected.ensures)
+    rw (c.one_if.ensures.0, c.one_if-2.ensures.0, c.one_if-3.ensures.0, c.is_rejected.ensures)

@@ -1,0 +1,22 @@
+use Prim.Native.Nat.{ℕ, ◌-◌, ◌≤◌}
+use mathlib.Core.Path.{◌≡◌, sym, ◌∙◌}
+use mathlib.Core.Bool.{not}
+use Rattle.lists.specs.Lists.{first_from, is_some}
+use Rattle.lists.proofs.Searches.{first-start, first_found, first-again, first-end}
+use Rattle.makers.specs.Makers.{cell_of, free_place}
+use borrow.Author.Rules.{rules}
+use Rattle.page.specs.Layout.{maker_count}
+use Rattle.makers.proofs.free_place.Goals as goal
+
+pub loop-k-init : goal.loop-k-init
+unfolding free_place
+loop-k-init c = (search rules, first-start _ maker_count)
+
+pub returns-then-is_free : goal.returns-then-is_free
+returns-then-is_free c = first_found _ maker_count _ _ c.loop-k-test.true c.loop-k.invariant.1 (sym c.is_free.ensures ∙ c.if-is_free.true)
+
+pub loop-k-preserved : goal.loop-k-preserved
+loop-k-preserved c = (search rules, first-again _ maker_count _ _ c.loop-k-test.true c.loop-k.invariant.1 (sym c.is_free.ensures ∙ c.if-is_free.false))
+
+pub returns : goal.returns
+returns c = first-end _ maker_count _ _ c.loop-k-test.false c.loop-k.invariant.1

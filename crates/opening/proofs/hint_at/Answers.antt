@@ -1,0 +1,5 @@
+use Rattle.std.proofs.Common.{arith, rules}
+use Rattle.opening.proofs.hint_at.Goals as goal
+
+pub returns : goal.returns
+returns c = (omega arith, omega arith)

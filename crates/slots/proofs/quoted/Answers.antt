@@ -1,0 +1,24 @@
+use borrow.Author.Rules.{rules}
+use Rattle.slots.proofs.ReadLaws.{quote-key-fits, quoted-idle, quoted-own, quoted-other}
+use Rattle.slots.proofs.quoted.Reads as reads
+use Rattle.slots.proofs.quoted.Lts as lts
+use Rattle.field.proofs.get8.Reads as get8-reads
+use Rattle.field.proofs.low32.Reads as low32-reads
+use Rattle.keys.proofs.quote_key.Reads as quote-key-reads
+use Rattle.page.proofs.in_quote.Reads as in-quote-reads
+use Rattle.page.proofs.quote_key_at.Reads as quote-key-at-reads
+use Rattle.page.proofs.slot_at.Reads as slot-at-reads
+use Rattle.quote.proofs.Level.get.Reads as get-reads
+use Rattle.slots.proofs.quoted.Goals as goal
+
+pub returns-then-own-eq0 : goal.returns-then-own-eq0
+returns-then-own-eq0 c = quoted-idle _ _ c.requires.a_le_letter.0 c.requires.a_le_letter.1 _ _ _ _ _ _ c.slot_at-at.ensures c.get8-condition.ensures c.in_quote.ensures.0 c.get-level.ensures c.quote_key-own.ensures c.if-own-eq0.true
+
+pub low32-key-requires : goal.low32-key-requires
+low32-key-requires c = quote-key-fits c.args.side c.args.letter c.requires.a_le_letter.0 c.requires.a_le_letter.1 _ c.requires.page_len _ c.quote_key_at.ensures
+
+pub returns-then-key-own : goal.returns-then-key-own
+returns-then-key-own c = quoted-own _ _ c.requires.a_le_letter.0 c.requires.a_le_letter.1 _ _ _ _ _ _ c.slot_at-at.ensures c.get8-condition.ensures c.in_quote.ensures.0 c.get-level.ensures c.quote_key-own.ensures _ _ c.quote_key_at.ensures c.low32-key.ensures c.if-own-eq0.false c.if-key-own.true
+
+pub returns : goal.returns
+returns c = quoted-other _ _ c.requires.a_le_letter.0 c.requires.a_le_letter.1 _ _ _ _ _ _ c.slot_at-at.ensures c.get8-condition.ensures c.in_quote.ensures.0 c.get-level.ensures c.quote_key-own.ensures _ _ c.quote_key_at.ensures c.low32-key.ensures c.if-key-own.false

@@ -1,0 +1,15 @@
+use Prim.Native.Nat.{ℕ, ◌+◌, ◌*◌, ◌-◌, ◌≤◌}
+use mathlib.Core.Path.{◌≡◌, refl, ap, ◌∙◌}
+use native.Mathlib.Omega.{arith}
+use lib.ListN.{length}
+use Rattle.field.specs.Field.{splice}
+use Rattle.levels.specs.Levels.{item_length}
+use Rattle.venuerules.proofs.QuoteLaws.{item_in}
+use Rattle.venuequote.specs.Quote.{our_items}
+use Rattle.venuequote.proofs.WriteLaws.{items-start, items-again, items-end}
+use borrow.Author.Rules.{rules}
+use Rattle.venuequote.proofs.put_items.Given as goal
+
+abbrev pub invariant-loop-i : goal.invariant-loop-i
+invariant-loop-i l =
+    (l.i ≤ l.n) × ((length l.output ≡ length l.initial.output) × (splice l.output (l.to + item_length * l.i) (our_items l.form l.msg l.i (l.n - l.i)) ≡ splice l.initial.output l.to (our_items l.form l.msg 0 l.n)))

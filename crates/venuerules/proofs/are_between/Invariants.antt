@@ -1,0 +1,12 @@
+use Prim.Native.Nat.{◌-◌, ◌≤◌}
+use mathlib.Core.Path.{◌≡◌}
+use native.Mathlib.Omega.{arith}
+use lib.ListN.{length, drop, get_or}
+use borrow.Author.Tests.{le-leb, lt-leb}
+use Rattle.lists.specs.Lists.{every, between}
+use Rattle.lists.proofs.Searches.{every-fails, every-again, every-end}
+use borrow.Author.Rules.{rules}
+use Rattle.venuerules.proofs.are_between.Given as goal
+
+abbrev pub invariant-loop-i : goal.invariant-loop-i
+invariant-loop-i l = (l.i-end ≡ length l.s) × ((l.i ≤ length l.s) × (every (between l.low l.high) (drop l.i l.s) ≡ every (between l.low l.high) l.s))

@@ -1,0 +1,10 @@
+use mathlib.Core.Path.{refl}
+use borrow.Author.Rules.{rules}
+use Rattle.entries.specs.Entries.{as_d}
+use Rattle.walk.proofs.as_d.Goals as goal
+
+-- `walk::as_d` meets its contract.
+
+pub returns : goal.returns
+unfolding as_d
+returns c = refl

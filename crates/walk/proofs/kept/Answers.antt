@@ -1,0 +1,14 @@
+use borrow.Author.Rules.{rules}
+use Rattle.walk.proofs.LeadingLaws.{kept-late, kept-early}
+use Rattle.walk.proofs.kept.Reads as reads
+use Rattle.walk.proofs.kept.Lts as lts
+use Rattle.walk.proofs.won.Reads as won-reads
+use Rattle.walk.proofs.kept.Goals as goal
+
+-- `walk::kept` meets its contract.
+
+pub returns-then-best-by : goal.returns-then-best-by
+returns-then-best-by c = kept-late _ _ _ c.if-best-by.true c.won.ensures
+
+pub returns : goal.returns
+returns c = kept-early _ _ c.if-best-by.false

@@ -1,0 +1,24 @@
+use Prim.Native.Nat.{◌≤◌, ◌-◌, ◌+◌}
+use mathlib.Core.Path.{◌≡◌, refl}
+use Rattle.ranking.specs.Held.{no_lead}
+use Rattle.ranking.specs.code.Choice.{lead_from}
+use Rattle.walk.specs.code.Walk.{standing_at}
+use Rattle.field.specs.Ascii.{A}
+use Rattle.walk.proofs.StepLaws.{lead-again, lead-end}
+use borrow.Author.Rules.{rules}
+use Rattle.walk.proofs.lead_all.Reads as reads
+use Rattle.walk.proofs.lead_all.Lts as lts
+use Rattle.ranking.proofs.lead_with.Reads as lead-with-reads
+use Rattle.walk.proofs.standing.Reads as standing-reads
+use Rattle.walk.proofs.lead_all.Goals as goal
+
+-- `walk::lead_all` meets its contract.
+
+pub loop-letter-init : goal.loop-letter-init
+loop-letter-init c = (search rules, search rules, refl, refl)
+
+pub loop-letter-preserved : goal.loop-letter-preserved
+loop-letter-preserved c = (search rules, search rules, search rules, lead-again _ _ _ _ _ _ _ _ c.loop-letter-test.true c.loop-letter.invariant.3 c.standing.ensures c.lead_with-lead.ensures)
+
+pub returns : goal.returns
+returns c = lead-end _ _ _ _ _ _ c.loop-letter-test.false c.loop-letter.invariant.3

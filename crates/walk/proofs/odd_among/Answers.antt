@@ -1,0 +1,33 @@
+use borrow.Author.Rules.{rules}
+use Prim.Native.Nat.{◌<◌, ◌^◌}
+use native.Mathlib.Omega.{arith}
+use mathlib.Core.Path.{◌≡◌, refl}
+use Rattle.keysets.specs.Sets.{key_count, has, fold_set}
+use Rattle.keysets.proofs.FoldLaws.{lowest-member, fold-again, fold_end}
+use Rattle.ranking.specs.Held.{no_candidate}
+use Rattle.walk.specs.code.Walk.{odd_step}
+use Rattle.walk.proofs.KeyLaws.{odd-step, out-less-by}
+use Rattle.walk.proofs.odd_among.Reads as reads
+use Rattle.walk.proofs.odd_among.Lts as lts
+use Rattle.keysets.proofs.lowest.Reads as lowest-reads
+use Rattle.keysets.proofs.without.Reads as without-reads
+use Rattle.ranking.proofs.choose.Reads as choose-reads
+use Rattle.walk.proofs.odd_first.Reads as odd-first-reads
+use Rattle.walk.proofs.odd_among.Goals as goal
+
+-- `walk::odd_among` meets its contract.
+
+pub loop-left-init : goal.loop-left-init
+loop-left-init c = (search rules, refl)
+
+pub without-left-requires : goal.without-left-requires
+without-left-requires c = lowest-member _ _ (omega (arith, c.loop-left-test.true)) c.loop-left.invariant.0 c.lowest-i.ensures.0
+
+pub loop-left-smaller : goal.loop-left-smaller
+loop-left-smaller c = out-less-by _ _ _ (omega (arith, c.loop-left-test.true)) c.loop-left.invariant.0 c.lowest-i.ensures.0 c.without-left.ensures
+
+pub loop-left-preserved : goal.loop-left-preserved
+loop-left-preserved c = (omega (arith, c.without-left.ensures, c.loop-left.invariant.0), fold-again _ _ (omega (arith, c.loop-left-test.true)) c.loop-left.invariant.0 c.lowest-i.ensures.0 _ _ _ _ _ c.without-left.ensures (odd-step _ _ _ _ _ _ _ c.odd_first-next.ensures c.choose-best.ensures) c.loop-left.invariant.1)
+
+pub returns : goal.returns
+returns c = fold_end _ _ _ _ c.loop-left-test.false c.loop-left.invariant.1

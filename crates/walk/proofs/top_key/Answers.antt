@@ -1,0 +1,17 @@
+use borrow.Author.Rules.{rules}
+use Rattle.walk.proofs.KeyLaws.{row_fits, top-is}
+use Rattle.walk.proofs.top_key.Reads as reads
+use Rattle.walk.proofs.top_key.Lts as lts
+use Rattle.keys.proofs.key.Reads as key_reads
+use Rattle.keysets.proofs.higher.Reads as higher-reads
+use Rattle.keysets.proofs.top.Reads as top-reads
+use Rattle.page.proofs.quote_keys.Reads as quote-keys-reads
+use Rattle.walk.proofs.top_key.Goals as goal
+
+-- `walk::top_key` meets its contract.
+
+pub top-letters-requires : goal.top-letters-requires
+top-letters-requires c = row_fits c.args.side _ c.requires _ c.quote_keys.ensures.0
+
+pub returns : goal.returns
+returns c = top-is _ _ _ _ _ _ _ c.quote_keys.ensures.0 c.top-letters.ensures c.key.ensures c.higher.ensures

@@ -1,0 +1,11 @@
+use borrow.Author.Rules.{rules}
+use Rattle.walk.proofs.KeyLaws.{with-taken}
+use Rattle.walk.proofs.with_d.Reads as reads
+use Rattle.walk.proofs.with_d.Lts as lts
+use Rattle.keysets.proofs.with_member.Reads as with-member-reads
+use Rattle.walk.proofs.with_d.Goals as goal
+
+-- `walk::with_d` meets its contract.
+
+pub returns-then-d : goal.returns-then-d
+returns-then-d c = (with-taken _ _ _ c.if-d.true c.with_member.ensures.0, c.with_member.ensures.1)
