@@ -9,7 +9,7 @@ ROWS = os.path.join(ROOT, "tests", "rows")
 # the one crate of a scratch repository
 ONE = "scratch"
 # what the prover says of a row that is false
-FALSE = r"((as printed|computed as far as they go), the two types|this `◌▹◌` lands at index|expected type `)"
+FALSE = r"((as printed|computed as far as they go), the (first \d+ bytes of the )?two types|this `◌▹◌` lands at index|expected type `)"
 # what it says of what stands on a row that is false
 UNCHECKED = r"depends? on `[^`]+`, which was rejected"
 
