@@ -1,0 +1,14 @@
+use Prim.Native.Nat.{◌≤◌, ◌+◌, ◌-◌}
+use mathlib.Core.Path.{◌≡◌, ap}
+use native.Mathlib.Omega.{arith}
+use lib.ListN.{length}
+use Rattle.field.specs.Ascii.{A, Z}
+use Rattle.page.specs.Page.{quotes_in}
+use Rattle.feed.specs.code.Blocks.{shown_in}
+use Rattle.feed.proofs.LetterLaws.{count-again, count-end, count_low, shown-end}
+use borrow.Author.Rules.{rules}
+use Rattle.feed.proofs.behind.Given as goal
+
+abbrev pub invariant-loop-letter : goal.invariant-loop-letter
+invariant-loop-letter l =
+    (A ≤ l.letter) × ((l.letter ≤ Z + 1) × ((l.seen ≤ l.letter - A) × ((l.seen ≤ l.n) × (l.seen + length (shown_in l.page l.letter (Z + 1)) ≡ length (shown_in l.page A (Z + 1))))))
