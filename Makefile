@@ -2,7 +2,7 @@
 # make test   proves everything, tries every must-fail edit, reads the machine code, runs the examples in C, C++, Python and Rust and the Rust tests
 # make lib    proves the library, writes it for C, C++, Rust and Python to link, and says how
 # make install PREFIX=..   installs header, static and shared library, pkg-config and CMake files and the Python module (DESTDIR is put in front)
-# make reproduce   builds the library twice, from nothing and in two folders, and compares the two by hash: twice some minutes
+# make reproduce   builds the library twice, in two folders, and compares the two by hash: twice some minutes
 # make bench  measures the library beside the second implementation, and the walk of a page beside the same walk in C
 # make command   builds the execution reviewer's command, rust/target/release/quotebook (docs/REVIEWING.md)
 # make sample   writes the command's sample recording and a router's log to target/sample
@@ -21,6 +21,7 @@
 
 PREFIX ?= /usr/local
 archive = target/staticlib/libquotebook.a
+listing = target/staticlib/liblisting.a
 shared = target/sharedlib/libquotebook.so
 # The header has the version, as 10000 * major + 100 * minor + patch.
 number := $(shell sed -n 's/^.define QB_LIBRARY_VERSION //p' include/quotebook.h)
@@ -33,12 +34,14 @@ demo:
 test:
 	@tests/run
 
-# Never older than its sources: those of crate quotebook and of the crates that it uses.
-used := quotebook $(shell sed -n 's/^quotebook: //p' crates.txt)
-$(archive): crates.txt $(shell find $(used:%=crates/%) -name '*.rt' -o -name '*.antt')
-	@echo "Proving and compiling the library (rt staticlib quotebook): some minutes, the first time."
-	@mkdir -p target
-	@rt staticlib quotebook > target/staticlib.log 2>&1 || { cat target/staticlib.log; exit 1; }
+# Never older than its sources: those of crate quotebook and of the crates that it uses. What rt makes in out/ is none of them.
+used := quotebook $(shell sed -n 's/^quotebook staticlib: //p' crates.txt)
+$(archive): crates.txt $(shell find $(used:%=crates/%) -name out -prune -o \( -name '*.rt' -o -name '*.antt' \) -print)
+	@echo "Proving and compiling the library (rt lib in crates/quotebook): some minutes, the first time."
+	@install/archive quotebook
+
+$(listing): crates.txt $(shell find crates/listing $(patsubst %,crates/%,$(shell sed -n 's/^listing staticlib: //p' crates.txt)) -name out -prune -o \( -name '*.rt' -o -name '*.antt' \) -print)
+	@install/archive listing
 
 # The same machine code, position independent as it is, under the names of the header.
 $(shared): $(archive) install/exports.map
@@ -68,9 +71,8 @@ install: $(archive) $(shared)
 reproduce:
 	@tests/reproduce
 
-listing:
-	rt staticlib listing
-	objdump -d --no-show-raw-insn target/staticlib/liblisting.a
+listing: $(listing)
+	objdump -d --no-show-raw-insn $(listing)
 
 bench: $(archive)
 	@cargo run --release --offline --quiet --manifest-path rust/Cargo.toml -p bench

@@ -1,6 +1,6 @@
 //! Links the proved library.
 //!
-//! `rt staticlib quotebook` writes it, and is run whenever the library is missing or older than one of
+//! `install/archive quotebook` writes it, and is run whenever the library is missing or older than one of
 //! its sources, so that no program is linked with an older one. `QUOTEBOOK_LIB_DIR` names the folder of
 //! an installed library instead (`make install`); that one is linked as it is.
 
@@ -41,17 +41,21 @@ fn built() -> PathBuf {
     folder
 }
 
-/// The list of crates, and the folders of crate quotebook and of those that it uses.
+/// The list of crates, and the folders of crate quotebook and of those that it uses: what is written
+/// there, without the folder `out`, where the kit keeps what it makes.
 fn sources(root: &Path) -> Vec<PathBuf> {
     let list = root.join("crates.txt");
     let text = fs::read_to_string(&list).unwrap_or_default();
     let line = text
         .lines()
-        .find_map(|line| line.strip_prefix("quotebook:"));
+        .find_map(|line| line.strip_prefix("quotebook staticlib:"));
     let used = line.unwrap_or_default().split_whitespace();
     let crates = used.chain(["quotebook"]);
-    let folders = crates.map(|name| root.join("crates").join(name));
-    folders.chain([list.clone()]).collect()
+    let folders = crates.flat_map(|name| {
+        ["src", "specs", "proofs"].map(|part| root.join("crates").join(name).join(part))
+    });
+    let written = folders.filter(|folder| folder.is_dir());
+    written.chain([list.clone()]).collect()
 }
 
 fn modified(path: &Path) -> Option<SystemTime> {
@@ -76,11 +80,10 @@ fn newest(path: &Path) -> Option<SystemTime> {
 
 /// Proves the library and writes it.
 fn write_archive(root: &Path) -> Result<(), String> {
-    let mut command = Command::new("rt");
-    command.args(["staticlib", "quotebook"]).current_dir(root);
-    match command.status() {
+    let mut command = Command::new(root.join("install/archive"));
+    match command.arg("quotebook").status() {
         Ok(status) if status.success() => Ok(()),
-        Ok(_) => Err("`rt staticlib quotebook` failed; run it to see why".to_string()),
-        Err(error) => Err(format!("the Rattle kit's `rt` did not start ({error})")),
+        Ok(_) => Err("`install/archive quotebook` failed; run it to see why".to_string()),
+        Err(error) => Err(format!("`install/archive` did not start ({error})")),
     }
 }

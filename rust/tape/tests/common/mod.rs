@@ -16,7 +16,7 @@ const PROGRAM: &str = concat!(env!("CARGO_MANIFEST_DIR"), "/../../target/bin/tap
 pub fn command() -> Command {
     assert!(
         Path::new(PROGRAM).exists(),
-        "target/bin/tape is missing: `rt check tape` or `make demo` builds it"
+        "target/bin/tape is missing: `demo/build` builds it"
     );
     Command::new(PROGRAM)
 }
