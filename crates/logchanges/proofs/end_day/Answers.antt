@@ -1,0 +1,15 @@
+use Rattle.calls.specs.Call.{end_day}
+use mathlib.Core.Path.{refl}
+use borrow.Author.Rules.{rules}
+use Rattle.logcalls.proofs.RanLaws.{wrong-length, right-length, ran-bare}
+use Rattle.logchanges.proofs.end_day.Goals as goal
+
+pub returns-then-args-ne0 : goal.returns-then-args-ne0
+returns-then-args-ne0 c =
+    let a = c.args.args.now in
+    wrong-length _ _ 0 a (end_day) c.if-args-ne0.true
+
+pub returns : goal.returns
+returns c =
+    let a = c.args.args.now in
+    right-length _ _ 0 a (end_day) _ c.if-args-ne0.false (ran-bare _ _ (end_day) _ _ _ _ c.end_day-number.ensures refl c.put_bare.ensures)

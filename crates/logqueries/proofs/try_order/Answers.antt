@@ -1,0 +1,58 @@
+use Prim.Native.Nat.{ℕ, ◌+◌, ◌-◌, ◌≤◌}
+use mathlib.Core.Path.{refl, ap, ◌∙◌}
+use mathlib.Core.List.{List}
+use native.Mathlib.Omega.{arith}
+use lib.ListN.{take, drop}
+use borrow.Author.Rules.{rules}
+use Rattle.field.specs.Field.{field}
+use Rattle.sweep.specs.Sweep.{steps_length}
+use Rattle.calls.specs.Call.{try_order}
+use Rattle.calls.specs.Buffers.{order_out}
+use Rattle.logcalls.specs.Answers.{words_length, lent_of}
+use Rattle.logcalls.proofs.RoomLaws.{lent-most}
+use Rattle.logcalls.proofs.RanLaws.{too_short, long-enough, rest-is}
+use Rattle.logqueries.proofs.AskLaws.{ran-order}
+use Rattle.logqueries.proofs.try_order.Goals as goal
+
+pub returns-then-end-lt13 : goal.returns-then-end-lt13
+returns-then-end-lt13 c =
+    let a = c.args.args.now in
+    too_short _ _ 13 a (try_order (drop 13 a) (field a 0 1) (field a 1 4) (field a 5 8)) c.if-end-lt13.true
+
+pub overflow_add-e : goal.overflow_add-e
+overflow_add-e c =
+    let lent-short : c.lent-room.result ≤ steps_length =
+        rw c.lent-room.ensures (lent-most c.get64.result steps_length) in
+    omega (arith, lent-short)
+
+pub slice_bounds-try_order-end-2 : goal.slice_bounds-try_order-end-2
+slice_bounds-try_order-end-2 c =
+    let lent-short : c.lent-room.result ≤ steps_length =
+        rw c.lent-room.ensures (lent-most c.get64.result steps_length) in
+    omega (arith, lent-short)
+
+pub returns : goal.returns
+returns c =
+    let s = c.args in
+    let a = s.args.now in
+    long-enough _ _ 13 a (try_order (drop 13 a) (field a 0 1) (field a 1 4) (field a 5 8)) _ c.if-end-lt13.false
+    (ran-order
+    _
+    _
+    (field a 5 8)
+    _
+    _
+    _
+    _
+    _
+    c.requires
+    (drop 13 a)
+    (field a 0 1)
+    (field a 1 4)
+    _
+    _
+    (ap (λ (z : ℕ). words_length + z) (c.lent-room.ensures ∙ ap (λ (z : ℕ). lent_of z steps_length) c.get64.ensures))
+    (c.try_order-told.ensures ∙ (λ j. order_out s.book.now (rest-is 13 a j) (c.get8-mark.ensures j) (c.get32-lots.ensures j) (take (words_length + c.lent-room.result - words_length) (drop words_length s.output.now))))
+    c.try_order-told.auto.steps
+    refl
+    c.put_words.ensures)
