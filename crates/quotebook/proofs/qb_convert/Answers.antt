@@ -1,0 +1,6 @@
+use Rattle.quotebook.proofs.InterfaceLaws.{run-numbered}
+use borrow.Author.Rules.{rules}
+use Rattle.quotebook.proofs.qb_convert.Goals as goal
+
+pub returns : goal.returns
+returns c = run-numbered _ _ _ _ c.convert-told.ensures

@@ -1,0 +1,7 @@
+use Rattle.quotebook.proofs.InterfaceLaws.{query-told}
+use borrow.Author.Rules.{rules}
+use Rattle.quotebook.proofs.qb_is_protected.Goals as goal
+
+pub returns : goal.returns
+returns c =
+    query-told _ _ _ _ _ _ _ c.is_protected-told.result.yes c.one_for.ensures c.is_protected-told.ensures
