@@ -1,4 +1,3 @@
-use borrow.Author.Rules.{rules}
 use Rattle.allowance.proofs.ByteLaws.{unset-charged, charged-is}
 use Rattle.allowance.proofs.charge.Goals as goal
 

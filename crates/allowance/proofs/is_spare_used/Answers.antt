@@ -1,4 +1,3 @@
-use borrow.Author.Rules.{rules}
 use Rattle.allowance.proofs.ByteLaws.{spare-told}
 use Rattle.allowance.proofs.is_spare_used.Goals as goal
 

@@ -1,4 +1,3 @@
-use borrow.Author.Rules.{rules}
 use Rattle.allowance.proofs.ByteLaws.{unset-free, share-left, spare-asked}
 use Rattle.allowance.proofs.is_used_up.Goals as goal
 

@@ -1,4 +1,3 @@
-use borrow.Author.Rules.{rules}
 use Rattle.allowance.proofs.SettingLaws.{blocks-none, blocks-many, shares-count, shares-many, setting-good}
 use Rattle.allowance.proofs.judge.Goals as goal
 

@@ -1,9 +1,6 @@
-use Prim.Native.Nat.{◌+◌, ◌*◌, ◌-◌, ◌≤◌}
-use mathlib.Core.Path.{◌≡◌}
+use Prim.Native.Nat.{◌-◌}
 use native.Mathlib.Omega.{arith}
 use borrow.Author.Rules.{rules}
-use Rattle.allowance.specs.Allowance.{share_count}
-use Rattle.allowance.specs.code.Kept.{kept_from}
 use Rattle.allowance.proofs.ByteLaws.{kept-start, kept_step, kept-end}
 use Rattle.allowance.proofs.kept.Goals as goal
 

@@ -1,10 +1,7 @@
 use Prim.Native.Nat.{◌+◌, ◌*◌, ◌-◌, ◌≤◌}
 use mathlib.Core.Path.{◌≡◌}
-use native.Mathlib.Omega.{arith}
-use borrow.Author.Rules.{rules}
 use Rattle.allowance.specs.Allowance.{share_count}
 use Rattle.allowance.specs.code.Kept.{kept_from}
-use Rattle.allowance.proofs.ByteLaws.{kept-start, kept_step, kept-end}
 use Rattle.allowance.proofs.kept.Given as goal
 
 abbrev pub invariant-loop-i : goal.invariant-loop-i

@@ -1,11 +1,7 @@
-use Prim.Native.Nat.{◌+◌, ◌*◌, ◌-◌, ◌≤◌}
-use mathlib.Core.Path.{◌≡◌}
+use Prim.Native.Nat.{◌-◌}
 use native.Mathlib.Omega.{arith}
-use lib.ListN.{drop}
 use borrow.Author.Rules.{rules}
-use Rattle.lists.specs.Lists.{sum}
 use Rattle.lists.proofs.Searches.{sum_step, sum-none}
-use Rattle.allowance.specs.Allowance.{share_count}
 use Rattle.allowance.proofs.total.Goals as goal
 
 pub loop-i-preserved : goal.loop-i-preserved

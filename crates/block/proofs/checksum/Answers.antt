@@ -1,4 +1,3 @@
-use Rattle.std.proofs.Common.{rules}
 use Rattle.block.proofs.SumLaws.{own-inside, checksum-is}
 use Rattle.block.proofs.checksum.Goals as goal
 

@@ -1,4 +1,4 @@
-use Rattle.std.proofs.Common.{◌∙◌, rules}
+use Rattle.std.proofs.Common.{◌∙◌}
 use Rattle.field.proofs.Laws.{field-one}
 use Rattle.block.proofs.count.Goals as goal
 

@@ -1,8 +1,7 @@
-use Rattle.std.proofs.Common.{◌≡◌, ◌-◌, ◌≤◌, rules, le-leb}
+use Rattle.std.proofs.Common.{◌-◌, rules, le-leb}
 use borrow.Author.Tests.{lt-leb}
-use Rattle.lists.specs.Lists.{all}
 use Rattle.lists.proofs.Searches.{all_start, all-fails, all-again, all_end}
-use Rattle.block.specs.Block.{spaced, spaced_at}
+use Rattle.block.specs.Block.{spaced}
 use Rattle.block.proofs.is_spaced.Goals as goal
 
 pub loop-i-init : goal.loop-i-init

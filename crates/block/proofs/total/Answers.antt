@@ -1,5 +1,4 @@
-use Rattle.std.proofs.Common.{◌≡◌, ◌+◌, ◌-◌, ◌*◌, ◌≤◌, length, drop, arith, rules}
-use Rattle.lists.specs.Lists.{sum}
+use Rattle.std.proofs.Common.{◌-◌, arith, rules}
 use Rattle.lists.proofs.Searches.{sum_step, sum-none}
 use Rattle.block.proofs.total.Goals as goal
 

@@ -1,6 +1,5 @@
-use Rattle.std.proofs.Common.{◌≡◌, ◌+◌, ◌-◌, ◌*◌, ◌≤◌, length, drop, arith, rules}
+use Rattle.std.proofs.Common.{◌≡◌, ◌+◌, ◌-◌, ◌*◌, ◌≤◌, length, drop}
 use Rattle.lists.specs.Lists.{sum}
-use Rattle.lists.proofs.Searches.{sum_step, sum-none}
 use Rattle.block.proofs.total.Given as goal
 
 abbrev pub invariant-loop-i : goal.invariant-loop-i

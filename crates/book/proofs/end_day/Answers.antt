@@ -2,7 +2,6 @@ use mathlib.Core.Path.{refl, sym, ◌∙◌}
 use native.Mathlib.Omega.{arith}
 use Rattle.opening.proofs.ReadLaws.{opening-room}
 use Rattle.book.proofs.CallLaws.{turned_down, carried-out, day-passed, end-judged, end-small, end_after}
-use borrow.Author.Rules.{rules}
 use Rattle.book.proofs.end_day.Goals as goal
 
 -- `book::end_day` meets its contract.

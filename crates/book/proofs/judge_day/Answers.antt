@@ -2,7 +2,6 @@ use mathlib.Core.Path.{sym, ◌∙◌}
 use native.Mathlib.Omega.{arith}
 use Rattle.opening.proofs.ReadLaws.{opening-room}
 use Rattle.book.proofs.CallLaws.{day-unsound, day-asked, day-else}
-use borrow.Author.Rules.{rules}
 use Rattle.book.proofs.judge_day.Goals as goal
 
 -- `book::judge_day` meets its contract.

@@ -1,7 +1,6 @@
 use mathlib.Core.Path.{refl, sym, ◌∙◌}
 use Rattle.calls.proofs.NumberLaws.{number-unsound}
 use Rattle.book.proofs.CallLaws.{open_above, open-letter, open-standing, open-new}
-use borrow.Author.Rules.{rules}
 use Rattle.book.proofs.judge_line.Goals as goal
 
 pub returns-then-line-gt-LAST : goal.returns-then-line-gt-LAST

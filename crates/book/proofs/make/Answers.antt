@@ -2,7 +2,6 @@ use mathlib.Core.Path.{refl}
 use Rattle.line.specs.Line.{done}
 use Rattle.opening.proofs.WriteLaws.{made-is}
 use Rattle.book.proofs.CallLaws.{refused, carried-out, make-none, make-many, make-length, make-zero, make-after}
-use borrow.Author.Rules.{rules}
 use Rattle.book.proofs.make.Goals as goal
 
 pub returns-then-n-lt1 : goal.returns-then-n-lt1

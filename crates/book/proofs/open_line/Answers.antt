@@ -1,6 +1,5 @@
 use mathlib.Core.Path.{refl, sym, ◌∙◌}
 use Rattle.book.proofs.CallLaws.{turned_down, carried-out, open-small, open-passed, open_after}
-use borrow.Author.Rules.{rules}
 use Rattle.book.proofs.open_line.Goals as goal
 
 pub returns-then-number-ne0 : goal.returns-then-number-ne0

@@ -4,7 +4,6 @@ use native.Mathlib.Omega.{arith}
 use Rattle.opening.specs.Opening.{sound}
 use Rattle.opening.proofs.ReadLaws.{opening-room, pages-room}
 use Rattle.book.proofs.CallLaws.{turned_down, carried-out, day-passed, start-judged, start_small, start-after}
-use borrow.Author.Rules.{rules}
 use Rattle.book.proofs.start_day.Goals as goal
 
 -- `book::start_day` meets its contract.
@@ -15,25 +14,25 @@ returns-then-number-ne0 c = turned_down _ _ refl _ (start_small _) (c.judge_day-
 pub get8-n-requires : goal.get8-n-requires
 get8-n-requires c =
     let sound-is : sound c.args.book.now ≡ true =
-        day-passed _ _ _ _ c.judge_day-number.ensures c.if-number-ne0.false (λ z. omega arith) in
+    day-passed _ _ _ _ c.judge_day-number.ensures c.if-number-ne0.false (λ z. omega arith) in
     omega (arith, opening-room _ sound-is)
 
 pub empty_pages-requires : goal.empty_pages-requires
 empty_pages-requires c =
     let sound-is : sound c.args.book.now ≡ true =
-        day-passed _ _ _ _ c.judge_day-number.ensures c.if-number-ne0.false (λ z. omega arith) in
+    day-passed _ _ _ _ c.judge_day-number.ensures c.if-number-ne0.false (λ z. omega arith) in
     pages-room _ _ sound-is c.get8-n.ensures
 
 pub restart_lines-requires : goal.restart_lines-requires
 restart_lines-requires c =
     let sound-is : sound c.args.book.now ≡ true =
-        day-passed _ _ _ _ c.judge_day-number.ensures c.if-number-ne0.false (λ z. omega arith) in
+    day-passed _ _ _ _ c.judge_day-number.ensures c.if-number-ne0.false (λ z. omega arith) in
     omega (arith, opening-room _ sound-is)
 
 pub put8-requires : goal.put8-requires
 put8-requires c =
     let sound-is : sound c.args.book.now ≡ true =
-        day-passed _ _ _ _ c.judge_day-number.ensures c.if-number-ne0.false (λ z. omega arith) in
+    day-passed _ _ _ _ c.judge_day-number.ensures c.if-number-ne0.false (λ z. omega arith) in
     omega (arith, opening-room _ sound-is)
 
 pub returns : goal.returns

@@ -1,6 +1,5 @@
 use mathlib.Core.Path.{sym, ◌∙◌}
 use Rattle.calls.proofs.ConvertLaws.{length-told, length-unsound}
-use borrow.Author.Rules.{rules}
 use Rattle.convert.proofs.convert_len.Goals as goal
 
 pub returns-then-is_sound : goal.returns-then-is_sound

@@ -1,7 +1,6 @@
 use native.Mathlib.Omega.{arith}
 use Rattle.venuequote.proofs.WriteLaws.{ready-quote}
 use Rattle.convert.proofs.LotLaws.{lot-round, lot-odd, lot-other, symbol-is}
-use borrow.Author.Rules.{rules}
 use Rattle.convert.proofs.lot_for.Goals as goal
 
 pub put_symbol-requires : goal.put_symbol-requires

@@ -1,13 +1,9 @@
-use Prim.Native.Nat.{◌-◌, ◌≤◌}
-use mathlib.Core.Path.{◌≡◌, refl, ◌∙◌}
+use Prim.Native.Nat.{◌-◌}
+use mathlib.Core.Path.{refl, ◌∙◌}
 use mathlib.Core.Bool.{true}
 use native.Mathlib.Omega.{arith}
-use lib.ListN.{length, length-set}
-use Rattle.field.specs.Field.{splice}
-use Rattle.venue.specs.Venue.{venue_from, venue_messages}
-use Rattle.venuerun.specs.code.Walk.{stands}
+use lib.ListN.{length-set}
 use Rattle.venuerun.proofs.StandLaws.{reached, here, ready-here, there}
-use Rattle.convert.specs.code.Lots.{lots_for}
 use Rattle.convert.proofs.LotLaws.{lots-stand, lots-few, lots-start, lots-again, lots-end}
 use borrow.Author.Rules.{rules}
 use Rattle.convert.proofs.put_lots.Goals as goal

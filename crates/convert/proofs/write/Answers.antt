@@ -1,6 +1,5 @@
 use native.Mathlib.Omega.{arith}
 use Rattle.convert.proofs.OutLaws.{run-by-lots}
-use borrow.Author.Rules.{rules}
 use Rattle.convert.proofs.write.Goals as goal
 
 pub put_lots-requires : goal.put_lots-requires

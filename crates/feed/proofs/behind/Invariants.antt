@@ -1,12 +1,8 @@
 use Prim.Native.Nat.{◌≤◌, ◌+◌, ◌-◌}
-use mathlib.Core.Path.{◌≡◌, ap}
-use native.Mathlib.Omega.{arith}
+use mathlib.Core.Path.{◌≡◌}
 use lib.ListN.{length}
 use Rattle.field.specs.Ascii.{A, Z}
-use Rattle.page.specs.Page.{quotes_in}
 use Rattle.feed.specs.code.Blocks.{shown_in}
-use Rattle.feed.proofs.LetterLaws.{count-again, count-end, count_low, shown-end}
-use borrow.Author.Rules.{rules}
 use Rattle.feed.proofs.behind.Given as goal
 
 abbrev pub invariant-loop-letter : goal.invariant-loop-letter

@@ -1,11 +1,7 @@
-use Prim.Native.Nat.{◌≤◌, ◌+◌, ◌-◌}
-use mathlib.Core.Path.{◌≡◌, refl}
+use Prim.Native.Nat.{◌-◌}
 use native.Mathlib.Omega.{arith}
-use lib.ListN.{length}
-use Rattle.field.specs.Ascii.{A, Z}
 use Rattle.page.specs.Page.{quotes_in}
 use Rattle.snapshot.proofs.ShownLaws.{few}
-use Rattle.feed.specs.code.Blocks.{shown_in}
 use Rattle.feed.proofs.LetterLaws.{count-again, count-end, count_low}
 use borrow.Author.Rules.{rules}
 use Rattle.feed.proofs.count.Goals as goal
@@ -16,17 +12,16 @@ pub loop-letter-init : goal.loop-letter-init
 loop-letter-init c = (search rules, (search rules, (search rules, omega arith)))
 
 pub loop-letter-preserved : goal.loop-letter-preserved
-loop-letter-preserved c =
+loop-letter-preserved c = (
+  search rules,
+  (
+    search rules,
     (
-      search rules,
-      (
-        search rules,
-        (
-          omega (arith, count_low _ _ c.is_shown.result c.counted-n.ensures, c.loop-letter.invariant.0, c.loop-letter.invariant.1.1.0),
-          count-again _ _ _ _ _ _ _ c.loop-letter-test.true c.loop-letter.invariant.1.1.1 c.is_shown.ensures c.counted-n.ensures,
-        ),
-      ),
-    )
+      omega (arith, count_low _ _ c.is_shown.result c.counted-n.ensures, c.loop-letter.invariant.0, c.loop-letter.invariant.1.1.0),
+      count-again _ _ _ _ _ _ _ c.loop-letter-test.true c.loop-letter.invariant.1.1.1 c.is_shown.ensures c.counted-n.ensures,
+    ),
+  ),
+)
 
 pub returns : goal.returns
 returns c =

@@ -1,5 +1,4 @@
 use Rattle.feed.proofs.LetterLaws.{count_yes, count_no}
-use borrow.Author.Rules.{rules}
 use Rattle.feed.proofs.counted.Goals as goal
 
 -- `feed::counted` meets its contract.

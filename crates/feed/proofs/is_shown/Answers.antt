@@ -2,7 +2,6 @@ use Prim.Native.Nat.{ℕ}
 use mathlib.Core.Path.{ap, ◌∙◌}
 use Rattle.field.specs.Field.{field}
 use Rattle.feed.proofs.LetterLaws.{shown-d, shown-s, shown-quoted}
-use borrow.Author.Rules.{rules}
 use Rattle.feed.proofs.is_shown.Goals as goal
 
 -- `feed::is_shown` meets its contract.

@@ -1,7 +1,5 @@
-use native.Mathlib.Omega.{arith}
 use Rattle.field.specs.Field.{part}
 use Rattle.feed.proofs.BlockLaws.{first-is}
-use borrow.Author.Rules.{rules}
 use Rattle.feed.proofs.put_first.Goals as goal
 
 -- `feed::put_first` meets its contract.

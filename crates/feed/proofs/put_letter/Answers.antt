@@ -1,7 +1,5 @@
 use mathlib.Core.Path.{sym, ◌∙◌}
-use native.Mathlib.Omega.{arith}
 use Rattle.feed.proofs.LetterLaws.{put-shown, put-hidden, room-shown}
-use borrow.Author.Rules.{rules}
 use Rattle.feed.proofs.put_letter.Goals as goal
 
 -- `feed::put_letter` meets its contract.

@@ -1,13 +1,10 @@
 use Prim.Native.Nat.{◌≤◌, ◌+◌, ◌*◌, ◌-◌}
-use mathlib.Core.Path.{◌≡◌, refl, ◌∙◌}
-use native.Mathlib.Omega.{arith}
+use mathlib.Core.Path.{◌≡◌}
 use lib.ListN.{length}
 use Rattle.field.specs.Field.{splice}
 use Rattle.block.specs.Written.{joined}
 use Rattle.snapshot.specs.Feed.{participant_length}
 use Rattle.feed.specs.code.Blocks.{shown_in, of_p}
-use Rattle.feed.proofs.LetterLaws.{room-again, room-one, letters-again, letters-end}
-use borrow.Author.Rules.{rules}
 use Rattle.feed.proofs.put_letters.Given as goal
 
 abbrev pub invariant-loop-letter : goal.invariant-loop-letter

@@ -2,7 +2,6 @@ use mathlib.Core.Path.{refl}
 use native.Mathlib.Omega.{arith}
 use Rattle.field.specs.Field.{part}
 use Rattle.feed.proofs.BlockLaws.{only-is}
-use borrow.Author.Rules.{rules}
 use Rattle.feed.proofs.put_only.Goals as goal
 
 -- `feed::put_only` meets its contract.

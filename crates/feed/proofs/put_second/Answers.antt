@@ -2,7 +2,6 @@ use mathlib.Core.Path.{refl}
 use native.Mathlib.Omega.{arith}
 use Rattle.field.specs.Field.{part}
 use Rattle.feed.proofs.BlockLaws.{second_is}
-use borrow.Author.Rules.{rules}
 use Rattle.feed.proofs.put_second.Goals as goal
 
 -- `feed::put_second` meets its contract.

@@ -1,6 +1,5 @@
 use native.Mathlib.Omega.{arith}
 use Rattle.feed.proofs.FeedLaws.{length-alone, length_two}
-use borrow.Author.Rules.{rules}
 use Rattle.feed.proofs.write.Goals as goal
 
 -- `feed::write` meets its contract.

@@ -2,7 +2,6 @@ use mathlib.Core.Path.{sym, ap, ◌∙◌}
 use native.Mathlib.Omega.{arith}
 use Rattle.snapshot.specs.Sizes.{feed_length}
 use Rattle.feed.proofs.FeedLaws.{only-into, length-alone}
-use borrow.Author.Rules.{rules}
 use Rattle.feed.proofs.write_one.Goals as goal
 
 -- `feed::write_one` meets its contract.

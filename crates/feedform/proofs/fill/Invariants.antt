@@ -1,11 +1,7 @@
-use Prim.Native.Nat.{ℕ, ◌+◌, ◌-◌, ◌≤◌}
-use mathlib.Core.Path.{◌≡◌, refl, ap, ap₂}
-use native.Mathlib.Omega.{arith}
-use native.Mathlib.Nat.{add-zero, sub-zero}
-use lib.ListN.{length, replicate, length-set}
+use Prim.Native.Nat.{◌+◌, ◌-◌, ◌≤◌}
+use mathlib.Core.Path.{◌≡◌}
+use lib.ListN.{length, replicate}
 use Rattle.field.specs.Field.{splice}
-use Rattle.feedform.proofs.WriteLaws.{fill-again, fill_end}
-use borrow.Author.Rules.{rules}
 use Rattle.feedform.proofs.fill.Given as goal
 
 abbrev pub invariant-loop-i : goal.invariant-loop-i

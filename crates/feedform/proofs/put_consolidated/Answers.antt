@@ -1,6 +1,5 @@
 use Rattle.field.specs.Field.{part}
 use Rattle.feedform.proofs.WriteLaws.{consolidated-is}
-use borrow.Author.Rules.{rules}
 use Rattle.feedform.proofs.put_consolidated.Goals as goal
 
 -- `feedform::put_consolidated` meets its contract.

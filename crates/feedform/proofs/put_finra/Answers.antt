@@ -1,6 +1,5 @@
 use Rattle.field.specs.Field.{part}
 use Rattle.feedform.proofs.WriteLaws.{finra-is}
-use borrow.Author.Rules.{rules}
 use Rattle.feedform.proofs.put_finra.Goals as goal
 
 -- `feedform::put_finra` meets its contract.

@@ -1,6 +1,5 @@
 use Rattle.field.specs.Field.{part}
 use Rattle.feedform.proofs.WriteLaws.{finra-side-is}
-use borrow.Author.Rules.{rules}
 use Rattle.feedform.proofs.put_finra_side.Goals as goal
 
 -- `feedform::put_finra_side` meets its contract.

@@ -1,6 +1,5 @@
 use Rattle.field.specs.Field.{part}
 use Rattle.feedform.proofs.WriteLaws.{national-is}
-use borrow.Author.Rules.{rules}
 use Rattle.feedform.proofs.put_national.Goals as goal
 
 -- `feedform::put_national` meets its contract.

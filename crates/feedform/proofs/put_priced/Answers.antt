@@ -1,5 +1,4 @@
 use Rattle.feedform.proofs.WriteLaws.{priced-is}
-use borrow.Author.Rules.{rules}
 use Rattle.feedform.proofs.put_priced.Goals as goal
 
 -- `feedform::put_priced` meets its contract.

@@ -1,4 +1,3 @@
-use borrow.Author.Rules.{rules}
 use Rattle.feedform.proofs.seal.Goals as goal
 
 -- `feedform::seal` meets its contract.

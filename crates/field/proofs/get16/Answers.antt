@@ -2,7 +2,6 @@ use mathlib.Core.Path.{ap, ◌∙◌}
 use Rattle.field.specs.Field.{Bytes}
 use Rattle.field.specs.code.Swap.{swapped}
 use Rattle.field.proofs.LowLaws.{swapped-low}
-use borrow.Author.Rules.{rules}
 use Rattle.field.proofs.get16.Goals as goal
 
 pub returns : goal.returns

@@ -1,6 +1,5 @@
 use mathlib.Core.Path.{sym}
 use Rattle.field.proofs.Laws.{field-one}
-use borrow.Author.Rules.{rules}
 use Rattle.field.proofs.get8.Goals as goal
 
 pub returns : goal.returns

@@ -1,6 +1,5 @@
 use Prim.Native.Nat.{◌+◌}
 use Rattle.field.proofs.LowLaws.{low-join, low-one}
-use borrow.Author.Rules.{rules}
 use Rattle.field.proofs.low16.Goals as goal
 
 pub returns : goal.returns

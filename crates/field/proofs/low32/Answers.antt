@@ -1,5 +1,4 @@
 use Rattle.field.proofs.LowLaws.{low-join}
-use borrow.Author.Rules.{rules}
 use Rattle.field.proofs.low32.Goals as goal
 
 pub returns : goal.returns

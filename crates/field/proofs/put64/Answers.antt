@@ -1,5 +1,4 @@
 use Rattle.field.proofs.LowLaws.{le_bytes-swapped}
-use borrow.Author.Rules.{rules}
 use Rattle.field.proofs.put64.Goals as goal
 
 pub returns : goal.returns

@@ -2,7 +2,6 @@ use mathlib.Core.Path.{sym, ap, ◌∙◌}
 use native.Mathlib.Omega.{arith}
 use Rattle.field.specs.Field.{splice}
 use Rattle.field.proofs.Laws.{splice-one, be_bytes-one}
-use borrow.Author.Rules.{rules}
 use Rattle.field.proofs.put8.Goals as goal
 
 pub returns : goal.returns

@@ -1,5 +1,4 @@
 use Rattle.field.proofs.LowLaws.{put-low-join, le_bytes-one}
-use borrow.Author.Rules.{rules}
 use Rattle.field.proofs.put_low16.Goals as goal
 
 pub returns : goal.returns

@@ -1,5 +1,4 @@
 use Rattle.field.proofs.LowLaws.{swap-two}
-use borrow.Author.Rules.{rules}
 use Rattle.field.proofs.swap16.Goals as goal
 
 pub returns : goal.returns

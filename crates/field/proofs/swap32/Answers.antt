@@ -1,5 +1,4 @@
 use Rattle.field.proofs.LowLaws.{swap_four}
-use borrow.Author.Rules.{rules}
 use Rattle.field.proofs.swap32.Goals as goal
 
 pub returns : goal.returns

@@ -1,5 +1,4 @@
 use Rattle.field.proofs.LowLaws.{swap-join}
-use borrow.Author.Rules.{rules}
 use Rattle.field.proofs.swap64.Goals as goal
 
 pub returns : goal.returns

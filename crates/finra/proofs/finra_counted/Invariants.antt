@@ -1,10 +1,7 @@
 use Prim.Native.Nat.{◌-◌}
-use native.Mathlib.Omega.{arith}
-use native.Mathlib.Nat.{sub-zero}
 use Rattle.update.specs.Parts.{finra_on}
 use Rattle.opening.specs.Opening.{each_page}
-use Rattle.finra.proofs.FinraLaws.{Marking, marking-start, marking-again, marking-end, Joined, joined-start, joined-again, joined_end}
-use borrow.Author.Rules.{rules}
+use Rattle.finra.proofs.FinraLaws.{Marking, Joined}
 use Rattle.finra.proofs.finra_counted.Given as goal
 
 abbrev pub invariant-loop-k : goal.invariant-loop-k

@@ -1,9 +1,6 @@
 use Prim.Native.Nat.{◌-◌}
 use mathlib.Core.Path.{refl}
-use Rattle.update.specs.Parts.{finra_on}
-use Rattle.opening.specs.Opening.{each_page}
-use Rattle.finra.proofs.FinraLaws.{Marking, marking-start, marking-again, marking-end}
-use borrow.Author.Rules.{rules}
+use Rattle.finra.proofs.FinraLaws.{marking-start, marking-again, marking-end}
 use Rattle.finra.proofs.finra_others.Goals as goal
 
 pub loop-k-init : goal.loop-k-init

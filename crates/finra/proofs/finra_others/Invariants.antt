@@ -1,9 +1,7 @@
 use Prim.Native.Nat.{◌-◌}
-use mathlib.Core.Path.{refl}
 use Rattle.update.specs.Parts.{finra_on}
 use Rattle.opening.specs.Opening.{each_page}
-use Rattle.finra.proofs.FinraLaws.{Marking, marking-start, marking-again, marking-end}
-use borrow.Author.Rules.{rules}
+use Rattle.finra.proofs.FinraLaws.{Marking}
 use Rattle.finra.proofs.finra_others.Given as goal
 
 abbrev pub invariant-loop-k : goal.invariant-loop-k

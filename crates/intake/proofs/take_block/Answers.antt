@@ -2,7 +2,6 @@ use mathlib.Core.Path.{sym, ◌∙◌}
 use native.Mathlib.Omega.{arith}
 use Rattle.opening.proofs.OpeningLaws.{sound-of}
 use Rattle.calls.proofs.TakenLaws.{entered, taken-by, taken-run}
-use borrow.Author.Rules.{rules}
 use Rattle.intake.proofs.take_block.Goals as goal
 
 pub run-tally-requires : goal.run-tally-requires

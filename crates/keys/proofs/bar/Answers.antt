@@ -1,8 +1,5 @@
 use Rattle.std.proofs.Common.{rules}
 use Rattle.keys.proofs.KeyLaws.{bar-below, bar-full, full-some}
-use Rattle.keys.proofs.bar.Reads as reads
-use Rattle.keys.proofs.bar.Lts as lts
-use Rattle.keys.proofs.key.Reads as key_reads
 use Rattle.keys.proofs.bar.Goals as goal
 
 -- src/lib.rt:61:9

@@ -1,9 +1,5 @@
 use Rattle.std.proofs.Common.{rules}
 use Rattle.keys.proofs.KeyLaws.{key-bid, key-offer}
-use Rattle.keys.proofs.key.Reads as reads
-use Rattle.keys.proofs.key.Lts as lts
-use Rattle.keys.proofs.short.Reads as short-reads
-use Rattle.std.proofs.num.wrapping_sub_u32.Reads as wrapping-sub-u32-reads
 use Rattle.keys.proofs.key.Goals as goal
 
 -- src/lib.rt:30:9

@@ -1,8 +1,5 @@
 use Rattle.std.proofs.Common.{rules}
 use Rattle.keys.proofs.KeyLaws.{level-none, level-some}
-use Rattle.keys.proofs.level_key.Reads as reads
-use Rattle.keys.proofs.level_key.Lts as lts
-use Rattle.keys.proofs.key.Reads as key_reads
 use Rattle.keys.proofs.level_key.Goals as goal
 
 -- src/lib.rt:42:9

@@ -1,9 +1,5 @@
 use Rattle.std.proofs.Common.{rules}
 use Rattle.keys.proofs.KeyLaws.{side-admitted, side-not}
-use Rattle.keys.proofs.quote_key.Reads as reads
-use Rattle.keys.proofs.quote_key.Lts as lts
-use Rattle.keys.proofs.level_key.Reads as level-key-reads
-use Rattle.quote.proofs.admits.Reads as admits-reads
 use Rattle.keys.proofs.quote_key.Goals as goal
 
 -- src/lib.rt:51:8

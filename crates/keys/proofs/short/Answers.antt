@@ -1,7 +1,5 @@
 use Rattle.std.proofs.Common.{rules}
 use Rattle.keys.proofs.KeyLaws.{short-below, short-full}
-use Rattle.keys.proofs.short.Reads as reads
-use Rattle.keys.proofs.short.Lts as lts
 use Rattle.keys.proofs.short.Goals as goal
 
 -- src/lib.rt:21:16

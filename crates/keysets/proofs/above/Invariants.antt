@@ -1,13 +1,9 @@
 use mathlib.Core.Path.{◌≡◌}
-use mathlib.Core.Bool.{Bool, cond}
+use mathlib.Core.Bool.{Bool}
 use mathlib.Core.List.{List}
-use Prim.Native.Nat.{ℕ, ◌-◌, ◌^◌, ◌≤◌}
+use Prim.Native.Nat.{ℕ, ◌-◌, ◌≤◌}
 use lib.Dec.{ltb}
-use borrow.Author.Rules.{rules}
-use mir.Facts.{Fits-bits}
 use Rattle.keysets.specs.Sets.{key_at, key_count, set_of}
-use Rattle.keysets.proofs.KeyLaws.{weight-at}
-use Rattle.keysets.proofs.SetLaws.{set-end, set-fits, set-step}
 use Rattle.keysets.proofs.above.Given as goal
 
 abbrev pub asked : ℕ → ℕ → Bool

@@ -1,6 +1,6 @@
-use Prim.Native.Nat.{◌-◌, ◌≤◌}
+use Prim.Native.Nat.{◌-◌}
 use borrow.Author.Rules.{rules}
-use Rattle.keysets.specs.Sets.{NoneAbove, key_at, key_count}
+use Rattle.keysets.specs.Sets.{key_at}
 use Rattle.keysets.proofs.KeyLaws.{none-start, none-step, none_end}
 use Rattle.keysets.proofs.top.Goals as goal
 

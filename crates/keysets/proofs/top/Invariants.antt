@@ -1,7 +1,5 @@
 use Prim.Native.Nat.{◌-◌, ◌≤◌}
-use borrow.Author.Rules.{rules}
 use Rattle.keysets.specs.Sets.{NoneAbove, key_at, key_count}
-use Rattle.keysets.proofs.KeyLaws.{none-start, none-step, none_end}
 use Rattle.keysets.proofs.top.Given as goal
 
 abbrev pub invariant-loop-i : goal.invariant-loop-i

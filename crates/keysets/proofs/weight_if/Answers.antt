@@ -1,5 +1,4 @@
 use native.Mathlib.Omega.{arith}
-use borrow.Author.Rules.{rules}
 use Rattle.keysets.proofs.SetLaws.{one_shl}
 use Rattle.keysets.proofs.weight_if.Goals as goal
 

@@ -1,5 +1,4 @@
 use Rattle.levels.proofs.CellLaws.{when_false}
-use borrow.Author.Rules.{rules}
 use Rattle.levels.proofs.is_gone.Goals as goal
 
 pub returns : goal.returns

@@ -1,7 +1,6 @@
 use mathlib.Core.Path.{sym, ◌∙◌}
 use Rattle.levels.specs.code.Cells.{ordered_of}
 use Rattle.levels.proofs.CellLaws.{when_true, when_false}
-use borrow.Author.Rules.{rules}
 use Rattle.levels.proofs.ordered.Goals as goal
 
 pub returns-then-is_ahead : goal.returns-then-is_ahead

@@ -1,7 +1,6 @@
 use mathlib.Core.Path.{sym, ◌∙◌}
 use Rattle.levels.specs.code.Cells.{standing_behind}
 use Rattle.levels.proofs.CellLaws.{when_true, when_false}
-use borrow.Author.Rules.{rules}
 use Rattle.levels.proofs.standing_behind.Goals as goal
 
 pub returns-then-is_ahead : goal.returns-then-is_ahead

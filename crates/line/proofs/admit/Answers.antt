@@ -15,7 +15,7 @@ returns-then-is_idle c = admit-idle _ _ _ _ _ c.requires.0 (sym c.is_idle.ensure
 pub sequence-sequence-requires : goal.sequence-sequence-requires
 sequence-sequence-requires c =
     let passes : Passed c.args.block.now c.args.c =
-        passed _ _ c.requires.0 in
+    passed _ _ c.requires.0 in
     let p = passes in omega (arith, p.long)
 
 -- c fits 32 bits
@@ -23,17 +23,17 @@ sequence-sequence-requires c =
 pub overflow_cast-c : goal.overflow_cast-c
 overflow_cast-c c =
     let passes : Passed c.args.block.now c.args.c =
-        passed _ _ c.requires.0 in
+    passed _ _ c.requires.0 in
     let small : c.args.c < 2 ^ 32 =
-        let p = passes in omega (arith, p.table.few, p.counted) in
+    let p = passes in omega (arith, p.table.few, p.counted) in
     let h = small in search rules
 
 pub overflow_cast-c-then-day : goal.overflow_cast-c-then-day
 overflow_cast-c-then-day c =
     let passes : Passed c.args.block.now c.args.c =
-        passed _ _ c.requires.0 in
+    passed _ _ c.requires.0 in
     let small : c.args.c < 2 ^ 32 =
-        let p = passes in omega (arith, p.table.few, p.counted) in
+    let p = passes in omega (arith, p.table.few, p.counted) in
     let h = small in search rules
 
 pub returns-in_default : goal.returns-in_default

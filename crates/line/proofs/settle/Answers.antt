@@ -1,5 +1,4 @@
 use Rattle.line.proofs.GateLaws.{settle-free, settle-charged}
-use borrow.Author.Rules.{rules}
 use Rattle.line.proofs.settle.Goals as goal
 
 pub returns-then-free : goal.returns-then-free

@@ -1,4 +1,3 @@
-use mathlib.Core.Path.{refl}
 use lib.Dec.{eqb, leb}
 use lib.ListN.{length, drop}
 use Rattle.field.specs.Field.{field}

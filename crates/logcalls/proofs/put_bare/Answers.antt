@@ -1,4 +1,3 @@
-use borrow.Author.Rules.{rules}
 use Rattle.logcalls.proofs.RanLaws.{put-bare-is}
 use Rattle.logcalls.proofs.put_bare.Goals as goal
 

@@ -1,10 +1,6 @@
-use Prim.Native.Nat.{◌*◌, ◌-◌, ◌≤◌}
-use mathlib.Core.Path.{◌≡◌, refl, sym, ◌∙◌}
-use native.Mathlib.Omega.{arith}
-use lib.ListN.{length, drop}
+use Prim.Native.Nat.{◌-◌}
+use mathlib.Core.Path.{refl, ◌∙◌}
 use borrow.Author.Rules.{rules}
-use Rattle.field.specs.Field.{splice}
-use Rattle.logcalls.specs.Answers.{words_bytes, words_count}
 use Rattle.logcalls.proofs.WordLaws.{words-again, words-end}
 use Rattle.logcalls.proofs.put_words.Goals as goal
 

@@ -1,11 +1,8 @@
 use Prim.Native.Nat.{◌*◌, ◌-◌, ◌≤◌}
-use mathlib.Core.Path.{◌≡◌, refl, sym, ◌∙◌}
-use native.Mathlib.Omega.{arith}
+use mathlib.Core.Path.{◌≡◌}
 use lib.ListN.{length, drop}
-use borrow.Author.Rules.{rules}
 use Rattle.field.specs.Field.{splice}
 use Rattle.logcalls.specs.Answers.{words_bytes, words_count}
-use Rattle.logcalls.proofs.WordLaws.{words-again, words-end}
 use Rattle.logcalls.proofs.put_words.Given as goal
 
 abbrev pub invariant-loop-i : goal.invariant-loop-i

@@ -1,4 +1,3 @@
-use mathlib.Core.Path.{ap, ◌∙◌}
 use borrow.Author.Rules.{rules}
 use Rattle.logcalls.proofs.RanLaws.{done-one, done_none}
 use Rattle.logchanges.proofs.answer_len.Goals as goal

@@ -1,6 +1,5 @@
 use Rattle.calls.specs.Call.{end_day}
 use mathlib.Core.Path.{refl}
-use borrow.Author.Rules.{rules}
 use Rattle.logcalls.proofs.RanLaws.{wrong-length, right-length, ran-bare}
 use Rattle.logchanges.proofs.end_day.Goals as goal
 

@@ -1,6 +1,5 @@
 use Rattle.field.specs.Field.{field}
 use mathlib.Core.Path.{ap}
-use borrow.Author.Rules.{rules}
 use Rattle.calls.specs.Call.{make}
 use Rattle.logcalls.proofs.RanLaws.{wrong-length, right-length, ran-bare}
 use Rattle.logchanges.proofs.make.Goals as goal

@@ -1,6 +1,5 @@
 use Rattle.calls.specs.Call.{tick}
 use mathlib.Core.Path.{refl}
-use borrow.Author.Rules.{rules}
 use Rattle.logcalls.proofs.RanLaws.{wrong-length, right-length, ran-bare}
 use Rattle.logchanges.proofs.next_tick.Goals as goal
 

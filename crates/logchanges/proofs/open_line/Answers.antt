@@ -1,5 +1,4 @@
 use Rattle.field.specs.Field.{field}
-use borrow.Author.Rules.{rules}
 use Rattle.calls.specs.Call.{open_line}
 use Rattle.logcalls.proofs.RanLaws.{wrong-length, right-length, ran-bare}
 use Rattle.logchanges.proofs.open_line.Goals as goal

@@ -1,6 +1,5 @@
 use lib.ListN.{drop}
 use Rattle.field.specs.Field.{field}
-use borrow.Author.Rules.{rules}
 use Rattle.calls.specs.Call.{set_allowance}
 use Rattle.logcalls.proofs.RanLaws.{too_short, long-enough, rest-is, ran-bare}
 use Rattle.logchanges.proofs.set_allowance.Goals as goal

@@ -5,7 +5,6 @@ use mathlib.Core.List.{List}
 use native.Mathlib.Omega.{arith}
 use lib.ListN.{drop}
 use lib.ListN as lists
-use borrow.Author.Rules.{rules}
 use Rattle.block.specs.Block.{answer_length, count_in}
 use Rattle.field.specs.Field.{field}
 use Rattle.line.specs.Line.{done}
@@ -24,19 +23,19 @@ returns-then-end-lt12 c =
 pub overflow_add-e : goal.overflow_add-e
 overflow_add-e c =
     let lent-short : c.lent-room.result ≤ answer_length =
-        rw c.lent-room.ensures (lent-most c.get64.result answer_length) in
+    rw c.lent-room.ensures (lent-most c.get64.result answer_length) in
     omega (arith, lent-short)
 
 pub slice_bounds-take_block-end-2 : goal.slice_bounds-take_block-end-2
 slice_bounds-take_block-end-2 c =
     let lent-short : c.lent-room.result ≤ answer_length =
-        rw c.lent-room.ensures (lent-most c.get64.result answer_length) in
+    rw c.lent-room.ensures (lent-most c.get64.result answer_length) in
     omega (arith, lent-short)
 
 pub put_words-requires : goal.put_words-requires
 put_words-requires c =
     let lent-short : c.lent-room.result ≤ answer_length =
-        rw c.lent-room.ensures (lent-most c.get64.result answer_length) in
+    rw c.lent-room.ensures (lent-most c.get64.result answer_length) in
     let o = c.args.output.now in
     omega (arith, lent-long o c.lent-room.result _ refl (omega (arith, lent-short, c.requires)) c.take_block-told.new.answer c.take_block-told.auto.answer, c.requires)
 

@@ -1,9 +1,7 @@
-use Prim.Native.Nat.{◌-◌, ◌≤◌, ◌<◌}
-use mathlib.Core.Path.{◌≡◌, refl, ap, ◌∙◌}
-use native.Mathlib.Omega.{arith}
-use lib.ListN.{length, drop}
+use Prim.Native.Nat.{◌-◌}
+use mathlib.Core.Path.{refl, ap, ◌∙◌}
 use borrow.Author.Rules.{rules}
-use Rattle.logform.specs.Log.{mixed, check_from, check_of}
+use Rattle.logform.specs.Log.{mixed, check_of}
 use Rattle.logform.proofs.LogLaws.{word-again, byte-again, check-end}
 use Rattle.logform.proofs.check_of.Goals as goal
 

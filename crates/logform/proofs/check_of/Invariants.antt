@@ -1,10 +1,7 @@
 use Prim.Native.Nat.{◌-◌, ◌≤◌, ◌<◌}
-use mathlib.Core.Path.{◌≡◌, refl, ap, ◌∙◌}
-use native.Mathlib.Omega.{arith}
+use mathlib.Core.Path.{◌≡◌}
 use lib.ListN.{length, drop}
-use borrow.Author.Rules.{rules}
-use Rattle.logform.specs.Log.{mixed, check_from, check_of}
-use Rattle.logform.proofs.LogLaws.{word-again, byte-again, check-end}
+use Rattle.logform.specs.Log.{check_from, check_of}
 use Rattle.logform.proofs.check_of.Given as goal
 
 abbrev pub invariant-loop-at : goal.invariant-loop-at

@@ -1,5 +1,4 @@
 use mathlib.Core.Path.{refl}
-use borrow.Author.Rules.{rules}
 use Rattle.logform.proofs.LogLaws.{entry-end, entry-short, entry-small, entry-cut, entry-wrong, entry-right}
 use Rattle.logform.proofs.entry_at.Goals as goal
 

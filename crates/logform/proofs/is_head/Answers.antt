@@ -1,4 +1,3 @@
-use borrow.Author.Rules.{rules}
 use Rattle.logform.proofs.LogLaws.{head-short, head-mark, head-version, head-check}
 use Rattle.logform.proofs.is_head.Goals as goal
 

@@ -1,5 +1,4 @@
 use native.Mathlib.Omega.{arith}
-use borrow.Author.Rules.{rules}
 use Rattle.logform.proofs.LogLaws.{head-long, head-told, head-none}
 use Rattle.logform.proofs.read_head.Goals as goal
 

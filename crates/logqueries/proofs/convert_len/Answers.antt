@@ -1,5 +1,4 @@
 use mathlib.Core.Path.{refl}
-use borrow.Author.Rules.{rules}
 use Rattle.calls.specs.Call.{convert_len}
 use Rattle.logqueries.proofs.AskLaws.{ran-words}
 use Rattle.logqueries.proofs.convert_len.Goals as goal

@@ -1,8 +1,6 @@
-use Prim.Native.Nat.{ℕ}
-use mathlib.Core.Path.{refl, ap, sym, ◌∙◌}
-use mathlib.Core.List.{List, [], ◌∷◌}
+use mathlib.Core.Path.{refl, sym, ◌∙◌}
+use mathlib.Core.List.{[], ◌∷◌}
 use lib.ListN.{drop}
-use borrow.Author.Rules.{rules}
 use Rattle.field.specs.Field.{field}
 use Rattle.calls.specs.Call.{protected, call}
 use Rattle.logcalls.proofs.RanLaws.{too_short, long-enough, rest-is}

@@ -3,7 +3,6 @@ use mathlib.Core.Path.{ap, ◌∙◌}
 use mathlib.Core.List.{List}
 use native.Mathlib.Omega.{arith}
 use lib.ListN.{take, drop}
-use borrow.Author.Rules.{rules}
 use Rattle.field.specs.Field.{field}
 use Rattle.entries.specs.Publication.{publication_length}
 use Rattle.calls.specs.Call.{read}
@@ -22,13 +21,13 @@ returns-then-end-lt8 c =
 pub overflow_add-e : goal.overflow_add-e
 overflow_add-e c =
     let lent-short : c.lent-room.result ≤ publication_length =
-        rw c.lent-room.ensures (lent-most c.get64.result publication_length) in
+    rw c.lent-room.ensures (lent-most c.get64.result publication_length) in
     omega (arith, lent-short)
 
 pub slice_bounds-read-end-2 : goal.slice_bounds-read-end-2
 slice_bounds-read-end-2 c =
     let lent-short : c.lent-room.result ≤ publication_length =
-        rw c.lent-room.ensures (lent-most c.get64.result publication_length) in
+    rw c.lent-room.ensures (lent-most c.get64.result publication_length) in
     omega (arith, lent-short)
 
 pub returns : goal.returns

@@ -1,9 +1,8 @@
 use Prim.Native.Nat.{ℕ, ◌+◌, ◌-◌, ◌≤◌}
-use mathlib.Core.Path.{◌≡◌, refl, ap, ◌∙◌}
+use mathlib.Core.Path.{ap, ◌∙◌}
 use mathlib.Core.List.{List, []}
 use native.Mathlib.Omega.{arith}
 use lib.ListN.{take, drop}
-use borrow.Author.Rules.{rules}
 use Rattle.field.specs.Field.{field}
 use Rattle.calls.specs.Call.{snapshot}
 use Rattle.calls.specs.Buffers.{feed_out}
@@ -21,19 +20,19 @@ returns-then-end-lt8 c =
 pub overflow_add-e : goal.overflow_add-e
 overflow_add-e c =
     let lent-short : c.lent-room.result ≤ filled_most =
-        rw c.lent-room.ensures (lent-most c.get64.result filled_most) in
+    rw c.lent-room.ensures (lent-most c.get64.result filled_most) in
     omega (arith, lent-short)
 
 pub slice_bounds-snapshot-end-2 : goal.slice_bounds-snapshot-end-2
 slice_bounds-snapshot-end-2 c =
     let lent-short : c.lent-room.result ≤ filled_most =
-        rw c.lent-room.ensures (lent-most c.get64.result filled_most) in
+    rw c.lent-room.ensures (lent-most c.get64.result filled_most) in
     omega (arith, lent-short)
 
 pub overflow_add-result : goal.overflow_add-result
 overflow_add-result c =
     let short : c.snapshot-told.result.bytes ≤ filled_most =
-        feed-most c.args.book.now c.args.output.now c.get64.result (words_length + c.lent-room.result) _ _ _ [] c.requires _ _ (ap (λ (z : ℕ). words_length + z) c.lent-room.ensures) c.snapshot-told.ensures c.snapshot-told.auto.output in
+    feed-most c.args.book.now c.args.output.now c.get64.result (words_length + c.lent-room.result) _ _ _ [] c.requires _ _ (ap (λ (z : ℕ). words_length + z) c.lent-room.ensures) c.snapshot-told.ensures c.snapshot-told.auto.output in
     omega (arith, short)
 
 pub returns : goal.returns

@@ -1,9 +1,7 @@
 use Prim.Native.Nat.{ℕ, ◌+◌, ◌-◌, ◌≤◌}
 use mathlib.Core.Path.{refl, ap, ◌∙◌}
-use mathlib.Core.List.{List}
 use native.Mathlib.Omega.{arith}
 use lib.ListN.{take, drop}
-use borrow.Author.Rules.{rules}
 use Rattle.field.specs.Field.{field}
 use Rattle.sweep.specs.Sweep.{steps_length}
 use Rattle.calls.specs.Call.{try_order}
@@ -22,13 +20,13 @@ returns-then-end-lt13 c =
 pub overflow_add-e : goal.overflow_add-e
 overflow_add-e c =
     let lent-short : c.lent-room.result ≤ steps_length =
-        rw c.lent-room.ensures (lent-most c.get64.result steps_length) in
+    rw c.lent-room.ensures (lent-most c.get64.result steps_length) in
     omega (arith, lent-short)
 
 pub slice_bounds-try_order-end-2 : goal.slice_bounds-try_order-end-2
 slice_bounds-try_order-end-2 c =
     let lent-short : c.lent-room.result ≤ steps_length =
-        rw c.lent-room.ensures (lent-most c.get64.result steps_length) in
+    rw c.lent-room.ensures (lent-most c.get64.result steps_length) in
     omega (arith, lent-short)
 
 pub returns : goal.returns

@@ -1,8 +1,7 @@
-use Prim.Native.Nat.{◌-◌, ◌≤◌}
-use mathlib.Core.Path.{◌≡◌, refl}
+use Prim.Native.Nat.{◌-◌}
+use mathlib.Core.Path.{refl}
 use native.Mathlib.Omega.{arith}
-use lib.ListN.{length, replicate, length-set}
-use Rattle.field.specs.Field.{splice}
+use lib.ListN.{length-set}
 use Rattle.makers.proofs.CellLaws.{clear-again, clear-end}
 use borrow.Author.Rules.{rules}
 use Rattle.makers.proofs.clear.Goals as goal

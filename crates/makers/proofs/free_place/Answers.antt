@@ -1,9 +1,7 @@
-use Prim.Native.Nat.{ℕ, ◌-◌, ◌≤◌}
-use mathlib.Core.Path.{◌≡◌, sym, ◌∙◌}
-use mathlib.Core.Bool.{not}
-use Rattle.lists.specs.Lists.{first_from, is_some}
+use Prim.Native.Nat.{◌-◌}
+use mathlib.Core.Path.{sym, ◌∙◌}
 use Rattle.lists.proofs.Searches.{first-start, first_found, first-again, first-end}
-use Rattle.makers.specs.Makers.{cell_of, free_place}
+use Rattle.makers.specs.Makers.{free_place}
 use borrow.Author.Rules.{rules}
 use Rattle.page.specs.Layout.{maker_count}
 use Rattle.makers.proofs.free_place.Goals as goal

@@ -1,10 +1,8 @@
 use Prim.Native.Nat.{ℕ, ◌-◌, ◌≤◌}
-use mathlib.Core.Path.{◌≡◌, sym, ◌∙◌}
+use mathlib.Core.Path.{◌≡◌}
 use mathlib.Core.Bool.{not}
 use Rattle.lists.specs.Lists.{first_from, is_some}
-use Rattle.lists.proofs.Searches.{first-start, first_found, first-again, first-end}
 use Rattle.makers.specs.Makers.{cell_of, free_place}
-use borrow.Author.Rules.{rules}
 use Rattle.page.specs.Layout.{maker_count}
 use Rattle.makers.proofs.free_place.Given as goal
 

@@ -1,6 +1,5 @@
 use mathlib.Core.Path.{sym, ◌∙◌}
 use Rattle.quote.specs.Quote.{empty_quote}
-use borrow.Author.Rules.{rules}
 use Rattle.makers.proofs.is_empty.Goals as goal
 
 pub returns-then-is_empty_side : goal.returns-then-is_empty_side

@@ -1,6 +1,5 @@
 use mathlib.Core.Path.{sym, ◌∙◌}
 use Rattle.makers.proofs.CellLaws.{named-is, named-not}
-use borrow.Author.Rules.{rules}
 use Rattle.makers.proofs.is_named.Goals as goal
 
 pub returns-then-is_standing : goal.returns-then-is_standing

@@ -1,6 +1,5 @@
 use mathlib.Core.Path.{sym, ◌∙◌}
 use Rattle.makers.proofs.CellLaws.{standing-is}
-use borrow.Author.Rules.{rules}
 use Rattle.makers.proofs.is_standing.Goals as goal
 
 pub returns : goal.returns

@@ -1,8 +1,7 @@
-use Prim.Native.Nat.{ℕ, ◌-◌, ◌≤◌}
-use mathlib.Core.Path.{◌≡◌, sym, ◌∙◌}
-use Rattle.lists.specs.Lists.{first_from}
+use Prim.Native.Nat.{◌-◌}
+use mathlib.Core.Path.{sym, ◌∙◌}
 use Rattle.lists.proofs.Searches.{first-start, first_found, first-again, first-end}
-use Rattle.makers.specs.Makers.{named, cell_of, maker_place}
+use Rattle.makers.specs.Makers.{maker_place}
 use borrow.Author.Rules.{rules}
 use Rattle.page.specs.Layout.{maker_count}
 use Rattle.makers.proofs.maker_place.Goals as goal

@@ -1,9 +1,7 @@
 use Prim.Native.Nat.{ℕ, ◌-◌, ◌≤◌}
-use mathlib.Core.Path.{◌≡◌, sym, ◌∙◌}
+use mathlib.Core.Path.{◌≡◌}
 use Rattle.lists.specs.Lists.{first_from}
-use Rattle.lists.proofs.Searches.{first-start, first_found, first-again, first-end}
 use Rattle.makers.specs.Makers.{named, cell_of, maker_place}
-use borrow.Author.Rules.{rules}
 use Rattle.page.specs.Layout.{maker_count}
 use Rattle.makers.proofs.maker_place.Given as goal
 

@@ -3,7 +3,6 @@ use mathlib.Core.Path.{sym, ◌∙◌}
 use native.Mathlib.Omega.{arith}
 use lib.ListN.{length}
 use Rattle.makers.proofs.CellLaws.{mark-standing, mark-free}
-use borrow.Author.Rules.{rules}
 use Rattle.page.specs.Layout.{cell_length, cell_at}
 use Rattle.makers.proofs.mark_cell.Goals as goal
 

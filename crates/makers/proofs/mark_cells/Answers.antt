@@ -1,11 +1,8 @@
-use Prim.Native.Nat.{◌-◌, ◌≤◌}
-use mathlib.Core.Path.{◌≡◌, refl, ◌∙◌}
+use Prim.Native.Nat.{◌-◌}
+use mathlib.Core.Path.{refl, ◌∙◌}
 use native.Mathlib.Nat.{sub-zero}
-use lib.ListN.{length}
-use Rattle.makers.specs.Makers.{mark_cells}
 use Rattle.makers.proofs.CellLaws.{mark-again, mark-end}
 use borrow.Author.Rules.{rules}
-use Rattle.page.specs.Layout.{maker_count}
 use Rattle.makers.proofs.mark_cells.Goals as goal
 
 pub loop-k-init : goal.loop-k-init

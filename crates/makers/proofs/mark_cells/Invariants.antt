@@ -1,10 +1,7 @@
 use Prim.Native.Nat.{◌-◌, ◌≤◌}
-use mathlib.Core.Path.{◌≡◌, refl, ◌∙◌}
-use native.Mathlib.Nat.{sub-zero}
+use mathlib.Core.Path.{◌≡◌}
 use lib.ListN.{length}
 use Rattle.makers.specs.Makers.{mark_cells}
-use Rattle.makers.proofs.CellLaws.{mark-again, mark-end}
-use borrow.Author.Rules.{rules}
 use Rattle.page.specs.Layout.{maker_count}
 use Rattle.makers.proofs.mark_cells.Given as goal
 

@@ -1,6 +1,5 @@
 use mathlib.Core.Path.{sym, ◌∙◌}
 use Rattle.makers.proofs.CellLaws.{put-maker, free-maker}
-use borrow.Author.Rules.{rules}
 use Rattle.makers.proofs.put_cell.Goals as goal
 
 pub returns-then-is_empty : goal.returns-then-is_empty

@@ -1,5 +1,4 @@
 use Rattle.makers.proofs.CellLaws.{over-maker}
-use borrow.Author.Rules.{rules}
 use Rattle.makers.proofs.put_cell_over.Goals as goal
 
 pub returns : goal.returns

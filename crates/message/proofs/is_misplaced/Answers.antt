@@ -1,4 +1,3 @@
-
 use Rattle.message.proofs.is_misplaced.Goals as goal
 
 pub returns-then-finra : goal.returns-then-finra

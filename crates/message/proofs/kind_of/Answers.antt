@@ -1,6 +1,5 @@
 use borrow.Author.Tests.{eq-eqb, ne_eqb}
 use Rattle.message.specs.Message.{kind_of}
-use borrow.Author.Rules.{rules}
 use Rattle.message.proofs.kind_of.Goals as goal
 
 pub returns-then-category-eq67 : goal.returns-then-category-eq67

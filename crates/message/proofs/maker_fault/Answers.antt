@@ -1,6 +1,5 @@
 use mathlib.Core.Path.{sym, ◌∙◌}
 use Rattle.message.specs.Message.{quote_fault}
-use borrow.Author.Rules.{rules}
 use Rattle.message.proofs.maker_fault.Goals as goal
 
 pub returns-then-is_maker_condition : goal.returns-then-is_maker_condition

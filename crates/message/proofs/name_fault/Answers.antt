@@ -1,5 +1,4 @@
 use mathlib.Core.Path.{sym, ◌∙◌}
-use borrow.Author.Rules.{rules}
 use Rattle.message.proofs.name_fault.Goals as goal
 
 -- `message::name_fault` meets its contract.

@@ -1,5 +1,4 @@
 use Rattle.message.specs.Message.{odd_at, time_of}
-use borrow.Author.Rules.{rules}
 use Rattle.message.proofs.odd_at.Goals as goal
 
 pub returns : goal.returns

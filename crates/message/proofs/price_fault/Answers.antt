@@ -1,6 +1,5 @@
 use mathlib.Core.Path.{sym, ◌∙◌}
 use Rattle.message.specs.Message.{price_fault}
-use borrow.Author.Rules.{rules}
 use Rattle.message.proofs.price_fault.Goals as goal
 
 pub returns-then-is_side_bad : goal.returns-then-is_side_bad

@@ -1,5 +1,4 @@
 use Rattle.message.specs.Message.{quote_at}
-use borrow.Author.Rules.{rules}
 use Rattle.message.proofs.quote_at.Goals as goal
 
 pub returns : goal.returns

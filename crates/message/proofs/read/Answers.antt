@@ -1,17 +1,9 @@
 use mathlib.Core.Path.{◌≡◌, refl, sym, ◌∙◌}
 use mathlib.Core.Bool.{false}
-use mathlib.Core.List.{[], ◌∷◌}
-use types.Run.{OneOf}
-use denote.Enum.Declared.{tag_of}
 use borrow.Author.Tests.{eq-eqb, ne_eqb}
-use Rattle.lists.specs.Lists.{member}
-use Rattle.lists.proofs.Tests.{clash}
-use Rattle.lists.proofs.Tables.{one_of}
 use Rattle.message.specs.Message.{message_of, is_unknown}
 use Rattle.message.specs.declared.Kind.{Kind}
 use Rattle.message.specs.declared.Kind.TheVariants as kind
-use Rattle.message.specs.contracts.Kind.{the_type}
-use borrow.Author.Rules.{rules}
 use Rattle.message.proofs.read.Goals as goal
 
 -- a type that is not the last

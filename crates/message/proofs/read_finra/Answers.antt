@@ -1,6 +1,5 @@
 use borrow.Author.Tests.{eq-eqb, ne_eqb}
 use Rattle.message.specs.Message.{read_finra}
-use borrow.Author.Rules.{rules}
 use Rattle.message.proofs.read_finra.Goals as goal
 
 pub returns-then-msg-ne-HEADER : goal.returns-then-msg-ne-HEADER

@@ -3,7 +3,6 @@ use borrow.Author.Tests.{eq-eqb, ne_eqb}
 use Rattle.field.specs.Field.{part}
 use Rattle.message.specs.Message.{odd_at, read_odd_lot, checked_symbol, odd_lot_odd}
 use Rattle.message.specs.declared.Message.TheVariants as says
-use borrow.Author.Rules.{rules}
 use Rattle.message.proofs.read_odd_lot.Goals as goal
 
 pub returns-then-msg-odd_length : goal.returns-then-msg-odd_length
@@ -66,21 +65,21 @@ unfolding part read_odd_lot odd_at
 returns-then-is_symbol c =
     let formed : let a = c.args in
     read_odd_lot a.finra a.letter a.msg.now ≡ checked_symbol a.msg.now (says.OddLot (odd_lot_odd a.msg.now)) =
-        let x = c in
-        let y = x in
-        let z = y in
-        let l = z in
-        rw (
-          ← l.odd_length.ensures,
-          eq-eqb _ _ l.if-msg-odd_length.false,
-          ← z.byte.ensures,
-          eq-eqb _ _ z.if-byte-ne0.false,
-          ← y.byte-2.ensures,
-          eq-eqb _ _ y.if-byte-ne0-2.false,
-          ← x.byte-3.ensures,
-          eq-eqb _ _ x.if-byte-ne0-3.false,
-          sym c.is_misplaced.ensures ∙ c.if-is_misplaced.false,
-        ) in
+    let x = c in
+    let y = x in
+    let z = y in
+    let l = z in
+    rw (
+      ← l.odd_length.ensures,
+      eq-eqb _ _ l.if-msg-odd_length.false,
+      ← z.byte.ensures,
+      eq-eqb _ _ z.if-byte-ne0.false,
+      ← y.byte-2.ensures,
+      eq-eqb _ _ y.if-byte-ne0-2.false,
+      ← x.byte-3.ensures,
+      eq-eqb _ _ x.if-byte-ne0-3.false,
+      sym c.is_misplaced.ensures ∙ c.if-is_misplaced.false,
+    ) in
     let s = c in
     rw (formed, sym s.is_symbol.ensures ∙ s.if-is_symbol.true, ← c.odd_at-odd.ensures)
 
@@ -89,19 +88,19 @@ unfolding part read_odd_lot odd_at
 returns c =
     let formed : let a = c.args in
     read_odd_lot a.finra a.letter a.msg.now ≡ checked_symbol a.msg.now (says.OddLot (odd_lot_odd a.msg.now)) =
-        let x = c in
-        let y = x in
-        let z = y in
-        let l = z in
-        rw (
-          ← l.odd_length.ensures,
-          eq-eqb _ _ l.if-msg-odd_length.false,
-          ← z.byte.ensures,
-          eq-eqb _ _ z.if-byte-ne0.false,
-          ← y.byte-2.ensures,
-          eq-eqb _ _ y.if-byte-ne0-2.false,
-          ← x.byte-3.ensures,
-          eq-eqb _ _ x.if-byte-ne0-3.false,
-          sym c.is_misplaced.ensures ∙ c.if-is_misplaced.false,
-        ) in
+    let x = c in
+    let y = x in
+    let z = y in
+    let l = z in
+    rw (
+      ← l.odd_length.ensures,
+      eq-eqb _ _ l.if-msg-odd_length.false,
+      ← z.byte.ensures,
+      eq-eqb _ _ z.if-byte-ne0.false,
+      ← y.byte-2.ensures,
+      eq-eqb _ _ y.if-byte-ne0-2.false,
+      ← x.byte-3.ensures,
+      eq-eqb _ _ x.if-byte-ne0-3.false,
+      sym c.is_misplaced.ensures ∙ c.if-is_misplaced.false,
+    ) in
     rw (formed, sym c.is_symbol.ensures ∙ c.if-is_symbol.false)

@@ -3,7 +3,6 @@ use borrow.Author.Tests.{eq-eqb, ne_eqb}
 use Rattle.field.specs.Field.{part}
 use Rattle.message.specs.Message.{odd_at, read_round_lot, checked_symbol, quote_at, round_lot_odd, quote_fault, round_conditions}
 use Rattle.message.specs.declared.Message.TheVariants as says
-use borrow.Author.Rules.{rules}
 use Rattle.message.proofs.read_round_lot.Goals as goal
 
 pub returns-then-msg-odd_length : goal.returns-then-msg-odd_length
@@ -47,18 +46,18 @@ returns-then-is_symbol c =
     let formed : let a = c.args in
     read_round_lot a.letter a.msg.now
     ≡ checked_symbol a.msg.now (says.RoundLot (quote_fault round_conditions (quote_at a.msg.now) 0) (quote_at a.msg.now) (round_lot_odd a.msg.now)) =
-        let y = c in
-        let z = y in
-        let l = z in
-        rw (
-          ← l.odd_length.ensures,
-          eq-eqb _ _ l.if-msg-odd_length.false,
-          ← z.byte.ensures,
-          eq-eqb _ _ z.if-byte-ne0.false,
-          ← y.byte-2.ensures,
-          eq-eqb _ _ y.if-byte-ne0-2.false,
-          ne_eqb _ _ c.if-letter-eq68.false,
-        ) in
+    let y = c in
+    let z = y in
+    let l = z in
+    rw (
+      ← l.odd_length.ensures,
+      eq-eqb _ _ l.if-msg-odd_length.false,
+      ← z.byte.ensures,
+      eq-eqb _ _ z.if-byte-ne0.false,
+      ← y.byte-2.ensures,
+      eq-eqb _ _ y.if-byte-ne0-2.false,
+      ne_eqb _ _ c.if-letter-eq68.false,
+    ) in
     let q = c in
     let s = q in
     let e = sym s.is_symbol.ensures ∙ s.if-is_symbol.true in
@@ -70,16 +69,16 @@ returns c =
     let formed : let a = c.args in
     read_round_lot a.letter a.msg.now
     ≡ checked_symbol a.msg.now (says.RoundLot (quote_fault round_conditions (quote_at a.msg.now) 0) (quote_at a.msg.now) (round_lot_odd a.msg.now)) =
-        let y = c in
-        let z = y in
-        let l = z in
-        rw (
-          ← l.odd_length.ensures,
-          eq-eqb _ _ l.if-msg-odd_length.false,
-          ← z.byte.ensures,
-          eq-eqb _ _ z.if-byte-ne0.false,
-          ← y.byte-2.ensures,
-          eq-eqb _ _ y.if-byte-ne0-2.false,
-          ne_eqb _ _ c.if-letter-eq68.false,
-        ) in
+    let y = c in
+    let z = y in
+    let l = z in
+    rw (
+      ← l.odd_length.ensures,
+      eq-eqb _ _ l.if-msg-odd_length.false,
+      ← z.byte.ensures,
+      eq-eqb _ _ z.if-byte-ne0.false,
+      ← y.byte-2.ensures,
+      eq-eqb _ _ y.if-byte-ne0-2.false,
+      ne_eqb _ _ c.if-letter-eq68.false,
+    ) in
     rw (formed, sym c.is_symbol.ensures ∙ c.if-is_symbol.false)

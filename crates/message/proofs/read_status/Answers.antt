@@ -4,7 +4,6 @@ use borrow.Author.Tests.{eq-eqb, ne_eqb}
 use Rattle.field.specs.Field.{part}
 use Rattle.message.specs.declared.Message.TheVariants as says
 use Rattle.message.specs.Message.{read_status}
-use borrow.Author.Rules.{rules}
 use Rattle.message.proofs.read_status.Goals as goal
 
 pub returns-then-msg-ne-STATUS_LEN : goal.returns-then-msg-ne-STATUS_LEN

@@ -1,7 +1,6 @@
 use mathlib.Core.Path.{sym, ◌∙◌}
 use borrow.Author.Tests.{eq-eqb, ne_eqb}
 use Rattle.message.specs.Message.{read_test}
-use borrow.Author.Rules.{rules}
 use Rattle.message.proofs.read_test.Goals as goal
 
 pub returns-then-msg-ne-TEST_LEN : goal.returns-then-msg-ne-TEST_LEN

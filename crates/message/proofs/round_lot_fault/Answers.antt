@@ -1,6 +1,5 @@
 use mathlib.Core.Path.{sym, ◌∙◌}
 use Rattle.message.specs.Message.{quote_fault}
-use borrow.Author.Rules.{rules}
 use Rattle.message.proofs.round_lot_fault.Goals as goal
 
 pub returns-then-is_round_condition : goal.returns-then-is_round_condition

@@ -1,7 +1,6 @@
 use Rattle.lists.proofs.Tables.{one_of, none_of}
 use mathlib.Core.Path.{sym}
 use Rattle.levels.specs.Levels.{clears}
-use borrow.Author.Rules.{rules}
 use Rattle.oddpart.proofs.is_cleared.Goals as goal
 
 pub returns-in-66 : goal.returns-in-66

@@ -1,6 +1,5 @@
 use mathlib.Core.Path.{sym, ◌∙◌}
 use Rattle.oddpart.proofs.PartLaws.{touched-cleared, touched-named}
-use borrow.Author.Rules.{rules}
 use Rattle.oddpart.proofs.is_touched.Goals as goal
 
 pub returns-then-is_cleared : goal.returns-then-is_cleared

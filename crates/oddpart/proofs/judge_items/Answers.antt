@@ -1,8 +1,6 @@
-use mathlib.Core.Path.{◌≡◌}
-use Prim.Native.Nat.{◌≤◌, ◌-◌}
+use Prim.Native.Nat.{◌-◌}
 use native.Mathlib.Omega.{arith}
 use borrow.Author.Rules.{rules}
-use Rattle.levels.specs.Levels.{items_from, items_bad}
 use Rattle.oddpart.proofs.PartLaws.{judge-start, judge-price, judge-shares, judge-again, judge-end}
 use Rattle.oddpart.proofs.judge_items.Goals as goal
 

@@ -2,7 +2,6 @@ use Rattle.lists.proofs.Tables.{one_of, none_of}
 use mathlib.Core.Path.{ap, ◌∙◌}
 use Rattle.oddpart.specs.code.Part.{judged_by}
 use Rattle.oddpart.proofs.PartLaws.{part-60, part-61-bids, part-61-offers, part-items}
-use borrow.Author.Rules.{rules}
 use Rattle.oddpart.proofs.judge_part.Goals as goal
 
 pub returns-in_default : goal.returns-in_default

@@ -1,6 +1,5 @@
 use mathlib.Core.Path.{sym, ◌∙◌}
 use Rattle.oddpart.proofs.PartLaws.{start-cleared, start-read}
-use borrow.Author.Rules.{rules}
 use Rattle.oddpart.proofs.start.Goals as goal
 
 pub returns-then-is_cleared : goal.returns-then-is_cleared

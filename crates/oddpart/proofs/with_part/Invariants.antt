@@ -1,9 +1,7 @@
-use mathlib.Core.Path.{◌≡◌, ◌∙◌}
+use mathlib.Core.Path.{◌≡◌}
 use Prim.Native.Nat.{◌≤◌, ◌-◌, ◌+◌}
-use borrow.Author.Rules.{rules}
 use Rattle.levels.specs.Levels.{items_from}
 use Rattle.oddpart.specs.code.Part.{with_items}
-use Rattle.oddpart.proofs.PartLaws.{items-start, items_refused, items-again, items-end, part-is}
 use Rattle.oddpart.proofs.with_part.Given as goal
 
 abbrev pub invariant-loop-i : goal.invariant-loop-i

@@ -1,4 +1,4 @@
-use Rattle.std.proofs.Common.{◌∙◌, rules}
+use Rattle.std.proofs.Common.{◌∙◌}
 use Rattle.field.specs.Field.{part}
 use Rattle.allowance.specs.Allowance.{charged_to}
 use Rattle.opening.proofs.AllowanceLaws.{lent-allowance, length-allowance}

@@ -1,6 +1,5 @@
-use Rattle.std.proofs.Common.{◌≡◌, ◌-◌, ◌≤◌, length, refl, rules}
+use Rattle.std.proofs.Common.{◌-◌, refl, rules}
 use Rattle.update.specs.Parts.{emptied}
-use Rattle.opening.specs.Opening.{each_page}
 use Rattle.opening.proofs.WriteLaws.{each_start, each_again, each-end}
 use Rattle.opening.proofs.empty_pages.Goals as goal
 

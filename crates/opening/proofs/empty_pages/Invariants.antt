@@ -1,7 +1,6 @@
-use Rattle.std.proofs.Common.{◌≡◌, ◌-◌, ◌≤◌, length, refl, rules}
+use Rattle.std.proofs.Common.{◌≡◌, ◌-◌, ◌≤◌, length}
 use Rattle.update.specs.Parts.{emptied}
 use Rattle.opening.specs.Opening.{each_page}
-use Rattle.opening.proofs.WriteLaws.{each_start, each_again, each-end}
 use Rattle.opening.proofs.empty_pages.Given as goal
 
 abbrev pub invariant-loop-k : goal.invariant-loop-k

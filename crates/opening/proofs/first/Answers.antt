@@ -1,7 +1,5 @@
-use Rattle.std.proofs.Common.{◌≡◌, ◌+◌, ◌-◌, ◌*◌, ◌<◌, ◌≤◌, Bool, length, refl, arith, rules}
-use Rattle.lists.specs.Lists.{first_from}
+use Rattle.std.proofs.Common.{◌+◌, ◌-◌, ◌<◌, ◌≤◌, length, refl, arith, rules}
 use Rattle.lists.proofs.Searches.{first_found, first-again, first-end}
-use Rattle.opening.specs.Opening.{first_place}
 use Rattle.opening.proofs.ReadLaws.{counted-room, page-symbol, has_symbol, find-start}
 use Rattle.page.specs.Layout.{page_length}
 use Rattle.opening.specs.Layout.{page_start, symbols_most}
@@ -13,19 +11,19 @@ loop-k-init c = (search rules, find-start _ _ _ c.requires.1)
 pub overflow_mul-k : goal.overflow_mul-k
 overflow_mul-k c =
     let room : (page_start c.loop-k.k + page_length ≤ length c.args.book.now) × (c.loop-k.k < symbols_most) =
-        counted-room _ _ _ c.requires.0 c.requires.1 (omega (arith, c.loop-k-test.true)) in
+    counted-room _ _ _ c.requires.0 c.requires.1 (omega (arith, c.loop-k-test.true)) in
     omega (arith, room.1)
 
 pub overflow_add-k : goal.overflow_add-k
 overflow_add-k c =
     let room : (page_start c.loop-k.k + page_length ≤ length c.args.book.now) × (c.loop-k.k < symbols_most) =
-        counted-room _ _ _ c.requires.0 c.requires.1 (omega (arith, c.loop-k-test.true)) in
+    counted-room _ _ _ c.requires.0 c.requires.1 (omega (arith, c.loop-k-test.true)) in
     omega (arith, room.1)
 
 pub has_symbol-requires : goal.has_symbol-requires
 has_symbol-requires c =
     let room : (page_start c.loop-k.k + page_length ≤ length c.args.book.now) × (c.loop-k.k < symbols_most) =
-        counted-room _ _ _ c.requires.0 c.requires.1 (omega (arith, c.loop-k-test.true)) in
+    counted-room _ _ _ c.requires.0 c.requires.1 (omega (arith, c.loop-k-test.true)) in
     omega (arith, room.0)
 
 pub returns-then-has_symbol : goal.returns-then-has_symbol

@@ -1,10 +1,7 @@
-use Rattle.std.proofs.Common.{◌≡◌, ◌+◌, ◌-◌, ◌*◌, ◌<◌, ◌≤◌, Bool, length, refl, arith, rules}
+use Rattle.std.proofs.Common.{◌≡◌, ◌+◌, ◌-◌, ◌*◌, ◌≤◌}
 use Rattle.lists.specs.Lists.{first_from}
-use Rattle.lists.proofs.Searches.{first_found, first-again, first-end}
 use Rattle.opening.specs.Opening.{first_place}
-use Rattle.opening.proofs.ReadLaws.{counted-room, page-symbol, has_symbol, find-start}
-use Rattle.page.specs.Layout.{page_length}
-use Rattle.opening.specs.Layout.{page_start, symbols_most}
+use Rattle.opening.proofs.ReadLaws.{has_symbol}
 use Rattle.opening.proofs.first.Given as goal
 
 abbrev pub invariant-loop-k : goal.invariant-loop-k

@@ -1,6 +1,5 @@
 use Rattle.field.specs.Field.{Bytes}
 use Rattle.opening.proofs.ReadLaws.{other-high, other-middle, symbol-last}
-use Rattle.std.proofs.Common.{rules}
 use Rattle.opening.proofs.has_symbol.Goals as goal
 
 pub returns-then-get64-high : goal.returns-then-get64-high

@@ -1,4 +1,4 @@
-use Rattle.std.proofs.Common.{arith, rules}
+use Rattle.std.proofs.Common.{arith}
 use Rattle.field.specs.Field.{Bytes}
 use Rattle.opening.specs.Opening.{symbols_of, count_of}
 use Rattle.opening.proofs.ReadLaws.{unsound-by, marked-number, sound-last}

@@ -1,4 +1,3 @@
-use Rattle.std.proofs.Common.{rules}
 use Rattle.field.specs.Field.{part}
 use Rattle.opening.specs.Opening.{allowance_on}
 use Rattle.opening.proofs.is_used_up.Goals as goal

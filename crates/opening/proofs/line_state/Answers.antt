@@ -1,4 +1,4 @@
-use Rattle.std.proofs.Common.{sym, ◌∙◌, arith, rules}
+use Rattle.std.proofs.Common.{sym, ◌∙◌, arith}
 use Rattle.opening.proofs.ReadLaws.{opening-room, line-above, line-closed, line-is}
 use Rattle.opening.proofs.line_state.Goals as goal
 

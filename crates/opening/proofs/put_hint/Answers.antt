@@ -1,4 +1,4 @@
-use Rattle.std.proofs.Common.{arith, rules}
+use Rattle.std.proofs.Common.{arith}
 use Rattle.field.specs.Field.{Bytes}
 use Rattle.opening.proofs.ReadLaws.{hint-put}
 use Rattle.opening.proofs.put_hint.Goals as goal

@@ -1,5 +1,4 @@
 use Rattle.opening.proofs.WriteLaws.{put-line}
-use Rattle.std.proofs.Common.{rules}
 use Rattle.opening.proofs.put_line.Goals as goal
 
 pub returns : goal.returns

@@ -1,4 +1,4 @@
-use Rattle.std.proofs.Common.{arith, rules}
+use Rattle.std.proofs.Common.{arith}
 use Rattle.opening.proofs.WriteLaws.{put-restart}
 use Rattle.opening.proofs.restart_line.Goals as goal
 

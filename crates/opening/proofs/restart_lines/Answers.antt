@@ -1,8 +1,6 @@
-use Rattle.std.proofs.Common.{◌≡◌, ◌-◌, ◌≤◌, length, refl, ◌∙◌, rules}
+use Rattle.std.proofs.Common.{◌-◌, refl, ◌∙◌, rules}
 use native.Mathlib.Nat.{sub-zero}
-use Rattle.opening.specs.Opening.{restart_lines}
 use Rattle.opening.proofs.WriteLaws.{restart-again, restart-end}
-use Rattle.opening.specs.Layout.{line_count}
 use Rattle.opening.proofs.restart_lines.Goals as goal
 
 pub loop-i-init : goal.loop-i-init

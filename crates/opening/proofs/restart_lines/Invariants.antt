@@ -1,7 +1,5 @@
-use Rattle.std.proofs.Common.{◌≡◌, ◌-◌, ◌≤◌, length, refl, ◌∙◌, rules}
-use native.Mathlib.Nat.{sub-zero}
+use Rattle.std.proofs.Common.{◌≡◌, ◌-◌, ◌≤◌, length}
 use Rattle.opening.specs.Opening.{restart_lines}
-use Rattle.opening.proofs.WriteLaws.{restart-again, restart-end}
 use Rattle.opening.specs.Layout.{line_count}
 use Rattle.opening.proofs.restart_lines.Given as goal
 

@@ -3,7 +3,6 @@ use mathlib.Core.Path.{ap}
 use lib.Dec.{eqb}
 use Rattle.field.specs.Ascii.{H}
 use Rattle.page.specs.Page.{halted_in}
-use borrow.Author.Rules.{rules}
 use Rattle.page.proofs.is_halted.Goals as goal
 
 -- `page::is_halted` meets its contract.

@@ -1,5 +1,4 @@
 use Rattle.protection.proofs.StepLaws.{d-yes, d-no}
-use borrow.Author.Rules.{rules}
 use Rattle.protection.proofs.d_yes.Goals as goal
 
 -- `protection::d_yes` meets its contract.

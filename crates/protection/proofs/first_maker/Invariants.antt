@@ -1,11 +1,8 @@
 use Prim.Native.Nat.{◌≤◌, ◌-◌}
-use mathlib.Core.Path.{◌≡◌, sym, ◌∙◌}
-use native.Mathlib.Omega.{arith}
+use mathlib.Core.Path.{◌≡◌}
 use Rattle.lists.specs.Lists.{first_from}
-use Rattle.lists.proofs.Searches.{first-start, first_found, first-again, first-end}
 use Rattle.page.specs.Layout.{maker_count}
 use Rattle.protection.specs.code.Search.{maker_yes}
-use borrow.Author.Rules.{rules}
 use Rattle.protection.proofs.first_maker.Given as goal
 
 abbrev pub invariant-loop-k : goal.invariant-loop-k

@@ -1,5 +1,4 @@
 use Rattle.protection.proofs.StepLaws.{letter-d, letter-s, letter-other}
-use borrow.Author.Rules.{rules}
 use Rattle.protection.proofs.letter_yes.Goals as goal
 
 -- `protection::letter_yes` meets its contract.

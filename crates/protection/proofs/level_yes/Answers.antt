@@ -1,6 +1,5 @@
 use mathlib.Core.Path.{refl}
 use Rattle.protection.proofs.StepLaws.{level-short, level-priceless, level-sized}
-use borrow.Author.Rules.{rules}
 use Rattle.protection.proofs.level_yes.Goals as goal
 
 -- `protection::level_yes` meets its contract.

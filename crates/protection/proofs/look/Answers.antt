@@ -1,6 +1,5 @@
 use mathlib.Core.Path.{sym, ◌∙◌}
 use Rattle.protection.proofs.HaltLaws.{look-halted, look-trading}
-use borrow.Author.Rules.{rules}
 use Rattle.protection.proofs.look.Goals as goal
 
 -- `protection::look` meets its contract.

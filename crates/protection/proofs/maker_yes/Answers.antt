@@ -1,6 +1,5 @@
 use mathlib.Core.Path.{refl}
 use Rattle.protection.proofs.StepLaws.{maker-short, maker-regular}
-use borrow.Author.Rules.{rules}
 use Rattle.protection.proofs.maker_yes.Goals as goal
 
 -- `protection::maker_yes` meets its contract.

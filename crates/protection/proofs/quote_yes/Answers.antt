@@ -1,7 +1,6 @@
 use mathlib.Core.Path.{refl}
 use Rattle.slots.proofs.ReadLaws.{quote-key-fits}
 use Rattle.protection.proofs.StepLaws.{letter-short, letter-closed, letter-keyed}
-use borrow.Author.Rules.{rules}
 use Rattle.protection.proofs.quote_yes.Goals as goal
 
 -- `protection::quote_yes` meets its contract.

@@ -1,5 +1,4 @@
 use Rattle.protection.proofs.StepLaws.{reaches-bid, reaches-offer}
-use borrow.Author.Rules.{rules}
 use Rattle.protection.proofs.reaches.Goals as goal
 
 -- `protection::reaches` meets its contract.

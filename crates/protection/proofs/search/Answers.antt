@@ -1,10 +1,7 @@
-use Prim.Native.Nat.{◌≤◌, ◌+◌, ◌-◌}
-use mathlib.Core.Path.{◌≡◌, refl, sym, ◌∙◌}
-use Rattle.field.specs.Ascii.{A, Z}
+use Prim.Native.Nat.{◌-◌}
+use mathlib.Core.Path.{refl, sym, ◌∙◌}
 use native.Mathlib.Omega.{arith}
-use Rattle.lists.specs.Lists.{first_from}
 use Rattle.lists.proofs.Searches.{first_found, first-again, first-end}
-use Rattle.page.specs.Layout.{letter_count}
 use Rattle.protection.specs.code.Search.{letter_yes}
 use Rattle.protection.proofs.StepLaws.{search-found, search-none}
 use borrow.Author.Rules.{rules}

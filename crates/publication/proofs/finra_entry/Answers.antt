@@ -1,5 +1,4 @@
 use mathlib.Core.Path.{refl}
-use borrow.Author.Rules.{rules}
 use Rattle.publication.proofs.PublicationLaws.{named-as}
 use Rattle.entries.specs.Publication.{finra_name}
 use Rattle.publication.proofs.finra_entry.Goals as goal

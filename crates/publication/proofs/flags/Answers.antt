@@ -1,4 +1,3 @@
-use borrow.Author.Rules.{rules}
 use Rattle.publication.proofs.PublicationLaws.{flags-are}
 use Rattle.publication.proofs.flags.Goals as goal
 

@@ -1,4 +1,3 @@
-use borrow.Author.Rules.{rules}
 use Rattle.publication.proofs.PublicationLaws.{named-as, odd-name}
 use Rattle.entries.specs.Publication.{odd_name}
 use Rattle.publication.proofs.odd_entry.Goals as goal

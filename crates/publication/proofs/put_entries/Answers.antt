@@ -1,4 +1,3 @@
-use borrow.Author.Rules.{rules}
 use Rattle.publication.proofs.PublicationLaws.{put_six}
 use Rattle.publication.proofs.put_entries.Goals as goal
 

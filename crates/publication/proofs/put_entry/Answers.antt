@@ -1,4 +1,3 @@
-use borrow.Author.Rules.{rules}
 use Rattle.publication.proofs.PublicationLaws.{put_three}
 use Rattle.publication.proofs.put_entry.Goals as goal
 

@@ -1,7 +1,6 @@
 use Rattle.field.specs.Field.{be_bytes}
 use Rattle.entries.specs.Publication.{no_entry, no_entries}
 use Rattle.publication.specs.code.Entry.{bytes_of, published_bytes}
-use borrow.Author.Rules.{rules}
 use Rattle.publication.proofs.put_none.Goals as goal
 
 pub returns : goal.returns

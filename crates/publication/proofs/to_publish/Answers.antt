@@ -1,4 +1,3 @@
-use borrow.Author.Rules.{rules}
 use Rattle.publication.proofs.PublicationLaws.{six-bytes}
 use Rattle.publication.proofs.to_publish.Goals as goal
 

@@ -1,11 +1,9 @@
-use Prim.Native.Nat.{◌+◌, ◌*◌, ◌-◌, ◌≤◌}
-use mathlib.Core.Path.{◌≡◌, refl, ◌∙◌}
+use Prim.Native.Nat.{◌-◌}
+use mathlib.Core.Path.{refl, ◌∙◌}
 use native.Mathlib.Omega.{arith}
-use lib.ListN.{length}
-use Rattle.field.specs.Field.{Bytes, part, splice}
+use Rattle.field.specs.Field.{Bytes}
 use Rattle.opening.proofs.WriteLaws.{copy_start, copy-again, copy-end}
 use borrow.Author.Rules.{rules}
-use Rattle.entries.specs.Publication.{publication_length}
 use Rattle.query.proofs.copy.Goals as goal
 
 pub loop-i-init : goal.loop-i-init

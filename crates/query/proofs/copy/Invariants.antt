@@ -1,10 +1,7 @@
 use Prim.Native.Nat.{◌+◌, ◌*◌, ◌-◌, ◌≤◌}
-use mathlib.Core.Path.{◌≡◌, refl, ◌∙◌}
-use native.Mathlib.Omega.{arith}
+use mathlib.Core.Path.{◌≡◌}
 use lib.ListN.{length}
-use Rattle.field.specs.Field.{Bytes, part, splice}
-use Rattle.opening.proofs.WriteLaws.{copy_start, copy-again, copy-end}
-use borrow.Author.Rules.{rules}
+use Rattle.field.specs.Field.{part, splice}
 use Rattle.entries.specs.Publication.{publication_length}
 use Rattle.query.proofs.copy.Given as goal
 

@@ -4,7 +4,6 @@ use Rattle.text.specs.Form.{symbol_good}
 use Rattle.opening.specs.Opening.{sound}
 use Rattle.calls.proofs.NumberLaws.{symbol-eleven}
 use Rattle.query.proofs.AskedLaws.{asked-unsound, asked-malformed, asked-unlisted, asked-listed}
-use borrow.Author.Rules.{rules}
 use Rattle.query.proofs.judge.Goals as goal
 
 -- `query::judge` meets its contract.
@@ -12,31 +11,31 @@ use Rattle.query.proofs.judge.Goals as goal
 pub find-place-requires : goal.find-place-requires
 find-place-requires c =
     let sound-is : sound c.args.book.now ≡ true =
-        sym c.is_sound.ensures ∙ c.if-is_sound.true in
+    sym c.is_sound.ensures ∙ c.if-is_sound.true in
     let good-is : symbol_good c.args.symbol.now ≡ true =
-        sym c.is_symbol.ensures ∙ c.if-is_symbol.true in
+    sym c.is_symbol.ensures ∙ c.if-is_symbol.true in
     (sound-is, symbol-eleven _ good-is)
 
 pub returns-in_default : goal.returns-in_default
 returns-in_default c =
     let sound-is : sound c.args.book.now ≡ true =
-        sym c.is_sound.ensures ∙ c.if-is_sound.true in
+    sym c.is_sound.ensures ∙ c.if-is_sound.true in
     let good-is : symbol_good c.args.symbol.now ≡ true =
-        sym c.is_symbol.ensures ∙ c.if-is_symbol.true in
+    sym c.is_symbol.ensures ∙ c.if-is_symbol.true in
     asked-unlisted _ _ _ sound-is good-is _ c.find-place.ensures c.in_default.is
 
 pub returns-then-is_symbol : goal.returns-then-is_symbol
 returns-then-is_symbol c =
     let sound-is : sound c.args.book.now ≡ true =
-        sym c.is_sound.ensures ∙ c.if-is_sound.true in
+    sym c.is_sound.ensures ∙ c.if-is_sound.true in
     let good-is : symbol_good c.args.symbol.now ≡ true =
-        sym c.is_symbol.ensures ∙ c.if-is_symbol.true in
+    sym c.is_symbol.ensures ∙ c.if-is_symbol.true in
     asked-listed _ _ _ sound-is good-is _ c.find-place.ensures _ _ c.in-At.is c.marked.ensures
 
 pub returns-then-is_sound : goal.returns-then-is_sound
 returns-then-is_sound c =
     let sound-is : sound c.args.book.now ≡ true =
-        sym c.is_sound.ensures ∙ c.if-is_sound.true in
+    sym c.is_sound.ensures ∙ c.if-is_sound.true in
     asked-malformed _ _ _ sound-is (sym c.is_symbol.ensures ∙ c.if-is_symbol.false)
 
 pub returns : goal.returns

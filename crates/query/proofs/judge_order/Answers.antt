@@ -1,5 +1,4 @@
 use Rattle.query.proofs.OrderLaws.{ordered-refused, ordered-page}
-use borrow.Author.Rules.{rules}
 use Rattle.query.proofs.judge_order.Goals as goal
 
 -- `query::judge_order` meets its contract.

@@ -13,25 +13,25 @@ use Rattle.query.proofs.try_order.Goals as goal
 pub overflow_mul-start : goal.overflow_mul-start
 overflow_mul-start c =
     let page : (page_start c.in-Page.k + page_length ≤ length c.args.book.now) × (c.in-Page.k < symbols_most) =
-        order-page _ _ _ _ _ _ _ c.judge_order-asked.ensures c.in-Page.is in
+    order-page _ _ _ _ _ _ _ c.judge_order-asked.ensures c.in-Page.is in
     omega (arith, page.1)
 
 pub overflow_add-start : goal.overflow_add-start
 overflow_add-start c =
     let page : (page_start c.in-Page.k + page_length ≤ length c.args.book.now) × (c.in-Page.k < symbols_most) =
-        order-page _ _ _ _ _ _ _ c.judge_order-asked.ensures c.in-Page.is in
+    order-page _ _ _ _ _ _ _ c.judge_order-asked.ensures c.in-Page.is in
     omega (arith, page.1)
 
 pub overflow_add-end : goal.overflow_add-end
 overflow_add-end c =
     let page : (page_start c.in-Page.k + page_length ≤ length c.args.book.now) × (c.in-Page.k < symbols_most) =
-        order-page _ _ _ _ _ _ _ c.judge_order-asked.ensures c.in-Page.is in
+    order-page _ _ _ _ _ _ _ c.judge_order-asked.ensures c.in-Page.is in
     omega (arith, page.1)
 
 pub slice_bounds-play-end : goal.slice_bounds-play-end
 slice_bounds-play-end c =
     let page : (page_start c.in-Page.k + page_length ≤ length c.args.book.now) × (c.in-Page.k < symbols_most) =
-        order-page _ _ _ _ _ _ _ c.judge_order-asked.ensures c.in-Page.is in
+    order-page _ _ _ _ _ _ _ c.judge_order-asked.ensures c.in-Page.is in
     omega (arith, page.0)
 
 pub play-swept-requires : goal.play-swept-requires

@@ -1,5 +1,4 @@
 use native.Mathlib.Omega.{arith}
-use borrow.Author.Rules.{rules}
 use Rattle.quote.proofs.AdmitsLaws.{admits-both, admits-range, admits-offer, admits-bid, admits-none}
 use Rattle.quote.proofs.admits.Goals as goal
 

@@ -1,5 +1,4 @@
 use Rattle.quotebook.proofs.InterfaceLaws.{len-none, len-many, len-good}
-use borrow.Author.Rules.{rules}
 use Rattle.quotebook.proofs.qb_book_len.Goals as goal
 
 pub returns-then-n-lt1 : goal.returns-then-n-lt1

@@ -1,5 +1,4 @@
 use Rattle.quotebook.proofs.InterfaceLaws.{run-numbered}
-use borrow.Author.Rules.{rules}
 use Rattle.quotebook.proofs.qb_convert.Goals as goal
 
 pub returns : goal.returns

@@ -1,5 +1,4 @@
 use Rattle.quotebook.proofs.InterfaceLaws.{length-numbered}
-use borrow.Author.Rules.{rules}
 use Rattle.quotebook.proofs.qb_convert_len.Goals as goal
 
 pub returns : goal.returns

@@ -1,5 +1,4 @@
 use Rattle.quotebook.proofs.InterfaceLaws.{query-told}
-use borrow.Author.Rules.{rules}
 use Rattle.quotebook.proofs.qb_is_protected.Goals as goal
 
 pub returns : goal.returns

@@ -1,5 +1,4 @@
 use Rattle.quotebook.proofs.InterfaceLaws.{head-numbered}
-use borrow.Author.Rules.{rules}
 use Rattle.quotebook.proofs.qb_log_head.Goals as goal
 
 pub returns : goal.returns

@@ -1,5 +1,4 @@
 use Rattle.quotebook.proofs.InterfaceLaws.{replay-numbered}
-use borrow.Author.Rules.{rules}
 use Rattle.quotebook.proofs.qb_replay.Goals as goal
 
 pub returns : goal.returns

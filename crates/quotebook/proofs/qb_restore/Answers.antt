@@ -1,5 +1,4 @@
 use Rattle.quotebook.proofs.InterfaceLaws.{restore-numbered}
-use borrow.Author.Rules.{rules}
 use Rattle.quotebook.proofs.qb_restore.Goals as goal
 
 pub returns : goal.returns

@@ -1,5 +1,4 @@
 use Rattle.quotebook.proofs.InterfaceLaws.{feed-sized}
-use borrow.Author.Rules.{rules}
 use Rattle.quotebook.proofs.qb_snapshot.Goals as goal
 
 pub returns : goal.returns

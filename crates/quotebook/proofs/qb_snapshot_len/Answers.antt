@@ -1,5 +1,4 @@
 use Rattle.quotebook.proofs.InterfaceLaws.{size-told}
-use borrow.Author.Rules.{rules}
 use Rattle.quotebook.proofs.qb_snapshot_len.Goals as goal
 
 pub returns : goal.returns

@@ -1,5 +1,4 @@
 use Rattle.quotebook.proofs.InterfaceLaws.{numbers-told}
-use borrow.Author.Rules.{rules}
 use Rattle.quotebook.proofs.qb_take_block.Goals as goal
 
 pub returns : goal.returns

@@ -1,5 +1,4 @@
 use Rattle.quotebook.proofs.InterfaceLaws.{order-told}
-use borrow.Author.Rules.{rules}
 use Rattle.quotebook.proofs.qb_try_order.Goals as goal
 
 pub returns : goal.returns

@@ -1,5 +1,4 @@
 use Rattle.quotebook.proofs.InterfaceLaws.{numbers-written}
-use borrow.Author.Rules.{rules}
 use Rattle.quotebook.proofs.qb_write_block.Goals as goal
 
 pub returns : goal.returns

@@ -1,4 +1,4 @@
-use Rattle.std.proofs.Common.{true, false, rules}
+use Rattle.std.proofs.Common.{true, false}
 use Rattle.ranking.proofs.ChoiceLaws.{beyond-by}
 use Rattle.ranking.proofs.beyond.Goals as goal
 

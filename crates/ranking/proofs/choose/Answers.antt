@@ -1,4 +1,4 @@
-use Rattle.std.proofs.Common.{true, false, rules}
+use Rattle.std.proofs.Common.{true, false}
 use Rattle.ranking.proofs.ChoiceLaws.{choose-priceless, choose-sizeless, choose-by}
 use Rattle.ranking.proofs.choose.Goals as goal
 

@@ -1,4 +1,3 @@
-use Rattle.std.proofs.Common.{rules}
 use Rattle.ranking.proofs.ChoiceLaws.{rank-behind, rank-more, rank-tie}
 use Rattle.ranking.proofs.compare.Goals as goal
 

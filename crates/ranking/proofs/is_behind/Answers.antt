@@ -1,4 +1,3 @@
-use Rattle.std.proofs.Common.{rules}
 use Rattle.ranking.proofs.ChoiceLaws.{behind-by}
 use Rattle.ranking.proofs.is_behind.Goals as goal
 

@@ -1,4 +1,3 @@
-use Rattle.std.proofs.Common.{rules}
 use Rattle.ranking.proofs.ChoiceLaws.{lead-ahead, lead-later, lead-stays}
 use Rattle.ranking.proofs.lead_by.Goals as goal
 

@@ -1,4 +1,3 @@
-use Rattle.std.proofs.Common.{rules}
 use Rattle.ranking.proofs.ChoiceLaws.{lead-priceless, lead-sizeless, lead-alone, lead-compared}
 use Rattle.ranking.proofs.lead_with.Goals as goal
 

@@ -1,6 +1,5 @@
 use native.Mathlib.Omega.{arith}
 use Rattle.recovery.proofs.FedLaws.{fill-short, fill_done}
-use borrow.Author.Rules.{rules}
 use Rattle.recovery.proofs.fill.Goals as goal
 
 -- `recovery::fill` meets its contract.

@@ -4,7 +4,6 @@ use lib.ListN.{length}
 use Rattle.page.specs.Layout.{page_length}
 use Rattle.opening.specs.Layout.{page_start, symbols_most}
 use Rattle.recovery.proofs.FedLaws.{lent-page, page-room, lent-long, symbol-lent, feed-refusal, feed-done}
-use borrow.Author.Rules.{rules}
 use Rattle.recovery.proofs.snapshot.Goals as goal
 
 -- `recovery::snapshot` meets its contract.
@@ -12,25 +11,25 @@ use Rattle.recovery.proofs.snapshot.Goals as goal
 pub overflow_mul-a : goal.overflow_mul-a
 overflow_mul-a c =
     let room : (page_start c.in-Page.k + page_length ≤ length c.args.book.now) × (c.in-Page.k < symbols_most) =
-        page-room _ _ _ _ c.judge-asked.ensures c.in-Page.is in
+    page-room _ _ _ _ c.judge-asked.ensures c.in-Page.is in
     omega (arith, room.1)
 
 pub overflow_add-a : goal.overflow_add-a
 overflow_add-a c =
     let room : (page_start c.in-Page.k + page_length ≤ length c.args.book.now) × (c.in-Page.k < symbols_most) =
-        page-room _ _ _ _ c.judge-asked.ensures c.in-Page.is in
+    page-room _ _ _ _ c.judge-asked.ensures c.in-Page.is in
     omega (arith, room.1)
 
 pub overflow_add-e : goal.overflow_add-e
 overflow_add-e c =
     let room : (page_start c.in-Page.k + page_length ≤ length c.args.book.now) × (c.in-Page.k < symbols_most) =
-        page-room _ _ _ _ c.judge-asked.ensures c.in-Page.is in
+    page-room _ _ _ _ c.judge-asked.ensures c.in-Page.is in
     omega (arith, room.1)
 
 pub slice_bounds-fill-end : goal.slice_bounds-fill-end
 slice_bounds-fill-end c =
     let room : (page_start c.in-Page.k + page_length ≤ length c.args.book.now) × (c.in-Page.k < symbols_most) =
-        page-room _ _ _ _ c.judge-asked.ensures c.in-Page.is in
+    page-room _ _ _ _ c.judge-asked.ensures c.in-Page.is in
     omega (arith, room.0)
 
 pub fill-requires : goal.fill-requires

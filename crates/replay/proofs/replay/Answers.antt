@@ -1,9 +1,8 @@
 use Prim.Native.Nat.{◌-◌, ◌≤◌}
-use mathlib.Core.Path.{◌≡◌, refl}
+use mathlib.Core.Path.{refl}
 use native.Mathlib.Omega.{arith}
-use lib.ListN.{length}
 use borrow.Author.Rules.{rules}
-use Rattle.replay.proofs.StepLaws.{Replaying, replaying-start, replayed-end, replayed-stop, replaying-goes}
+use Rattle.replay.proofs.StepLaws.{replaying-start, replayed-end, replayed-stop, replaying-goes}
 use Rattle.replay.proofs.replay.Goals as goal
 
 pub loop-at-init : goal.loop-at-init

@@ -1,4 +1,3 @@
-use borrow.Author.Rules.{rules}
 use Rattle.logcalls.specs.Kinds.{call_of}
 use Rattle.logcalls.proofs.KindLaws.{run-unknown}
 use Rattle.replay.proofs.run.Goals as goal

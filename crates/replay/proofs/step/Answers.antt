@@ -1,9 +1,5 @@
-use Prim.Native.Nat.{◌≤◌}
-use mathlib.Core.Path.{◌≡◌, sym, ◌∙◌}
+use mathlib.Core.Path.{sym, ◌∙◌}
 use native.Mathlib.Omega.{arith}
-use borrow.Author.Rules.{rules}
-use Rattle.logform.specs.declared.Place.{Place}
-use Rattle.logform.specs.declared.Entry.TheVariants.{Record}
 use Rattle.logform.proofs.LogLaws.{Whole, whole}
 use Rattle.replay.proofs.StepLaws.{stops_as, step_end, step_cut, step-damaged, step-no-call, step-full, step-goes}
 use Rattle.replay.proofs.step.Goals as goal
@@ -13,19 +9,19 @@ use Rattle.replay.proofs.step.Goals as goal
 pub slice_bounds-is_call-count : goal.slice_bounds-is_call-count
 slice_bounds-is_call-count c =
     let whole_is : Whole c.args.log.now c.args.at c.in-Record.place =
-        whole _ _ _ (sym c.entry_at-entry.ensures ∙ c.in-Record.is) in
+    whole _ _ _ (sym c.entry_at-entry.ensures ∙ c.in-Record.is) in
     whole_is.order
 
 pub slice_bounds-is_call-start : goal.slice_bounds-is_call-start
 slice_bounds-is_call-start c =
     let whole_is : Whole c.args.log.now c.args.at c.in-Record.place =
-        whole _ _ _ (sym c.entry_at-entry.ensures ∙ c.in-Record.is) in
+    whole _ _ _ (sym c.entry_at-entry.ensures ∙ c.in-Record.is) in
     whole_is.order
 
 pub slice_bounds-is_call-end : goal.slice_bounds-is_call-end
 slice_bounds-is_call-end c =
     let whole_is : Whole c.args.log.now c.args.at c.in-Record.place =
-        whole _ _ _ (sym c.entry_at-entry.ensures ∙ c.in-Record.is) in
+    whole _ _ _ (sym c.entry_at-entry.ensures ∙ c.in-Record.is) in
     omega (arith, whole_is.inside)
 
 pub returns-then-output-lt-MOST : goal.returns-then-output-lt-MOST
@@ -35,25 +31,25 @@ returns-then-output-lt-MOST c =
 pub slice_bounds-run-count : goal.slice_bounds-run-count
 slice_bounds-run-count c =
     let whole_is : Whole c.args.log.now c.args.at c.in-Record.place =
-        whole _ _ _ (sym c.entry_at-entry.ensures ∙ c.in-Record.is) in
+    whole _ _ _ (sym c.entry_at-entry.ensures ∙ c.in-Record.is) in
     whole_is.order
 
 pub slice_bounds-run-start : goal.slice_bounds-run-start
 slice_bounds-run-start c =
     let whole_is : Whole c.args.log.now c.args.at c.in-Record.place =
-        whole _ _ _ (sym c.entry_at-entry.ensures ∙ c.in-Record.is) in
+    whole _ _ _ (sym c.entry_at-entry.ensures ∙ c.in-Record.is) in
     whole_is.order
 
 pub slice_bounds-run-end : goal.slice_bounds-run-end
 slice_bounds-run-end c =
     let whole_is : Whole c.args.log.now c.args.at c.in-Record.place =
-        whole _ _ _ (sym c.entry_at-entry.ensures ∙ c.in-Record.is) in
+    whole _ _ _ (sym c.entry_at-entry.ensures ∙ c.in-Record.is) in
     omega (arith, whole_is.inside)
 
 pub overflow_add-result : goal.overflow_add-result
 overflow_add-result c =
     let whole_is : Whole c.args.log.now c.args.at c.in-Record.place =
-        whole _ _ _ (sym c.entry_at-entry.ensures ∙ c.in-Record.is) in
+    whole _ _ _ (sym c.entry_at-entry.ensures ∙ c.in-Record.is) in
     omega (arith, whole_is.inside)
 
 pub returns-then-is_call : goal.returns-then-is_call

@@ -1,4 +1,3 @@
-use borrow.Author.Rules.{rules}
 use Rattle.restore.proofs.RestoreLaws.{no-head, not-made, then-replayed}
 use Rattle.restore.proofs.restore.Goals as goal
 

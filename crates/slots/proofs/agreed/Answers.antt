@@ -1,10 +1,4 @@
-use borrow.Author.Rules.{rules}
 use Rattle.slots.proofs.ReadLaws.{quote-key-fits, agreed-own, agreed-not}
-use Rattle.slots.proofs.agreed.Reads as reads
-use Rattle.slots.proofs.agreed.Lts as lts
-use Rattle.field.proofs.low32.Reads as low32-reads
-use Rattle.keys.proofs.quote_key.Reads as quote-key-reads
-use Rattle.page.proofs.quote_key_at.Reads as quote-key-at-reads
 use Rattle.slots.proofs.agreed.Goals as goal
 
 pub low32-key-requires : goal.low32-key-requires

@@ -1,13 +1,4 @@
-use borrow.Author.Rules.{rules}
 use Rattle.slots.proofs.ReadLaws.{first-key-fits, first-idle, first-own, first-other}
-use Rattle.slots.proofs.first.Reads as reads
-use Rattle.slots.proofs.first.Lts as lts
-use Rattle.field.proofs.low32.Reads as low32-reads
-use Rattle.keys.proofs.level_key.Reads as level-key-reads
-use Rattle.page.proofs.first_key_at.Reads as first-key-at-reads
-use Rattle.page.proofs.in_levels.Reads as in-levels-reads
-use Rattle.page.proofs.slot_at.Reads as slot-at-reads
-use Rattle.quote.proofs.Level.get.Reads as get-reads
 use Rattle.slots.proofs.first.Goals as goal
 
 pub returns-then-own-eq0 : goal.returns-then-own-eq0

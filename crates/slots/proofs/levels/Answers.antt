@@ -1,13 +1,4 @@
-use borrow.Author.Rules.{rules}
 use Rattle.slots.proofs.ReadLaws.{first-key-fits, levels-own, levels-other}
-use Rattle.slots.proofs.levels.Reads as reads
-use Rattle.slots.proofs.levels.Lts as lts
-use Rattle.field.proofs.low32.Reads as low32-reads
-use Rattle.keys.proofs.level_key.Reads as level-key-reads
-use Rattle.levels.proofs.Levels.read.Reads as read-reads
-use Rattle.page.proofs.first_key_at.Reads as first-key-at-reads
-use Rattle.page.proofs.in_levels.Reads as in-levels-reads
-use Rattle.page.proofs.slot_at.Reads as slot-at-reads
 use Rattle.slots.proofs.levels.Goals as goal
 
 pub low32-key-requires : goal.low32-key-requires

@@ -1,14 +1,5 @@
-use borrow.Author.Rules.{rules}
 use mathlib.Core.Path.{◌∙◌}
 use Rattle.slots.proofs.ReadLaws.{first-key-fits, side-written}
-use Rattle.slots.proofs.put_side.Reads as reads
-use Rattle.slots.proofs.put_side.Lts as lts
-use Rattle.field.proofs.put_low32.Reads as put-low32-reads
-use Rattle.keys.proofs.level_key.Reads as level-key-reads
-use Rattle.levels.proofs.Levels.put.Reads as put_reads
-use Rattle.page.proofs.first_key_at.Reads as first-key-at-reads
-use Rattle.page.proofs.in_levels.Reads as in-levels-reads
-use Rattle.page.proofs.slot_at.Reads as slot-at-reads
 use Rattle.slots.proofs.put_side.Goals as goal
 
 pub put_low32-requires : goal.put_low32-requires

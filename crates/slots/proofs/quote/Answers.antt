@@ -1,10 +1,4 @@
-use borrow.Author.Rules.{rules}
 use Rattle.slots.proofs.ReadLaws.{quote-read}
-use Rattle.slots.proofs.quote.Reads as reads
-use Rattle.slots.proofs.quote.Lts as lts
-use Rattle.page.proofs.slot_at.Reads as slot-at-reads
-use Rattle.quote.proofs.Quote.get.Reads as get-reads
-use Rattle.slots.proofs.agreed.Reads as agreed-reads
 use Rattle.slots.proofs.quote.Goals as goal
 
 pub returns : goal.returns

@@ -1,14 +1,4 @@
-use borrow.Author.Rules.{rules}
 use Rattle.slots.proofs.ReadLaws.{quote-key-fits, quoted-idle, quoted-own, quoted-other}
-use Rattle.slots.proofs.quoted.Reads as reads
-use Rattle.slots.proofs.quoted.Lts as lts
-use Rattle.field.proofs.get8.Reads as get8-reads
-use Rattle.field.proofs.low32.Reads as low32-reads
-use Rattle.keys.proofs.quote_key.Reads as quote-key-reads
-use Rattle.page.proofs.in_quote.Reads as in-quote-reads
-use Rattle.page.proofs.quote_key_at.Reads as quote-key-at-reads
-use Rattle.page.proofs.slot_at.Reads as slot-at-reads
-use Rattle.quote.proofs.Level.get.Reads as get-reads
 use Rattle.slots.proofs.quoted.Goals as goal
 
 pub returns-then-own-eq0 : goal.returns-then-own-eq0

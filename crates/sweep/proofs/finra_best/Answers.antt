@@ -1,9 +1,7 @@
-use Prim.Native.Nat.{◌≤◌, ◌-◌}
-use mathlib.Core.Path.{◌≡◌, refl, ap, ◌∙◌}
-use Rattle.ranking.specs.Held.{no_candidate}
-use Rattle.ranking.specs.code.Choice.{choose, best_from}
+use Prim.Native.Nat.{◌-◌}
+use mathlib.Core.Path.{refl, ap, ◌∙◌}
+use Rattle.ranking.specs.code.Choice.{choose}
 use Rattle.page.specs.Layout.{maker_count}
-use Rattle.walk.specs.code.Walk.{asked, maker_at}
 use Rattle.sweep.proofs.NextLaws.{best-again, best-end, finra-found}
 use borrow.Author.Rules.{rules}
 use Rattle.sweep.proofs.finra_best.Goals as goal

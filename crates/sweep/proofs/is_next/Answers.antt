@@ -1,5 +1,4 @@
 use Rattle.sweep.proofs.NextLaws.{follows-none, follows_by}
-use borrow.Author.Rules.{rules}
 use Rattle.sweep.proofs.is_next.Goals as goal
 
 -- `sweep::is_next` meets its contract.

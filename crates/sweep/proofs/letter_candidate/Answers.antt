@@ -1,5 +1,4 @@
 use Rattle.sweep.proofs.NextLaws.{letter-d, letter-s, letter-other}
-use borrow.Author.Rules.{rules}
 use Rattle.sweep.proofs.letter_candidate.Goals as goal
 
 -- `sweep::letter_candidate` meets its contract.

@@ -1,5 +1,4 @@
 use Rattle.sweep.proofs.NextLaws.{maker-read, maker-free}
-use borrow.Author.Rules.{rules}
 use Rattle.sweep.proofs.maker_candidate.Goals as goal
 
 -- `sweep::maker_candidate` meets its contract.

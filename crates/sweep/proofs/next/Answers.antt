@@ -1,11 +1,7 @@
-use Prim.Native.Nat.{◌≤◌, ◌+◌, ◌-◌}
-use mathlib.Core.Path.{◌≡◌, refl}
+use Prim.Native.Nat.{◌+◌, ◌-◌}
+use mathlib.Core.Path.{refl}
 use native.Mathlib.Omega.{arith}
-use Rattle.field.specs.Ascii.{A, Z}
-use Rattle.ranking.specs.Held.{no_candidate, or_none}
-use Rattle.ranking.specs.code.Choice.{best_from}
-use Rattle.page.specs.Layout.{letter_count}
-use Rattle.sweep.specs.code.Next.{next_at}
+use Rattle.field.specs.Ascii.{Z}
 use Rattle.sweep.proofs.NextLaws.{best-again, best-end, next-chosen, next-found}
 use borrow.Author.Rules.{rules}
 use Rattle.sweep.proofs.next.Goals as goal
@@ -16,12 +12,11 @@ pub loop-letter-init : goal.loop-letter-init
 loop-letter-init c = (search rules, search rules, refl)
 
 pub loop-letter-preserved : goal.loop-letter-preserved
-loop-letter-preserved c =
-    (
-      search rules,
-      search rules,
-      best-again _ _ (Z + 1) _ _ _ _ (omega (arith, c.loop-letter-test.true)) c.loop-letter.invariant.2 (next-chosen _ _ _ _ _ _ _ c.letter_candidate-x.ensures c.with_next-best.ensures),
-    )
+loop-letter-preserved c = (
+  search rules,
+  search rules,
+  best-again _ _ (Z + 1) _ _ _ _ (omega (arith, c.loop-letter-test.true)) c.loop-letter.invariant.2 (next-chosen _ _ _ _ _ _ _ c.letter_candidate-x.ensures c.with_next-best.ensures),
+)
 
 pub returns : goal.returns
 returns c =

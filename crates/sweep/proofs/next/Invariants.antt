@@ -1,13 +1,10 @@
 use Prim.Native.Nat.{◌≤◌, ◌+◌, ◌-◌}
-use mathlib.Core.Path.{◌≡◌, refl}
-use native.Mathlib.Omega.{arith}
+use mathlib.Core.Path.{◌≡◌}
 use Rattle.field.specs.Ascii.{A, Z}
 use Rattle.ranking.specs.Held.{no_candidate, or_none}
 use Rattle.ranking.specs.code.Choice.{best_from}
 use Rattle.page.specs.Layout.{letter_count}
 use Rattle.sweep.specs.code.Next.{next_at}
-use Rattle.sweep.proofs.NextLaws.{best-again, best-end, next-chosen, next-found}
-use borrow.Author.Rules.{rules}
 use Rattle.sweep.proofs.next.Given as goal
 
 abbrev pub invariant-loop-letter : goal.invariant-loop-letter

@@ -1,6 +1,5 @@
 use mathlib.Core.Path.{sym, ◌∙◌}
 use Rattle.sweep.proofs.HaltLaws.{play-halted, play-trading}
-use borrow.Author.Rules.{rules}
 use Rattle.sweep.proofs.play.Goals as goal
 
 -- `sweep::play` meets its contract.

@@ -1,8 +1,6 @@
 use Prim.Native.Nat.{◌-◌}
 use native.Mathlib.Omega.{arith}
-use Rattle.sweep.specs.Sweep.{steps_most}
-use Rattle.sweep.proofs.LoopLaws.{Going, going_start, going-unwanted, going-exhausted, going-again, going_end}
-use borrow.Author.Rules.{rules}
+use Rattle.sweep.proofs.LoopLaws.{going_start, going-unwanted, going-exhausted, going-again, going_end}
 use Rattle.sweep.proofs.play_trading.Goals as goal
 
 -- `sweep::play_trading` meets its contract.

@@ -1,4 +1,3 @@
-use borrow.Author.Rules.{rules}
 use Rattle.sweep.proofs.LoopLaws.{put_three}
 use Rattle.sweep.proofs.put_step.Goals as goal
 

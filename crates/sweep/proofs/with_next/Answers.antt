@@ -1,5 +1,4 @@
 use Rattle.sweep.proofs.NextLaws.{next-taken, next-passed}
-use borrow.Author.Rules.{rules}
 use Rattle.sweep.proofs.with_next.Goals as goal
 
 -- `sweep::with_next` meets its contract.

@@ -1,6 +1,5 @@
 use native.Mathlib.Omega.{arith}
 use Rattle.text.proofs.FormLaws.{fault-is}
-use borrow.Author.Rules.{rules}
 use Rattle.text.proofs.fault.Goals as goal
 
 pub returns : goal.returns

@@ -1,9 +1,6 @@
-use Prim.Native.Nat.{◌-◌, ◌≤◌}
-use mathlib.Core.Path.{◌≡◌}
+use Prim.Native.Nat.{◌-◌}
 use native.Mathlib.Omega.{arith}
-use lib.ListN.{length, drop}
 use borrow.Author.Tests.{eq-eqb, ne_eqb}
-use Rattle.lists.specs.Lists.{every}
 use Rattle.lists.proofs.Searches.{every-fails, every-again, every-end}
 use Rattle.text.specs.Form.{is_space}
 use borrow.Author.Rules.{rules}

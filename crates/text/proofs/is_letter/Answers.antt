@@ -1,5 +1,4 @@
 use mathlib.Core.Path.{sym, ◌∙◌}
-use borrow.Author.Rules.{rules}
 use Rattle.text.proofs.is_letter.Goals as goal
 
 pub returns-then-is_upper : goal.returns-then-is_upper

@@ -1,8 +1,6 @@
-use Prim.Native.Nat.{◌-◌, ◌≤◌}
-use mathlib.Core.Path.{◌≡◌, ◌∙◌}
+use Prim.Native.Nat.{◌-◌}
+use mathlib.Core.Path.{◌∙◌}
 use native.Mathlib.Omega.{arith}
-use lib.ListN.{length, drop}
-use Rattle.text.specs.Form.{padded}
 use Rattle.text.proofs.FormLaws.{padded-below, padded-above, padded-again, padded-end}
 use borrow.Author.Rules.{rules}
 use Rattle.text.proofs.is_padded.Goals as goal

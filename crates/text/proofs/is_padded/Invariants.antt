@@ -1,10 +1,7 @@
 use Prim.Native.Nat.{◌-◌, ◌≤◌}
-use mathlib.Core.Path.{◌≡◌, ◌∙◌}
-use native.Mathlib.Omega.{arith}
+use mathlib.Core.Path.{◌≡◌}
 use lib.ListN.{length, drop}
 use Rattle.text.specs.Form.{padded}
-use Rattle.text.proofs.FormLaws.{padded-below, padded-above, padded-again, padded-end}
-use borrow.Author.Rules.{rules}
 use Rattle.text.proofs.is_padded.Given as goal
 
 abbrev pub invariant-loop-i : goal.invariant-loop-i

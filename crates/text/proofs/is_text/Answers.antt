@@ -1,8 +1,6 @@
-use Prim.Native.Nat.{◌*◌, ◌-◌, ◌≤◌}
-use mathlib.Core.Path.{◌≡◌}
+use Prim.Native.Nat.{◌-◌}
 use native.Mathlib.Omega.{arith}
-use Rattle.text.specs.Form.{padded}
-use Rattle.text.proofs.FormLaws.{no_fault, text-start, text-again, text-end}
+use Rattle.text.proofs.FormLaws.{text-start, text-again, text-end}
 use borrow.Author.Rules.{rules}
 use Rattle.text.proofs.is_text.Goals as goal
 

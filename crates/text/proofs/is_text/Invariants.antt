@@ -1,9 +1,7 @@
 use Prim.Native.Nat.{◌*◌, ◌-◌, ◌≤◌}
 use mathlib.Core.Path.{◌≡◌}
-use native.Mathlib.Omega.{arith}
 use Rattle.text.specs.Form.{padded}
-use Rattle.text.proofs.FormLaws.{no_fault, text-start, text-again, text-end}
-use borrow.Author.Rules.{rules}
+use Rattle.text.proofs.FormLaws.{no_fault}
 use Rattle.text.proofs.is_text.Given as goal
 
 abbrev pub invariant-loop-i : goal.invariant-loop-i

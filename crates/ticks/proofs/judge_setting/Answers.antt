@@ -1,6 +1,5 @@
 use mathlib.Core.Path.{sym, ◌∙◌}
 use Rattle.ticks.proofs.TickLaws.{setting-unsound, setting-judged}
-use borrow.Author.Rules.{rules}
 use Rattle.ticks.proofs.judge_setting.Goals as goal
 
 pub returns-then-is_sound : goal.returns-then-is_sound

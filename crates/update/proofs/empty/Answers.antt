@@ -1,5 +1,4 @@
 use Rattle.update.proofs.StoreLaws.{empty-is}
-use borrow.Author.Rules.{rules}
 use Rattle.update.proofs.empty.Goals as goal
 
 pub returns : goal.returns

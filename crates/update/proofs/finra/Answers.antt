@@ -1,6 +1,5 @@
 use mathlib.Core.Path.{◌∙◌}
 use Rattle.update.proofs.EffectLaws.{finra-is}
-use borrow.Author.Rules.{rules}
 use Rattle.update.proofs.finra.Goals as goal
 
 pub returns : goal.returns

@@ -1,6 +1,5 @@
 use Rattle.field.specs.Field.{Bytes}
 use Rattle.update.proofs.StoreLaws.{list-is}
-use borrow.Author.Rules.{rules}
 use Rattle.update.proofs.list.Goals as goal
 
 pub returns : goal.returns

@@ -3,7 +3,6 @@ use borrow.Author.Tests.{ne_eqb}
 use Rattle.update.specs.code.Update.{maker_quote_on}
 use Rattle.update.proofs.MakerLaws.{maker-hit, free-hit}
 use Rattle.update.proofs.EffectLaws.{maker-known, maker-new, maker-nothing, maker-full}
-use borrow.Author.Rules.{rules}
 use Rattle.update.proofs.maker_quote.Goals as goal
 
 pub returns-then-fault-ne0 : goal.returns-then-fault-ne0

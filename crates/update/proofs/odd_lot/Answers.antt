@@ -1,5 +1,4 @@
 use Rattle.update.proofs.EffectLaws.{odd_refused, odd-taken}
-use borrow.Author.Rules.{rules}
 use Rattle.update.proofs.odd_lot.Goals as goal
 
 pub returns-then-code-ne0 : goal.returns-then-code-ne0

@@ -1,5 +1,4 @@
 use Rattle.update.proofs.OddLaws.{bids-refused, offers-refused, both-written}
-use borrow.Author.Rules.{rules}
 use Rattle.update.proofs.put_both.Goals as goal
 
 pub returns-in_default : goal.returns-in_default

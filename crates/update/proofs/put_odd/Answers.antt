@@ -1,7 +1,6 @@
 use native.Mathlib.Omega.{arith}
 use Rattle.update.proofs.EffectLaws.{letter-inside}
 use Rattle.update.proofs.OddLaws.{check-refused, both-touched, bids-touched, offers-touched, none-touched}
-use borrow.Author.Rules.{rules}
 use Rattle.update.proofs.put_odd.Goals as goal
 
 pub returns-in_default : goal.returns-in_default

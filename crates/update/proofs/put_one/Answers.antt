@@ -1,5 +1,4 @@
 use Rattle.update.proofs.OddLaws.{one-refused, one_written}
-use borrow.Author.Rules.{rules}
 use Rattle.update.proofs.put_one.Goals as goal
 
 pub returns-in_default : goal.returns-in_default

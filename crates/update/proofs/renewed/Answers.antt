@@ -1,5 +1,4 @@
 use Rattle.update.proofs.EffectLaws.{renewed-is}
-use borrow.Author.Rules.{rules}
 use Rattle.update.proofs.renewed.Goals as goal
 
 pub returns : goal.returns

@@ -2,7 +2,6 @@ use mathlib.Core.Path.{sym, ◌∙◌}
 use borrow.Author.Tests.{ne_eqb}
 use Rattle.update.specs.code.Update.{round_lot_on}
 use Rattle.update.proofs.EffectLaws.{letter-inside, levels-idle, round-taken}
-use borrow.Author.Rules.{rules}
 use Rattle.update.proofs.round_lot.Goals as goal
 
 pub returns-then-fault-ne0 : goal.returns-then-fault-ne0

@@ -1,6 +1,5 @@
 use mathlib.Core.Path.{sym, ◌∙◌}
 use Rattle.update.proofs.StatusLaws.{status-elsewhere, status-bad, status-taken}
-use borrow.Author.Rules.{rules}
 use Rattle.update.proofs.trading_status.Goals as goal
 
 pub returns-then-get8-letter : goal.returns-then-get8-letter

@@ -1,10 +1,9 @@
-use Prim.Native.Nat.{◌+◌, ◌-◌, ◌≤◌}
+use Prim.Native.Nat.{◌+◌, ◌-◌}
 use mathlib.Core.Path.{◌≡◌, sym, ap, ◌∙◌}
 use mathlib.Core.Bool.{true}
 use native.Mathlib.Omega.{arith}
-use lib.ListN.{length}
 use Rattle.field.specs.Field.{field}
-use Rattle.venue.proofs.BlockLaws.{Sound, sound-is}
+use Rattle.venue.proofs.BlockLaws.{sound-is}
 use Rattle.venue.proofs.WalkLaws.{Lies, next-is, lent_length, here, there, from_start, good-fails, good-again, good-end}
 use Rattle.venue.specs.Venue.{venue_first, laid_from, venue_from, messages_good}
 use borrow.Author.Rules.{rules}
@@ -30,31 +29,31 @@ loop-i-init c =
 pub slice_bounds-is_message_good-count : goal.slice_bounds-is_message_good-count
 slice_bounds-is_message_good-count c =
     let stands : Lies c.args.block.now c.loop-i.p =
-        here _ _ _ _ c.loop-i-test.true c.loop-i.invariant.1.0 in
+    here _ _ _ _ c.loop-i-test.true c.loop-i.invariant.1.0 in
     let reached : c.next-e.result ≡ c.loop-i.p + field c.args.block.now c.loop-i.p 2 =
-        c.next-e.ensures ∙ next-is _ _ stands in
+    c.next-e.ensures ∙ next-is _ _ stands in
     omega (arith, reached)
 
 pub slice_bounds-is_message_good-start : goal.slice_bounds-is_message_good-start
 slice_bounds-is_message_good-start c =
     let stands : Lies c.args.block.now c.loop-i.p =
-        here _ _ _ _ c.loop-i-test.true c.loop-i.invariant.1.0 in
+    here _ _ _ _ c.loop-i-test.true c.loop-i.invariant.1.0 in
     let reached : c.next-e.result ≡ c.loop-i.p + field c.args.block.now c.loop-i.p 2 =
-        c.next-e.ensures ∙ next-is _ _ stands in
+    c.next-e.ensures ∙ next-is _ _ stands in
     omega (arith, reached)
 
 pub slice_bounds-is_message_good-end : goal.slice_bounds-is_message_good-end
 slice_bounds-is_message_good-end c =
     let stands : Lies c.args.block.now c.loop-i.p =
-        here _ _ _ _ c.loop-i-test.true c.loop-i.invariant.1.0 in
+    here _ _ _ _ c.loop-i-test.true c.loop-i.invariant.1.0 in
     let reached : c.next-e.result ≡ c.loop-i.p + field c.args.block.now c.loop-i.p 2 =
-        c.next-e.ensures ∙ next-is _ _ stands in
+    c.next-e.ensures ∙ next-is _ _ stands in
     omega (arith, reached, stands.inside)
 
 pub is_message_good-requires : goal.is_message_good-requires
 is_message_good-requires c =
     let stands : Lies c.args.block.now c.loop-i.p =
-        here _ _ _ _ c.loop-i-test.true c.loop-i.invariant.1.0 in
+    here _ _ _ _ c.loop-i-test.true c.loop-i.invariant.1.0 in
     let e = c in
     (omega (arith, lent_length _ _ _ stands e.next-e.ensures, stands.long), omega (arith, e.loop-i-test.true, e.count-c.ensures.1))
 

@@ -1,11 +1,10 @@
-use Prim.Native.Nat.{◌+◌, ◌-◌, ◌≤◌}
+use Prim.Native.Nat.{◌+◌, ◌-◌}
 use mathlib.Core.Path.{◌≡◌, sym, ap, ◌∙◌}
 use mathlib.Core.Bool.{true}
 use native.Mathlib.Omega.{arith}
-use lib.ListN.{length}
 use Rattle.field.specs.Field.{field}
-use Rattle.venue.proofs.BlockLaws.{Sound, sound-is}
-use Rattle.venue.proofs.WalkLaws.{Lies, next-is, lent_length, here, there, from_start, placed-fails, placed-again, placed_end}
+use Rattle.venue.proofs.BlockLaws.{sound-is}
+use Rattle.venue.proofs.WalkLaws.{Lies, next-is, here, there, from_start, placed-fails, placed-again, placed_end}
 use Rattle.venue.specs.Venue.{venue_first, laid_from, venue_from, messages_placed}
 use borrow.Author.Rules.{rules}
 use Rattle.venue.proofs.are_placed.Goals as goal
@@ -26,25 +25,25 @@ loop-i-init c =
 pub slice_bounds-is_message_placed-count : goal.slice_bounds-is_message_placed-count
 slice_bounds-is_message_placed-count c =
     let stands : Lies c.args.block.now c.loop-i.p =
-        here _ _ _ _ c.loop-i-test.true c.loop-i.invariant.1.0 in
+    here _ _ _ _ c.loop-i-test.true c.loop-i.invariant.1.0 in
     let reached : c.next-e.result ≡ c.loop-i.p + field c.args.block.now c.loop-i.p 2 =
-        c.next-e.ensures ∙ next-is _ _ stands in
+    c.next-e.ensures ∙ next-is _ _ stands in
     omega (arith, reached)
 
 pub slice_bounds-is_message_placed-start : goal.slice_bounds-is_message_placed-start
 slice_bounds-is_message_placed-start c =
     let stands : Lies c.args.block.now c.loop-i.p =
-        here _ _ _ _ c.loop-i-test.true c.loop-i.invariant.1.0 in
+    here _ _ _ _ c.loop-i-test.true c.loop-i.invariant.1.0 in
     let reached : c.next-e.result ≡ c.loop-i.p + field c.args.block.now c.loop-i.p 2 =
-        c.next-e.ensures ∙ next-is _ _ stands in
+    c.next-e.ensures ∙ next-is _ _ stands in
     omega (arith, reached)
 
 pub slice_bounds-is_message_placed-end : goal.slice_bounds-is_message_placed-end
 slice_bounds-is_message_placed-end c =
     let stands : Lies c.args.block.now c.loop-i.p =
-        here _ _ _ _ c.loop-i-test.true c.loop-i.invariant.1.0 in
+    here _ _ _ _ c.loop-i-test.true c.loop-i.invariant.1.0 in
     let reached : c.next-e.result ≡ c.loop-i.p + field c.args.block.now c.loop-i.p 2 =
-        c.next-e.ensures ∙ next-is _ _ stands in
+    c.next-e.ensures ∙ next-is _ _ stands in
     omega (arith, reached, stands.inside)
 
 pub returns-else-is_message_placed : goal.returns-else-is_message_placed

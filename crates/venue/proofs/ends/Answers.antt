@@ -1,5 +1,4 @@
 use borrow.Author.Tests.{eq-eqb, ne_eqb}
-use borrow.Author.Rules.{rules}
 use Rattle.venue.proofs.ends.Goals as goal
 
 pub returns-then-p-block : goal.returns-then-p-block

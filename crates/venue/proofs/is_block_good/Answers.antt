@@ -4,7 +4,6 @@ use native.Mathlib.Omega.{arith}
 use lib.ListN.{length}
 use Rattle.venue.proofs.BlockLaws.{size-lengths, block_size, block-version, block-checksum, block_none, block-laid}
 use Rattle.venue.specs.Venue.{venue_shortest, venue_longest, laid_from, venue_first}
-use borrow.Author.Rules.{rules}
 use Rattle.venue.proofs.is_block_good.Goals as goal
 
 -- B1 to B3 have passed
@@ -17,13 +16,13 @@ returns-then-byte-ne0 c =
 pub checksum-requires : goal.checksum-requires
 checksum-requires c =
     let lengths : (venue_shortest ≤ length c.args.block.now) × (length c.args.block.now ≤ venue_longest) =
-        size-lengths _ (sym c.is_size_good.ensures ∙ c.if-is_size_good.true) in
+    size-lengths _ (sym c.is_size_good.ensures ∙ c.if-is_size_good.true) in
     let l = lengths in (omega (arith, l.0), omega (arith, l.1))
 
 pub get16-requires : goal.get16-requires
 get16-requires c =
     let lengths : (venue_shortest ≤ length c.args.block.now) × (length c.args.block.now ≤ venue_longest) =
-        size-lengths _ (sym c.is_size_good.ensures ∙ c.if-is_size_good.true) in
+    size-lengths _ (sym c.is_size_good.ensures ∙ c.if-is_size_good.true) in
     let l = lengths in omega (arith, l.0)
 
 pub returns-then-checksum-get16 : goal.returns-then-checksum-get16
@@ -44,7 +43,7 @@ returns-then-c-lt1 c =
 pub is_laid-requires : goal.is_laid-requires
 is_laid-requires c =
     let lengths : (venue_shortest ≤ length c.args.block.now) × (length c.args.block.now ≤ venue_longest) =
-        size-lengths _ (sym c.is_size_good.ensures ∙ c.if-is_size_good.true) in
+    size-lengths _ (sym c.is_size_good.ensures ∙ c.if-is_size_good.true) in
     let l = lengths in (omega (arith, l.0), l.1)
 
 pub returns-then-is_size_good : goal.returns-then-is_size_good

@@ -1,7 +1,6 @@
-use Prim.Native.Nat.{◌-◌, ◌≤◌}
-use mathlib.Core.Path.{◌≡◌, sym, ◌∙◌}
+use Prim.Native.Nat.{◌-◌}
+use mathlib.Core.Path.{sym, ◌∙◌}
 use native.Mathlib.Omega.{arith}
-use lib.ListN.{length}
 use Rattle.venue.proofs.WalkLaws.{lies-is, next-is, laid-fails, laid-again, laid_end, from_start}
 use Rattle.venue.specs.Venue.{venue_first, laid_from}
 use borrow.Author.Rules.{rules}

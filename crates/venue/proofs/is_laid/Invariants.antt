@@ -1,10 +1,7 @@
 use Prim.Native.Nat.{◌-◌, ◌≤◌}
-use mathlib.Core.Path.{◌≡◌, sym, ◌∙◌}
-use native.Mathlib.Omega.{arith}
+use mathlib.Core.Path.{◌≡◌}
 use lib.ListN.{length}
-use Rattle.venue.proofs.WalkLaws.{lies-is, next-is, laid-fails, laid-again, laid_end, from_start}
 use Rattle.venue.specs.Venue.{venue_first, laid_from}
-use borrow.Author.Rules.{rules}
 use Rattle.venue.proofs.is_laid.Given as goal
 
 abbrev pub invariant-loop-i : goal.invariant-loop-i

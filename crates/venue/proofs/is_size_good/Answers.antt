@@ -1,7 +1,5 @@
 use mathlib.Core.Path.{sym, refl, ◌∙◌}
-use native.Mathlib.Omega.{arith}
 use Rattle.venue.proofs.BlockLaws.{size-short, size-over, size-other, size-even}
-use borrow.Author.Rules.{rules}
 use Rattle.venue.proofs.is_size_good.Goals as goal
 
 pub returns-then-len-lt-SHORTEST : goal.returns-then-len-lt-SHORTEST

@@ -1,7 +1,6 @@
-use mathlib.Core.Path.{◌≡◌, sym, ◌∙◌}
+use mathlib.Core.Path.{sym, ◌∙◌}
 use mathlib.Core.Bool.{true, false}
 use Rattle.venue.proofs.BlockLaws.{number-block, number-rules, number-placed}
-use borrow.Author.Rules.{rules}
 use Rattle.venue.proofs.judge.Goals as goal
 
 pub are_good-requires : goal.are_good-requires

@@ -1,10 +1,9 @@
-use mathlib.Core.Path.{refl, ap, ◌∙◌}
+use mathlib.Core.Path.{ap}
 use Prim.Native.Nat.{ℕ, ◌+◌}
 use lib.Dec.{leb}
 use lib.ListN.{length}
 use native.Mathlib.Omega.{arith}
 use Rattle.venue.proofs.WalkLaws.{lies-header, lies-short, lies-inside}
-use borrow.Author.Rules.{rules}
 use Rattle.venue.proofs.lies.Goals as goal
 
 pub returns-then-block-p : goal.returns-then-block-p

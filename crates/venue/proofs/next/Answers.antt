@@ -2,7 +2,6 @@ use mathlib.Core.Path.{ap, ◌∙◌}
 use Prim.Native.Nat.{ℕ, ◌+◌}
 use native.Mathlib.Omega.{arith}
 use Rattle.venue.proofs.WalkLaws.{next-none, next-cut, next-whole}
-use borrow.Author.Rules.{rules}
 use Rattle.venue.proofs.next.Goals as goal
 
 pub returns-then-len-lt2 : goal.returns-then-len-lt2

@@ -1,5 +1,4 @@
 use native.Mathlib.Omega.{arith}
-use borrow.Author.Rules.{rules}
 use Rattle.venueform.proofs.item_count.Goals as goal
 
 pub returns : goal.returns

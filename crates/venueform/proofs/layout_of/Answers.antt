@@ -1,5 +1,4 @@
 use borrow.Author.Tests.{ne_eqb}
-use borrow.Author.Rules.{rules}
 use Rattle.venueform.specs.Form.{layout_of}
 use Rattle.venueform.proofs.layout_of.Goals as goal
 

@@ -1,7 +1,4 @@
-use mathlib.Core.Path.{◌∙◌, ap}
-use Prim.Native.Nat.{ℕ, ◌*◌}
 use native.Mathlib.Omega.{arith}
-use borrow.Author.Rules.{rules}
 use Rattle.venueform.proofs.price.Goals as goal
 
 pub get64-requires : goal.get64-requires

@@ -1,5 +1,3 @@
-use native.Mathlib.Omega.{arith}
-use borrow.Author.Rules.{rules}
 use Rattle.venueform.proofs.shares.Goals as goal
 
 pub get32-requires : goal.get32-requires

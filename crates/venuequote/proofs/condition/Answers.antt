@@ -1,4 +1,3 @@
-use borrow.Author.Rules.{rules}
 use Rattle.venuequote.proofs.condition.Goals as goal
 
 pub returns-then-form : goal.returns-then-form

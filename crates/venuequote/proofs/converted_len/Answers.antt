@@ -1,6 +1,5 @@
 use native.Mathlib.Omega.{arith}
 use Rattle.venuequote.proofs.WriteLaws.{len-quote, len-other}
-use borrow.Author.Rules.{rules}
 use Rattle.venuequote.proofs.converted_len.Goals as goal
 
 pub returns-in-Quote : goal.returns-in-Quote

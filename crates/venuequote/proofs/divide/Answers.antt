@@ -1,5 +1,4 @@
 use Rattle.venuequote.proofs.WriteLaws.{divide-none, divide-some}
-use borrow.Author.Rules.{rules}
 use Rattle.venuequote.proofs.divide.Goals as goal
 
 pub returns-then-lot-eq0 : goal.returns-then-lot-eq0

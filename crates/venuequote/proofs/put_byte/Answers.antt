@@ -1,6 +1,5 @@
 use native.Mathlib.Omega.{arith}
 use Rattle.field.proofs.Laws.{splice-one}
-use borrow.Author.Rules.{rules}
 use Rattle.venuequote.proofs.put_byte.Goals as goal
 
 pub returns : goal.returns

@@ -1,6 +1,5 @@
 use Rattle.field.specs.Field.{Bytes}
 use Rattle.venuequote.proofs.WriteLaws.{header_is}
-use borrow.Author.Rules.{rules}
 use Rattle.venuequote.proofs.put_header.Goals as goal
 
 pub returns : goal.returns

@@ -1,6 +1,5 @@
 use mathlib.Core.Path.{◌∙◌}
 use Rattle.venuequote.proofs.WriteLaws.{item-is}
-use borrow.Author.Rules.{rules}
 use Rattle.venuequote.proofs.put_item.Goals as goal
 
 pub returns : goal.returns

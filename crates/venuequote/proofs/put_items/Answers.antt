@@ -1,9 +1,7 @@
-use Prim.Native.Nat.{ℕ, ◌+◌, ◌*◌, ◌-◌, ◌≤◌}
-use mathlib.Core.Path.{◌≡◌, refl, ap, ◌∙◌}
+use Prim.Native.Nat.{ℕ, ◌-◌}
+use mathlib.Core.Path.{refl, ap, ◌∙◌}
 use native.Mathlib.Omega.{arith}
-use lib.ListN.{length}
 use Rattle.field.specs.Field.{splice}
-use Rattle.levels.specs.Levels.{item_length}
 use Rattle.venuerules.proofs.QuoteLaws.{item_in}
 use Rattle.venuequote.specs.Quote.{our_items}
 use Rattle.venuequote.proofs.WriteLaws.{items-start, items-again, items-end}

@@ -1,13 +1,9 @@
-use Prim.Native.Nat.{ℕ, ◌+◌, ◌*◌, ◌-◌, ◌≤◌}
-use mathlib.Core.Path.{◌≡◌, refl, ap, ◌∙◌}
-use native.Mathlib.Omega.{arith}
+use Prim.Native.Nat.{◌+◌, ◌*◌, ◌-◌, ◌≤◌}
+use mathlib.Core.Path.{◌≡◌}
 use lib.ListN.{length}
 use Rattle.field.specs.Field.{splice}
 use Rattle.levels.specs.Levels.{item_length}
-use Rattle.venuerules.proofs.QuoteLaws.{item_in}
 use Rattle.venuequote.specs.Quote.{our_items}
-use Rattle.venuequote.proofs.WriteLaws.{items-start, items-again, items-end}
-use borrow.Author.Rules.{rules}
 use Rattle.venuequote.proofs.put_items.Given as goal
 
 abbrev pub invariant-loop-i : goal.invariant-loop-i

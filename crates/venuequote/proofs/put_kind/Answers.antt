@@ -1,5 +1,4 @@
 use Rattle.venuequote.proofs.WriteLaws.{kind-is}
-use borrow.Author.Rules.{rules}
 use Rattle.venuequote.proofs.put_kind.Goals as goal
 
 pub returns : goal.returns

@@ -1,6 +1,5 @@
 use native.Mathlib.Omega.{arith}
 use Rattle.venuequote.proofs.WriteLaws.{marks-room, marks-room-odd, marks-round, marks-odd}
-use borrow.Author.Rules.{rules}
 use Rattle.venuequote.proofs.put_marks.Goals as goal
 
 pub put_byte-requires : goal.put_byte-requires

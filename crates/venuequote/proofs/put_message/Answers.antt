@@ -1,5 +1,4 @@
 use Rattle.venuequote.proofs.WriteLaws.{ready-quote, ready-other, length-quote, quote-is}
-use borrow.Author.Rules.{rules}
 use Rattle.venuequote.proofs.put_message.Goals as goal
 
 pub put_quote-requires : goal.put_quote-requires

@@ -1,7 +1,6 @@
 use native.Mathlib.Omega.{arith}
 use Rattle.venuerules.proofs.QuoteLaws.{symbol-in}
 use Rattle.venuequote.proofs.WriteLaws.{quote-room, quote-room-round, quote-room-odd, quote-round, quote-odd}
-use borrow.Author.Rules.{rules}
 use Rattle.venuequote.proofs.put_quote.Goals as goal
 
 pub put_header-requires : goal.put_header-requires

@@ -1,5 +1,4 @@
 use Rattle.venuequote.proofs.WriteLaws.{side-is}
-use borrow.Author.Rules.{rules}
 use Rattle.venuequote.proofs.put_side.Goals as goal
 
 pub returns : goal.returns

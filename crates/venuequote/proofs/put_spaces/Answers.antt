@@ -1,5 +1,4 @@
 use Rattle.venuequote.proofs.WriteLaws.{spaces-is}
-use borrow.Author.Rules.{rules}
 use Rattle.venuequote.proofs.put_spaces.Goals as goal
 
 pub returns : goal.returns

@@ -2,7 +2,6 @@ use Rattle.field.specs.Field.{Bytes}
 use native.Mathlib.Omega.{arith}
 use Rattle.venuerules.proofs.QuoteLaws.{symbol-in}
 use Rattle.venuequote.proofs.WriteLaws.{symbol-long, symbol-short}
-use borrow.Author.Rules.{rules}
 use Rattle.venuequote.proofs.put_symbol.Goals as goal
 
 pub get64-requires : goal.get64-requires

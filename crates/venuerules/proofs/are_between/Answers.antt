@@ -1,9 +1,8 @@
-use Prim.Native.Nat.{◌-◌, ◌≤◌}
-use mathlib.Core.Path.{◌≡◌}
+use Prim.Native.Nat.{◌-◌}
 use native.Mathlib.Omega.{arith}
-use lib.ListN.{length, drop, get_or}
+use lib.ListN.{get_or}
 use borrow.Author.Tests.{le-leb, lt-leb}
-use Rattle.lists.specs.Lists.{every, between}
+use Rattle.lists.specs.Lists.{between}
 use Rattle.lists.proofs.Searches.{every-fails, every-again, every-end}
 use borrow.Author.Rules.{rules}
 use Rattle.venuerules.proofs.are_between.Goals as goal

@@ -1,11 +1,7 @@
 use Prim.Native.Nat.{◌-◌, ◌≤◌}
 use mathlib.Core.Path.{◌≡◌}
-use native.Mathlib.Omega.{arith}
-use lib.ListN.{length, drop, get_or}
-use borrow.Author.Tests.{le-leb, lt-leb}
+use lib.ListN.{length, drop}
 use Rattle.lists.specs.Lists.{every, between}
-use Rattle.lists.proofs.Searches.{every-fails, every-again, every-end}
-use borrow.Author.Rules.{rules}
 use Rattle.venuerules.proofs.are_between.Given as goal
 
 abbrev pub invariant-loop-i : goal.invariant-loop-i

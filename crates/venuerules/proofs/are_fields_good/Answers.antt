@@ -1,6 +1,5 @@
 use mathlib.Core.Path.{sym, ap, ◌∙◌}
 use mathlib.Core.Bool.{Bool, cond}
-use borrow.Author.Rules.{rules}
 use Rattle.venuerules.specs.Rules.{odd_good, round_good}
 use Rattle.venuerules.proofs.are_fields_good.Goals as goal
 

@@ -1,9 +1,8 @@
-use Prim.Native.Nat.{◌-◌, ◌≤◌}
-use mathlib.Core.Path.{◌≡◌, ap, sym, ◌∙◌}
+use Prim.Native.Nat.{◌-◌}
+use mathlib.Core.Path.{ap, ◌∙◌}
 use native.Mathlib.Omega.{arith}
 use Rattle.lists.specs.Lists.{all}
 use Rattle.lists.proofs.Searches.{all_start, all-fails, all-again, all_end}
-use Rattle.venueform.specs.Form.{item_count}
 use Rattle.venuerules.proofs.QuoteLaws.{item_in, item-high, item-low}
 use borrow.Author.Rules.{rules}
 use Rattle.venuerules.specs.Rules.{item_good, items_good}

@@ -1,5 +1,4 @@
 use mathlib.Core.Path.{sym, ap, ◌∙◌}
-use borrow.Author.Rules.{rules}
 use Rattle.venuerules.specs.Rules.{layout_good}
 use Rattle.venuerules.proofs.is_body_good.Goals as goal
 

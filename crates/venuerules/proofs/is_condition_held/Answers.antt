@@ -1,4 +1,3 @@
-use borrow.Author.Rules.{rules}
 use Rattle.lists.specs.Lists.{member}
 use Rattle.venuerules.proofs.is_condition_held.Goals as goal
 

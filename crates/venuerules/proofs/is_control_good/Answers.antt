@@ -1,5 +1,4 @@
-use borrow.Author.Tests.{eq-eqb, ne_eqb}
-use borrow.Author.Rules.{rules}
+use borrow.Author.Tests.{ne_eqb}
 use Rattle.venuerules.specs.Rules.{control_good}
 use Rattle.venuerules.proofs.is_control_good.Goals as goal
 

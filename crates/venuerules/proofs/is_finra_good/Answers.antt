@@ -4,7 +4,6 @@ use native.Mathlib.Omega.{arith}
 use borrow.Author.Tests.{ne_eqb}
 use Rattle.lists.specs.Lists.{member, all, every}
 use Rattle.lists.proofs.Tables.{in-range, in-gap}
-use borrow.Author.Rules.{rules}
 use Rattle.venuerules.specs.Rules.{finra_good}
 use Rattle.venuerules.proofs.is_finra_good.Goals as goal
 

@@ -1,5 +1,4 @@
 use mathlib.Core.Path.{sym, ◌∙◌}
-use borrow.Author.Rules.{rules}
 use Rattle.venuerules.specs.Rules.{header_good}
 use Rattle.venuerules.proofs.is_header_good.Goals as goal
 

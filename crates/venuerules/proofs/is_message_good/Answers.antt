@@ -1,5 +1,4 @@
 use mathlib.Core.Path.{sym, ◌∙◌}
-use borrow.Author.Rules.{rules}
 use Rattle.venuerules.specs.Rules.{message_good}
 use Rattle.venuerules.proofs.is_message_good.Goals as goal
 

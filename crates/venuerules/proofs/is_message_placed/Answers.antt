@@ -1,5 +1,4 @@
 use mathlib.Core.Path.{sym, ap, ◌∙◌}
-use borrow.Author.Rules.{rules}
 use Rattle.venuerules.specs.Rules.{placed_by, message_placed}
 use Rattle.venuerules.proofs.is_message_placed.Goals as goal
 

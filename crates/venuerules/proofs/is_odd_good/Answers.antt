@@ -1,6 +1,4 @@
-use native.Mathlib.Omega.{arith}
 use borrow.Author.Tests.{lt-ltb, le-ltb}
-use borrow.Author.Rules.{rules}
 use Rattle.venuerules.specs.Rules.{odd_good}
 use Rattle.venuerules.proofs.is_odd_good.Goals as goal
 

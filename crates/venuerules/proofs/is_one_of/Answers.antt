@@ -1,8 +1,5 @@
-use Prim.Native.Nat.{◌-◌, ◌≤◌}
-use mathlib.Core.Path.{◌≡◌}
+use Prim.Native.Nat.{◌-◌}
 use native.Mathlib.Omega.{arith}
-use lib.ListN.{length, drop}
-use Rattle.lists.specs.Lists.{member}
 use Rattle.venuerules.proofs.LoopLaws.{member-found, member-again, member-end}
 use borrow.Author.Rules.{rules}
 use Rattle.venuerules.proofs.is_one_of.Goals as goal

@@ -1,10 +1,7 @@
 use Prim.Native.Nat.{◌-◌, ◌≤◌}
 use mathlib.Core.Path.{◌≡◌}
-use native.Mathlib.Omega.{arith}
 use lib.ListN.{length, drop}
 use Rattle.lists.specs.Lists.{member}
-use Rattle.venuerules.proofs.LoopLaws.{member-found, member-again, member-end}
-use borrow.Author.Rules.{rules}
 use Rattle.venuerules.proofs.is_one_of.Given as goal
 
 abbrev pub invariant-loop-i : goal.invariant-loop-i

@@ -1,5 +1,4 @@
 use mathlib.Core.Path.{sym, ◌∙◌}
-use borrow.Author.Rules.{rules}
 use Rattle.venuerules.specs.Rules.{own_good}
 use Rattle.venuerules.proofs.is_own_good.Goals as goal
 

@@ -1,7 +1,6 @@
 use mathlib.Core.Path.{refl, sym, ◌∙◌}
 use mathlib.Core.List.{[], ◌∷◌}
 use native.Mathlib.Omega.{arith}
-use borrow.Author.Rules.{rules}
 use Rattle.lists.specs.Lists.{member, every, all}
 use Rattle.lists.proofs.Tables.{in-range, in-gap, in_table}
 use Rattle.venuerules.specs.Rules.{participant_good}

@@ -1,6 +1,5 @@
 use mathlib.Core.Path.{sym, ◌∙◌}
 use borrow.Author.Tests.{ne_eqb}
-use borrow.Author.Rules.{rules}
 use Rattle.venuerules.specs.Rules.{quote_placed}
 use Rattle.venuerules.proofs.is_quote_placed.Goals as goal
 

@@ -1,6 +1,5 @@
 use borrow.Author.Tests.{eq-eqb, ne_eqb}
 use Rattle.field.specs.Field.{part}
-use borrow.Author.Rules.{rules}
 use Rattle.venuerules.specs.Rules.{reference_good}
 use Rattle.venuerules.proofs.is_reference_good.Goals as goal
 

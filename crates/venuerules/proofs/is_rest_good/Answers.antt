@@ -4,7 +4,6 @@ use mathlib.Core.Bool.{true, false}
 use borrow.Author.Tests.{eq-eqb, ne_eqb}
 use Rattle.field.specs.Field.{Bytes}
 use Rattle.venuerules.proofs.HeaderLaws.{reserved-is}
-use borrow.Author.Rules.{rules}
 use Rattle.venuerules.specs.Rules.{id_good, reserved_good}
 use Rattle.venuerules.proofs.is_rest_good.Goals as goal
 
@@ -18,7 +17,7 @@ returns-then-wide-i c =
 pub returns-then-get32-ne-SPACES : goal.returns-then-get32-ne-SPACES
 returns-then-get32-ne-SPACES c =
     let named : let a = c.args in id_good a.i a.msg.now ≡ true =
-        rw (← c.byte.ensures, ← c.wide.ensures.0) (eq-eqb _ _ c.if-wide-i.false) in
+    rw (← c.byte.ensures, ← c.wide.ensures.0) (eq-eqb _ _ c.if-wide-i.false) in
     let n = c in
     let k = n in
     let y : Bytes k.args.msg.now = λ i. (k.shared_slice_known-1.given i).fits in
@@ -28,7 +27,7 @@ returns-then-get32-ne-SPACES c =
 pub returns : goal.returns
 returns c =
     let named : let a = c.args in id_good a.i a.msg.now ≡ true =
-        rw (← c.byte.ensures, ← c.wide.ensures.0) (eq-eqb _ _ c.if-wide-i.false) in
+    rw (← c.byte.ensures, ← c.wide.ensures.0) (eq-eqb _ _ c.if-wide-i.false) in
     let g = c in
     let n = g in
     let k = n in

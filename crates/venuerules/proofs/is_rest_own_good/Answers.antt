@@ -1,6 +1,5 @@
 use mathlib.Core.Path.{sym, ◌∙◌}
 use Rattle.field.specs.Field.{part}
-use borrow.Author.Rules.{rules}
 use Rattle.venuerules.proofs.is_rest_own_good.Goals as goal
 
 pub returns-then-is_padded : goal.returns-then-is_padded

@@ -4,7 +4,6 @@ use native.Mathlib.Omega.{arith}
 use Rattle.ranking.specs.declared.Side.TheVariants.{Bid, Offer}
 use Rattle.venueform.specs.Form.{side_at, price_at, price_in}
 use Rattle.venuerules.proofs.QuoteLaws.{sides-in, own_in, round-bid, round-offer, round-short, round-market, round-own}
-use borrow.Author.Rules.{rules}
 use Rattle.venuerules.proofs.is_round_good.Goals as goal
 
 pub price-bid-requires : goal.price-bid-requires
@@ -21,29 +20,29 @@ price-offer-requires c =
 pub returns-then-bid-gt-PRICE_MOST : goal.returns-then-bid-gt-PRICE_MOST
 returns-then-bid-gt-PRICE_MOST c =
     let bid-is : let a = c.args in c.price-bid.result ≡ price_in a.form Bid a.msg.now =
-        let p = c in
-        let a = p.args in
-        p.price-bid.ensures ∙ ap (price_at a.form a.msg.now) p.bid_at-at.ensures.0 in
+    let p = c in
+    let a = p.args in
+    p.price-bid.ensures ∙ ap (price_at a.form a.msg.now) p.bid_at-at.ensures.0 in
     let offer-is : let a = c.args in c.price-offer.result ≡ price_in a.form Offer a.msg.now =
-        let l = c in
-        let b = l in
-        let a = b.args in
-        let e : b.bid_at-at.result + l.side_len.result ≡ side_at a.form Offer = omega (arith, b.bid_at-at.ensures.0, l.side_len.ensures.0) in
-        c.price-offer.ensures ∙ ap (price_at a.form a.msg.now) e in
+    let l = c in
+    let b = l in
+    let a = b.args in
+    let e : b.bid_at-at.result + l.side_len.result ≡ side_at a.form Offer = omega (arith, b.bid_at-at.ensures.0, l.side_len.ensures.0) in
+    c.price-offer.ensures ∙ ap (price_at a.form a.msg.now) e in
     round-bid _ _ _ _ bid-is offer-is c.if-bid-gt-PRICE_MOST.true
 
 pub returns-then-offer-gt-PRICE_MOST : goal.returns-then-offer-gt-PRICE_MOST
 returns-then-offer-gt-PRICE_MOST c =
     let bid-is : let a = c.args in c.price-bid.result ≡ price_in a.form Bid a.msg.now =
-        let p = c in
-        let a = p.args in
-        p.price-bid.ensures ∙ ap (price_at a.form a.msg.now) p.bid_at-at.ensures.0 in
+    let p = c in
+    let a = p.args in
+    p.price-bid.ensures ∙ ap (price_at a.form a.msg.now) p.bid_at-at.ensures.0 in
     let offer-is : let a = c.args in c.price-offer.result ≡ price_in a.form Offer a.msg.now =
-        let l = c in
-        let b = l in
-        let a = b.args in
-        let e : b.bid_at-at.result + l.side_len.result ≡ side_at a.form Offer = omega (arith, b.bid_at-at.ensures.0, l.side_len.ensures.0) in
-        c.price-offer.ensures ∙ ap (price_at a.form a.msg.now) e in
+    let l = c in
+    let b = l in
+    let a = b.args in
+    let e : b.bid_at-at.result + l.side_len.result ≡ side_at a.form Offer = omega (arith, b.bid_at-at.ensures.0, l.side_len.ensures.0) in
+    c.price-offer.ensures ∙ ap (price_at a.form a.msg.now) e in
     let b = c in
     round-offer _ _ _ _ bid-is offer-is b.if-bid-gt-PRICE_MOST.false c.if-offer-gt-PRICE_MOST.true
 
@@ -56,15 +55,15 @@ is_own_good-requires c =
 pub returns-then-is_market_good : goal.returns-then-is_market_good
 returns-then-is_market_good c =
     let bid-is : let a = c.args in c.price-bid.result ≡ price_in a.form Bid a.msg.now =
-        let p = c in
-        let a = p.args in
-        p.price-bid.ensures ∙ ap (price_at a.form a.msg.now) p.bid_at-at.ensures.0 in
+    let p = c in
+    let a = p.args in
+    p.price-bid.ensures ∙ ap (price_at a.form a.msg.now) p.bid_at-at.ensures.0 in
     let offer-is : let a = c.args in c.price-offer.result ≡ price_in a.form Offer a.msg.now =
-        let l = c in
-        let b = l in
-        let a = b.args in
-        let e : b.bid_at-at.result + l.side_len.result ≡ side_at a.form Offer = omega (arith, b.bid_at-at.ensures.0, l.side_len.ensures.0) in
-        c.price-offer.ensures ∙ ap (price_at a.form a.msg.now) e in
+    let l = c in
+    let b = l in
+    let a = b.args in
+    let e : b.bid_at-at.result + l.side_len.result ≡ side_at a.form Offer = omega (arith, b.bid_at-at.ensures.0, l.side_len.ensures.0) in
+    c.price-offer.ensures ∙ ap (price_at a.form a.msg.now) e in
     let k = c in
     let y = k in
     let l = y in
@@ -75,15 +74,15 @@ returns-then-is_market_good c =
 pub returns-then-form : goal.returns-then-form
 returns-then-form c =
     let bid-is : let a = c.args in c.price-bid.result ≡ price_in a.form Bid a.msg.now =
-        let p = c in
-        let a = p.args in
-        p.price-bid.ensures ∙ ap (price_at a.form a.msg.now) p.bid_at-at.ensures.0 in
+    let p = c in
+    let a = p.args in
+    p.price-bid.ensures ∙ ap (price_at a.form a.msg.now) p.bid_at-at.ensures.0 in
     let offer-is : let a = c.args in c.price-offer.result ≡ price_in a.form Offer a.msg.now =
-        let l = c in
-        let b = l in
-        let a = b.args in
-        let e : b.bid_at-at.result + l.side_len.result ≡ side_at a.form Offer = omega (arith, b.bid_at-at.ensures.0, l.side_len.ensures.0) in
-        c.price-offer.ensures ∙ ap (price_at a.form a.msg.now) e in
+    let l = c in
+    let b = l in
+    let a = b.args in
+    let e : b.bid_at-at.result + l.side_len.result ≡ side_at a.form Offer = omega (arith, b.bid_at-at.ensures.0, l.side_len.ensures.0) in
+    c.price-offer.ensures ∙ ap (price_at a.form a.msg.now) e in
     let y = c in
     let l = y in
     let o = l in
@@ -93,15 +92,15 @@ returns-then-form c =
 pub returns : goal.returns
 returns c =
     let bid-is : let a = c.args in c.price-bid.result ≡ price_in a.form Bid a.msg.now =
-        let p = c in
-        let a = p.args in
-        p.price-bid.ensures ∙ ap (price_at a.form a.msg.now) p.bid_at-at.ensures.0 in
+    let p = c in
+    let a = p.args in
+    p.price-bid.ensures ∙ ap (price_at a.form a.msg.now) p.bid_at-at.ensures.0 in
     let offer-is : let a = c.args in c.price-offer.result ≡ price_in a.form Offer a.msg.now =
-        let l = c in
-        let b = l in
-        let a = b.args in
-        let e : b.bid_at-at.result + l.side_len.result ≡ side_at a.form Offer = omega (arith, b.bid_at-at.ensures.0, l.side_len.ensures.0) in
-        c.price-offer.ensures ∙ ap (price_at a.form a.msg.now) e in
+    let l = c in
+    let b = l in
+    let a = b.args in
+    let e : b.bid_at-at.result + l.side_len.result ≡ side_at a.form Offer = omega (arith, b.bid_at-at.ensures.0, l.side_len.ensures.0) in
+    c.price-offer.ensures ∙ ap (price_at a.form a.msg.now) e in
     let l = c in
     let o = l in
     let b = o in

@@ -1,5 +1,4 @@
 use borrow.Author.Tests.{ne_eqb}
-use borrow.Author.Rules.{rules}
 use Rattle.venuerules.specs.Rules.{sender_good}
 use Rattle.venuerules.proofs.is_sender_good.Goals as goal
 

@@ -6,7 +6,6 @@ use Rattle.field.specs.Field.{part}
 use Rattle.text.specs.Form.{padded}
 use Rattle.venueform.specs.Form.{symbol_bytes}
 use Rattle.venuerules.proofs.QuoteLaws.{symbol-in}
-use borrow.Author.Rules.{rules}
 use Rattle.venuerules.proofs.is_symbol_good.Goals as goal
 
 pub slice_bounds-is_padded-end : goal.slice_bounds-is_padded-end

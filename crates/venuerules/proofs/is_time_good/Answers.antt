@@ -1,5 +1,4 @@
 use borrow.Author.Tests.{lt-ltb, le-ltb}
-use borrow.Author.Rules.{rules}
 use Rattle.venuerules.specs.Rules.{time_good}
 use Rattle.venuerules.proofs.is_time_good.Goals as goal
 

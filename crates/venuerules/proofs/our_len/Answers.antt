@@ -1,5 +1,4 @@
 use native.Mathlib.Omega.{arith}
-use borrow.Author.Rules.{rules}
 use Rattle.venuerules.proofs.our_len.Goals as goal
 
 pub returns-then-form : goal.returns-then-form

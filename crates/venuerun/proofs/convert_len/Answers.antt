@@ -1,4 +1,4 @@
-use Rattle.std.proofs.Common.{sym, ◌∙◌, rules}
+use Rattle.std.proofs.Common.{sym, ◌∙◌}
 use Rattle.venuerun.proofs.NeededLaws.{told-refused, told-done}
 use Rattle.venuerun.proofs.convert_len.Goals as goal
 

@@ -1,8 +1,6 @@
-use Rattle.std.proofs.Common.{◌≡◌, ◌-◌, ◌≤◌, true, arith, rules}
-use Rattle.block.specs.Block.{block_longest}
-use Rattle.venuerun.specs.code.Walk.{stands, fit_of}
+use Rattle.std.proofs.Common.{◌-◌, true, arith, rules}
 use Rattle.venuerun.proofs.StandLaws.{reached, here, there}
-use Rattle.venuerun.proofs.TurnLaws.{fitting_from, fit-stands, fit-start, fit-stop, fit-again, fit-end}
+use Rattle.venuerun.proofs.TurnLaws.{fit-stands, fit-start, fit-stop, fit-again, fit-end}
 use Rattle.venuerun.proofs.fit_from.Goals as goal
 
 pub loop-i-init : goal.loop-i-init

@@ -1,8 +1,7 @@
-use Rattle.std.proofs.Common.{◌≡◌, ◌-◌, ◌≤◌, true, arith, rules}
+use Rattle.std.proofs.Common.{◌≡◌, ◌-◌, ◌≤◌, true}
 use Rattle.block.specs.Block.{block_longest}
 use Rattle.venuerun.specs.code.Walk.{stands, fit_of}
-use Rattle.venuerun.proofs.StandLaws.{reached, here, there}
-use Rattle.venuerun.proofs.TurnLaws.{fitting_from, fit-stands, fit-start, fit-stop, fit-again, fit-end}
+use Rattle.venuerun.proofs.TurnLaws.{fitting_from}
 use Rattle.venuerun.proofs.fit_from.Given as goal
 
 abbrev pub invariant-loop-i : goal.invariant-loop-i

@@ -1,4 +1,4 @@
-use Rattle.std.proofs.Common.{arith, rules}
+use Rattle.std.proofs.Common.{arith}
 use Rattle.venuerun.proofs.NeededLaws.{judge-refused, judge-short, judge-done}
 use Rattle.venuerun.proofs.judge.Goals as goal
 

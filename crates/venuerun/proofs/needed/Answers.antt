@@ -1,6 +1,6 @@
-use Rattle.std.proofs.Common.{◌-◌, arith, rules}
+use Rattle.std.proofs.Common.{◌-◌, arith}
 use Rattle.venuerun.proofs.StandLaws.{reached, here}
-use Rattle.venuerun.proofs.NeededLaws.{Needing, needed-start, needed-with, needed-again, needed-end}
+use Rattle.venuerun.proofs.NeededLaws.{needed-start, needed-with, needed-again, needed-end}
 use Rattle.venuerun.proofs.needed.Goals as goal
 
 pub loop-i-init : goal.loop-i-init

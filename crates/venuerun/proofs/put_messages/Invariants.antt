@@ -1,6 +1,5 @@
-use Rattle.std.proofs.Common.{◌-◌, refl, ◌∙◌, arith, rules}
-use Rattle.venuerun.proofs.StandLaws.{reached, here, ready-here}
-use Rattle.venuerun.proofs.TurnLaws.{Putting, put-start, put-room, put-lent, put-again, put-end}
+use Rattle.std.proofs.Common.{◌-◌}
+use Rattle.venuerun.proofs.TurnLaws.{Putting}
 use Rattle.venuerun.proofs.put_messages.Given as goal
 
 abbrev pub invariant-loop-j : goal.invariant-loop-j

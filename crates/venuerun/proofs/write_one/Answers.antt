@@ -1,4 +1,4 @@
-use Rattle.std.proofs.Common.{arith, rules}
+use Rattle.std.proofs.Common.{arith}
 use Rattle.venuerun.proofs.TurnLaws.{one-few, one-frame, one-is}
 use Rattle.venuerun.proofs.write_one.Goals as goal
 

@@ -1,8 +1,8 @@
-use Rattle.std.proofs.Common.{◌-◌, [], sym, refl, ◌∙◌, arith, rules}
+use Rattle.std.proofs.Common.{◌-◌, sym, refl, ◌∙◌, arith}
 use Rattle.block.specs.Sequence.{next_of}
 use Rattle.venuerun.proofs.StandLaws.{ready-is}
 use Rattle.venuerun.proofs.VenueLaws.{run-longest}
-use Rattle.venuerun.proofs.TurnLaws.{Running, running-start, running-part, running-room, running-again, running-end, running-count, running-first, running-len}
+use Rattle.venuerun.proofs.TurnLaws.{running-start, running-part, running-room, running-again, running-end, running-count, running-first, running-len}
 use Rattle.venuerun.proofs.write_run.Goals as goal
 
 pub get32-sequence-requires : goal.get32-sequence-requires

@@ -1,5 +1,4 @@
 use mathlib.Core.Path.{refl}
-use borrow.Author.Rules.{rules}
 use Rattle.entries.specs.Entries.{as_d}
 use Rattle.walk.proofs.as_d.Goals as goal
 

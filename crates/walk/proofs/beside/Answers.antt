@@ -1,9 +1,4 @@
-use borrow.Author.Rules.{rules}
 use Rattle.walk.proofs.LeadingLaws.{beside_none, beside_first, beside-larger, beside-smaller, beside-earlier, beside-later, beside-alike}
-use Rattle.walk.proofs.beside.Reads as reads
-use Rattle.walk.proofs.beside.Lts as lts
-use Rattle.walk.proofs.kept.Reads as kept-reads
-use Rattle.walk.proofs.won.Reads as won-reads
 use Rattle.walk.proofs.beside.Goals as goal
 
 -- `walk::beside` meets its contract.

@@ -1,9 +1,5 @@
-use borrow.Author.Rules.{rules}
 use mathlib.Core.Path.{ap}
 use Rattle.ranking.specs.declared.Candidate.{Candidate}
-use Rattle.walk.proofs.copied_lead.Reads as reads
-use Rattle.walk.proofs.copied_lead.Lts as lts
-use Rattle.walk.proofs.copied.Reads as copied-reads
 use Rattle.walk.proofs.copied_lead.Goals as goal
 
 -- `walk::copied_lead` meets its contract.

@@ -1,10 +1,5 @@
-use borrow.Author.Rules.{rules}
 use Rattle.walk.proofs.LeadingLaws.{decided-has, decided-other, decided-alone}
 use Rattle.walk.proofs.MarkLaws.{other-marked}
-use Rattle.walk.proofs.decided.Reads as reads
-use Rattle.walk.proofs.decided.Lts as lts
-use Rattle.walk.proofs.is_other.Reads as is-other-reads
-use Rattle.walk.proofs.marked.Reads as marked-reads
 use Rattle.walk.proofs.decided.Goals as goal
 
 -- `walk::decided` meets its contract.

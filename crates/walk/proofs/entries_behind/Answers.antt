@@ -1,6 +1,5 @@
 use mathlib.Core.Path.{sym, ◌∙◌}
 use Rattle.walk.proofs.HaltLaws.{none-behind, trading-behind}
-use borrow.Author.Rules.{rules}
 use Rattle.walk.proofs.entries_behind.Goals as goal
 
 -- `walk::entries_behind` meets its contract.

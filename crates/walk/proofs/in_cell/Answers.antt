@@ -1,5 +1,4 @@
 use Rattle.walk.proofs.CellLaws.{best_none, best-read}
-use borrow.Author.Rules.{rules}
 use Rattle.walk.proofs.in_cell.Goals as goal
 
 -- `walk::in_cell` meets its contract.

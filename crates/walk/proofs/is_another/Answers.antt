@@ -1,9 +1,4 @@
-use borrow.Author.Rules.{rules}
 use Rattle.walk.proofs.KeyLaws.{another-self, another-by}
-use Rattle.walk.proofs.is_another.Reads as reads
-use Rattle.walk.proofs.is_another.Lts as lts
-use Rattle.walk.proofs.standing.Reads as standing-reads
-use Rattle.walk.proofs.stands.Reads as stands-reads
 use Rattle.walk.proofs.is_another.Goals as goal
 
 -- `walk::is_another` meets its contract.

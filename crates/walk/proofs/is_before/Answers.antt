@@ -1,5 +1,4 @@
 use Rattle.walk.proofs.CellLaws.{before-smaller, before-larger, before-name, before-time}
-use borrow.Author.Rules.{rules}
 use Rattle.walk.proofs.is_before.Goals as goal
 
 -- `walk::is_before` meets its contract.

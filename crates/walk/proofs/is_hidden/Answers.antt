@@ -1,9 +1,4 @@
-use borrow.Author.Rules.{rules}
 use Rattle.walk.proofs.LeadingLaws.{hidden-none, hidden-full, hidden-d, hidden-size}
-use Rattle.walk.proofs.is_hidden.Reads as reads
-use Rattle.walk.proofs.is_hidden.Lts as lts
-use Rattle.walk.proofs.full.Reads as full-reads
-use Rattle.walk.proofs.has_d.Reads as has-d-reads
 use Rattle.walk.proofs.is_hidden.Goals as goal
 
 -- `walk::is_hidden` meets its contract.

@@ -1,14 +1,8 @@
 use borrow.Author.Rules.{rules}
-use Prim.Native.Nat.{◌≤◌, ◌-◌, ◌+◌}
-use mathlib.Core.Path.{◌≡◌, refl}
-use Rattle.field.specs.Ascii.{A, Z}
-use Rattle.keysets.specs.Sets.{key_count}
-use Rattle.ranking.specs.code.Chosen.{any_other}
-use Rattle.walk.specs.code.Walk.{standing_at}
+use Prim.Native.Nat.{◌-◌, ◌+◌}
+use mathlib.Core.Path.{refl}
+use Rattle.field.specs.Ascii.{Z}
 use Rattle.walk.proofs.KeyLaws.{other-found, other-again, other-end}
-use Rattle.walk.proofs.is_other.Reads as reads
-use Rattle.walk.proofs.is_other.Lts as lts
-use Rattle.walk.proofs.is_another.Reads as is-another-reads
 use Rattle.walk.proofs.is_other.Goals as goal
 
 -- `walk::is_other` meets its contract.

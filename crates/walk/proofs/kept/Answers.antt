@@ -1,8 +1,4 @@
-use borrow.Author.Rules.{rules}
 use Rattle.walk.proofs.LeadingLaws.{kept-late, kept-early}
-use Rattle.walk.proofs.kept.Reads as reads
-use Rattle.walk.proofs.kept.Lts as lts
-use Rattle.walk.proofs.won.Reads as won-reads
 use Rattle.walk.proofs.kept.Goals as goal
 
 -- `walk::kept` meets its contract.

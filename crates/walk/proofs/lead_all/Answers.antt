@@ -1,15 +1,7 @@
-use Prim.Native.Nat.{◌≤◌, ◌-◌, ◌+◌}
-use mathlib.Core.Path.{◌≡◌, refl}
-use Rattle.ranking.specs.Held.{no_lead}
-use Rattle.ranking.specs.code.Choice.{lead_from}
-use Rattle.walk.specs.code.Walk.{standing_at}
-use Rattle.field.specs.Ascii.{A}
+use Prim.Native.Nat.{◌-◌}
+use mathlib.Core.Path.{refl}
 use Rattle.walk.proofs.StepLaws.{lead-again, lead-end}
 use borrow.Author.Rules.{rules}
-use Rattle.walk.proofs.lead_all.Reads as reads
-use Rattle.walk.proofs.lead_all.Lts as lts
-use Rattle.ranking.proofs.lead_with.Reads as lead-with-reads
-use Rattle.walk.proofs.standing.Reads as standing-reads
 use Rattle.walk.proofs.lead_all.Goals as goal
 
 -- `walk::lead_all` meets its contract.

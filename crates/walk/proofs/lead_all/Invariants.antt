@@ -1,15 +1,9 @@
 use Prim.Native.Nat.{◌≤◌, ◌-◌, ◌+◌}
-use mathlib.Core.Path.{◌≡◌, refl}
+use mathlib.Core.Path.{◌≡◌}
 use Rattle.ranking.specs.Held.{no_lead}
 use Rattle.ranking.specs.code.Choice.{lead_from}
 use Rattle.walk.specs.code.Walk.{standing_at}
 use Rattle.field.specs.Ascii.{A}
-use Rattle.walk.proofs.StepLaws.{lead-again, lead-end}
-use borrow.Author.Rules.{rules}
-use Rattle.walk.proofs.lead_all.Reads as reads
-use Rattle.walk.proofs.lead_all.Lts as lts
-use Rattle.ranking.proofs.lead_with.Reads as lead-with-reads
-use Rattle.walk.proofs.standing.Reads as standing-reads
 use Rattle.walk.proofs.lead_all.Given as goal
 
 abbrev pub invariant-loop-letter : goal.invariant-loop-letter

@@ -6,19 +6,6 @@ use Rattle.keys.specs.Keys.{full_key}
 use Rattle.walk.proofs.KeyLaws.{same-is, set-small}
 use Rattle.walk.proofs.LeadingLaws.{in_letters, leader-is, leaders-both}
 use Rattle.walk.proofs.MarkLaws.{decided-told}
-use Rattle.walk.proofs.leaders.Reads as reads
-use Rattle.walk.proofs.leaders.Lts as lts
-use Rattle.keys.proofs.key.Reads as key_reads
-use Rattle.keysets.proofs.same.Reads as same_Reads
-use Rattle.page.proofs.quote_keys.Reads as quote-keys-reads
-use Rattle.walk.proofs.decided.Reads as decided-reads
-use Rattle.walk.proofs.is_hidden.Reads as is-hidden-reads
-use Rattle.walk.proofs.leaders_of_all.Reads as leaders-of-all-reads
-use Rattle.walk.proofs.leading.Reads as leading-reads
-use Rattle.walk.proofs.led.Reads as led-reads
-use Rattle.walk.proofs.members.Reads as members-reads
-use Rattle.walk.proofs.stands.Reads as stands-reads
-use Rattle.walk.proofs.top_key.Reads as top-key-reads
 use Rattle.walk.proofs.leaders.Goals as goal
 
 -- `walk::leaders` meets its contract.
@@ -44,29 +31,29 @@ decided-offer_by-requires c = c.requires.page_len
 pub led-requires : goal.led-requires
 led-requires c =
     let top-bid-fits : c.top_key-top_bid.result ≤ full_key =
-        search rules in
+    search rules in
     let bid-fits : c.args.finra.bid.price < 2 ^ 64 =
-        search rules in
+    search rules in
     record { page_len = c.requires.page_len; in_letters = in_letters _ (λ i. (c.shared_slice_known-1.given i).fits) Bid _ bid-fits _ c.top_key-top_bid.ensures.0 c.top_key-top_bid.ensures.1 top-bid-fits _ (same-is _ Bid _ _ _ c.quote_keys.ensures.0 c.same-bids.ensures) _ c.key.ensures _ c.members-bid_set.ensures.0 _ c.leading-bid.ensures (sym c.is_hidden.ensures ∙ c.if-is_hidden.false) }
 
 pub led-requires-2 : goal.led-requires-2
 led-requires-2 c =
     let top-offer-fits : c.top_key-top_offer.result ≤ full_key =
-        search rules in
+    search rules in
     let offer-fits : c.args.finra.offer.price < 2 ^ 64 =
-        search rules in
+    search rules in
     record { page_len = c.requires.page_len; in_letters = in_letters _ (λ i. (c.shared_slice_known-1.given i).fits) Offer _ offer-fits _ c.top_key-top_offer.ensures.0 c.top_key-top_offer.ensures.1 top-offer-fits _ (same-is _ Offer _ _ _ c.quote_keys-2.ensures.0 c.same-offers.ensures) _ c.key-2.ensures _ c.members-offer_set.ensures.0 _ c.leading-offer.ensures (sym c.is_hidden-2.ensures ∙ c.if-is_hidden-2.false) }
 
 pub returns : goal.returns
 returns c =
     let top-bid-fits : c.top_key-top_bid.result ≤ full_key =
-        search rules in
+    search rules in
     let top-offer-fits : c.top_key-top_offer.result ≤ full_key =
-        search rules in
+    search rules in
     let bid-fits : c.args.finra.bid.price < 2 ^ 64 =
-        search rules in
+    search rules in
     let offer-fits : c.args.finra.offer.price < 2 ^ 64 =
-        search rules in
+    search rules in
     leaders-both _ _ _ _ _
     (leader-is _ (λ i. (c.shared_slice_known-1.given i).fits) Bid _ bid-fits _ c.top_key-top_bid.ensures.0 c.top_key-top_bid.ensures.1 top-bid-fits _ (same-is _ Bid _ _ _ c.quote_keys.ensures.0 c.same-bids.ensures) _ c.key.ensures _ c.members-bid_set.ensures.0 _ c.leading-bid.ensures (sym c.is_hidden.ensures ∙ c.if-is_hidden.false) _ c.if-last-lt-Z.false c.requires.a_le_last.1 _ (decided-told _ _ _ _ _ _ c.stands-d_bid.ensures _ c.decided-bid_by.ensures) _ c.led.ensures)
     (leader-is _ (λ i. (c.shared_slice_known-1.given i).fits) Offer _ offer-fits _ c.top_key-top_offer.ensures.0 c.top_key-top_offer.ensures.1 top-offer-fits _ (same-is _ Offer _ _ _ c.quote_keys-2.ensures.0 c.same-offers.ensures) _ c.key-2.ensures _ c.members-offer_set.ensures.0 _ c.leading-offer.ensures (sym c.is_hidden-2.ensures ∙ c.if-is_hidden-2.false) _ c.if-last-lt-Z.false c.requires.a_le_last.1 _ (decided-told _ _ _ _ _ _ c.stands-d_offer.ensures _ c.decided-offer_by.ensures) _ c.led-2.ensures)

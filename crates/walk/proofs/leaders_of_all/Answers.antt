@@ -1,10 +1,4 @@
-use borrow.Author.Rules.{rules}
 use Rattle.walk.proofs.LeadingLaws.{leaders-both, all-is}
-use Rattle.walk.proofs.leaders_of_all.Reads as reads
-use Rattle.walk.proofs.leaders_of_all.Lts as lts
-use Rattle.walk.proofs.copied.Reads as copied-reads
-use Rattle.walk.proofs.copied_lead.Reads as copied-lead-reads
-use Rattle.walk.proofs.lead_all.Reads as lead-all-reads
 use Rattle.walk.proofs.leaders_of_all.Goals as goal
 
 -- `walk::leaders_of_all` meets its contract.

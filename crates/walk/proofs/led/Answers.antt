@@ -1,8 +1,4 @@
-use borrow.Author.Rules.{rules}
 use Rattle.walk.proofs.LeadingLaws.{led-none, led-some}
-use Rattle.walk.proofs.led.Reads as reads
-use Rattle.walk.proofs.led.Lts as lts
-use Rattle.walk.proofs.standing.Reads as standing-reads
 use Rattle.walk.proofs.led.Goals as goal
 
 -- `walk::led` meets its contract.

@@ -1,6 +1,4 @@
 use Rattle.walk.proofs.MarkLaws.{mark-counts, mark-none}
-use Rattle.walk.proofs.marked.Reads as reads
-use Rattle.walk.proofs.marked.Lts as lts
 use Rattle.walk.proofs.marked.Goals as goal
 
 -- `walk::marked` meets its contract.

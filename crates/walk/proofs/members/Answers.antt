@@ -1,8 +1,5 @@
 use borrow.Author.Rules.{rules}
 use Rattle.walk.proofs.LeadingLaws.{members-none, members-some}
-use Rattle.walk.proofs.members.Reads as reads
-use Rattle.walk.proofs.members.Lts as lts
-use Rattle.walk.proofs.with_d.Reads as with-d-reads
 use Rattle.walk.proofs.members.Goals as goal
 
 -- `walk::members` meets its contract.

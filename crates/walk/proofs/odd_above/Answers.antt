@@ -1,13 +1,6 @@
-use borrow.Author.Rules.{rules}
 use Rattle.field.specs.Field.{Bytes}
 use Rattle.walk.proofs.GuessLaws.{told_same, above-told}
 use Rattle.walk.proofs.KeyLaws.{first-row-fits, set-small}
-use Rattle.walk.proofs.odd_above.Reads as reads
-use Rattle.walk.proofs.odd_above.Lts as lts
-use Rattle.keysets.proofs.above.Reads as above-reads
-use Rattle.page.proofs.first_keys.Reads as first-keys-reads
-use Rattle.walk.proofs.marked.Reads as marked-reads
-use Rattle.walk.proofs.odd_among.Reads as odd-among-reads
 use Rattle.walk.proofs.odd_above.Goals as goal
 
 -- `walk::odd_above` meets its contract.

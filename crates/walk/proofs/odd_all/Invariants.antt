@@ -1,15 +1,9 @@
 use Prim.Native.Nat.{◌≤◌, ◌-◌, ◌+◌}
-use mathlib.Core.Path.{◌≡◌, refl}
+use mathlib.Core.Path.{◌≡◌}
 use Rattle.ranking.specs.Held.{no_candidate}
 use Rattle.ranking.specs.code.Choice.{live, best_from}
 use Rattle.walk.specs.code.Walk.{asked_of, first_by}
 use Rattle.field.specs.Ascii.{A}
-use Rattle.walk.proofs.StepLaws.{best-again, best-end}
-use borrow.Author.Rules.{rules}
-use Rattle.walk.proofs.odd_all.Reads as reads
-use Rattle.walk.proofs.odd_all.Lts as lts
-use Rattle.ranking.proofs.choose.Reads as choose-reads
-use Rattle.walk.proofs.odd_first.Reads as odd-first-reads
 use Rattle.walk.proofs.odd_all.Given as goal
 
 abbrev pub invariant-loop-letter : goal.invariant-loop-letter

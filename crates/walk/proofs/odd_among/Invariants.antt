@@ -1,18 +1,8 @@
-use borrow.Author.Rules.{rules}
 use Prim.Native.Nat.{◌<◌, ◌^◌}
-use native.Mathlib.Omega.{arith}
-use mathlib.Core.Path.{◌≡◌, refl}
+use mathlib.Core.Path.{◌≡◌}
 use Rattle.keysets.specs.Sets.{key_count, has, fold_set}
-use Rattle.keysets.proofs.FoldLaws.{lowest-member, fold-again, fold_end}
 use Rattle.ranking.specs.Held.{no_candidate}
 use Rattle.walk.specs.code.Walk.{odd_step}
-use Rattle.walk.proofs.KeyLaws.{odd-step, out-less-by}
-use Rattle.walk.proofs.odd_among.Reads as reads
-use Rattle.walk.proofs.odd_among.Lts as lts
-use Rattle.keysets.proofs.lowest.Reads as lowest-reads
-use Rattle.keysets.proofs.without.Reads as without-reads
-use Rattle.ranking.proofs.choose.Reads as choose-reads
-use Rattle.walk.proofs.odd_first.Reads as odd-first-reads
 use Rattle.walk.proofs.odd_among.Given as goal
 
 abbrev pub invariant-loop-left : goal.invariant-loop-left

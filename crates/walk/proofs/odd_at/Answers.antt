@@ -13,13 +13,13 @@ returns-then-letter-eq0 c = stored-none _ _ _ c.if-letter-eq0.true
 pub slot_at-requires : goal.slot_at-requires
 slot_at-requires c =
     let letter : (A ≤ c.args.letter) × (c.args.letter ≤ Z) =
-        c.requires.1 c.if-letter-eq0.false in
+    c.requires.1 c.if-letter-eq0.false in
     letter
 
 pub get-level-requires : goal.get-level-requires
 get-level-requires c =
     let letter : (A ≤ c.args.letter) × (c.args.letter ≤ Z) =
-        c.requires.1 c.if-letter-eq0.false in
+    c.requires.1 c.if-letter-eq0.false in
     let l = c.args.letter in
     let h : (A ≤ l) × (l ≤ Z) = letter in
     let lo : A ≤ l = h.0 in
@@ -29,7 +29,7 @@ get-level-requires c =
 pub overflow_cast-result : goal.overflow_cast-result
 overflow_cast-result c =
     let letter : (A ≤ c.args.letter) × (c.args.letter ≤ Z) =
-        c.requires.1 c.if-letter-eq0.false in
+    c.requires.1 c.if-letter-eq0.false in
     let h : _ = letter in omega (arith, h.1)
 
 pub returns : goal.returns

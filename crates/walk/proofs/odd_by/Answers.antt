@@ -1,17 +1,9 @@
-use borrow.Author.Rules.{rules}
 use native.Mathlib.Omega.{arith}
 use Rattle.field.specs.Field.{Bytes}
 use Rattle.keysets.proofs.FoldLaws.{lowest-member}
 use Rattle.walk.proofs.GuessLaws.{guess-nobody, guess-alone}
 use Rattle.walk.proofs.MarkLaws.{first-marked}
 use Rattle.walk.proofs.KeyLaws.{set-small}
-use Rattle.walk.proofs.odd_by.Reads as reads
-use Rattle.walk.proofs.odd_by.Lts as lts
-use Rattle.keysets.proofs.lowest.Reads as lowest-reads
-use Rattle.keysets.proofs.without.Reads as without-reads
-use Rattle.walk.proofs.marked.Reads as marked-reads
-use Rattle.walk.proofs.odd_above.Reads as odd-above-reads
-use Rattle.walk.proofs.odd_first.Reads as odd-first-reads
 use Rattle.walk.proofs.odd_by.Goals as goal
 
 -- `walk::odd_by` meets its contract.

@@ -1,9 +1,4 @@
 use Rattle.walk.proofs.StepLaws.{first-s, first-ranks, first-not}
-use borrow.Author.Rules.{rules}
-use Rattle.walk.proofs.odd_first.Reads as reads
-use Rattle.walk.proofs.odd_first.Lts as lts
-use Rattle.slots.proofs.first.Reads as first_reads
-use Rattle.walk.proofs.ranks.Reads as ranks-reads
 use Rattle.walk.proofs.odd_first.Goals as goal
 
 -- `walk::odd_first` meets its contract.

@@ -1,5 +1,4 @@
 use Rattle.walk.proofs.KeyLaws.{odd-stopped}
-use borrow.Author.Rules.{rules}
 use Rattle.walk.proofs.odd_stopped.Goals as goal
 
 -- `walk::odd_stopped` meets its contract.

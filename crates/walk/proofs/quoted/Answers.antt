@@ -1,5 +1,4 @@
 use Rattle.walk.proofs.StepLaws.{quoted-priceless, quoted-sizeless, quoted-not, quoted-some}
-use borrow.Author.Rules.{rules}
 use Rattle.walk.proofs.quoted.Goals as goal
 
 -- `walk::quoted` meets its contract.

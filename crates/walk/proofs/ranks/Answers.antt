@@ -1,4 +1,3 @@
-use borrow.Author.Rules.{rules}
 use Rattle.walk.proofs.StepLaws.{ranks-d, ranks-quoted, ranks-unquoted}
 use Rattle.walk.proofs.ranks.Goals as goal
 

@@ -1,9 +1,4 @@
-use borrow.Author.Rules.{rules}
 use Rattle.walk.proofs.StepLaws.{standing-d, standing-s, standing-quote}
-use Rattle.walk.proofs.standing.Reads as reads
-use Rattle.walk.proofs.standing.Lts as lts
-use Rattle.slots.proofs.quoted.Reads as quoted-reads
-use Rattle.walk.proofs.as_d.Reads as as-d-reads
 use Rattle.walk.proofs.standing.Goals as goal
 
 -- `walk::standing` meets its contract.

@@ -1,11 +1,4 @@
-use borrow.Author.Rules.{rules}
 use Rattle.walk.proofs.KeyLaws.{row_fits, top-is}
-use Rattle.walk.proofs.top_key.Reads as reads
-use Rattle.walk.proofs.top_key.Lts as lts
-use Rattle.keys.proofs.key.Reads as key_reads
-use Rattle.keysets.proofs.higher.Reads as higher-reads
-use Rattle.keysets.proofs.top.Reads as top-reads
-use Rattle.page.proofs.quote_keys.Reads as quote-keys-reads
 use Rattle.walk.proofs.top_key.Goals as goal
 
 -- `walk::top_key` meets its contract.

@@ -1,6 +1,5 @@
 use Rattle.field.specs.Field.{Bytes}
 use Rattle.walk.proofs.WalkLaws.{finra-none, finra-walked}
-use borrow.Author.Rules.{rules}
 use Rattle.walk.proofs.walk_finra.Goals as goal
 
 -- `walk::walk_finra` meets its contract.

@@ -1,12 +1,7 @@
-use Prim.Native.Nat.{◌≤◌, ◌-◌}
-use mathlib.Core.Path.{◌≡◌, refl}
-use mathlib.Core.Logic.{inl, inr}
-use Rattle.walk.specs.code.Walk.{asked, maker_at}
-use Rattle.walk.specs.code.Cells.{Kept}
-use Rattle.walk.proofs.CellLaws.{held_sides, Next, cells-start, cells-read, cells_free, cells-end}
+use Prim.Native.Nat.{◌-◌}
+use mathlib.Core.Path.{refl}
+use Rattle.walk.proofs.CellLaws.{Next, cells-start, cells-read, cells_free, cells-end}
 use Rattle.ranking.proofs.ChoiceLaws.{sides-again, sides-end}
-use Rattle.ranking.specs.Held.{no_sides}
-use Rattle.ranking.specs.code.Choice.{sides_from}
 use Rattle.page.specs.Layout.{maker_count}
 use borrow.Author.Rules.{rules}
 use Rattle.walk.proofs.walk_makers.Goals as goal
@@ -28,11 +23,11 @@ with_cell-offer-requires c = record { page_len = c.requires; k_lt_maker_count = 
 pub loop-k-preserved : goal.loop-k-preserved
 loop-k-preserved c =
     let next : Next c.args.page.now c.loop-k.k c.loop-k.bid c.loop-k.offer c.if-get8-eq82.bid c.if-get8-eq82.offer =
-        let l = c.loop-k in
-        elim c.if-get8-eq82.branch [
-          | then-get8-eq82 w ↦ cells-read _ _ _ _ _ c.cell_at.ensures _ c.get8.ensures _ _ w.if-get8-eq82.true w.with_cell-bid.ensures w.with_cell-offer.ensures _ _ w.bid-is w.offer-is
-          | else-get8-eq82 w ↦ cells_free _ _ _ _ _ c.cell_at.ensures _ c.get8.ensures w.if-get8-eq82.false l.invariant.1 l.invariant.2 _ _ w.bid-is w.offer-is
-        ] in
+    let l = c.loop-k in
+    elim c.if-get8-eq82.branch [
+      | then-get8-eq82 w ↦ cells-read _ _ _ _ _ c.cell_at.ensures _ c.get8.ensures _ _ w.if-get8-eq82.true w.with_cell-bid.ensures w.with_cell-offer.ensures _ _ w.bid-is w.offer-is
+      | else-get8-eq82 w ↦ cells_free _ _ _ _ _ c.cell_at.ensures _ c.get8.ensures w.if-get8-eq82.false l.invariant.1 l.invariant.2 _ _ w.bid-is w.offer-is
+    ] in
     let n = next in (search rules, n.0, n.1, sides-again _ maker_count _ _ _ _ c.loop-k-test.true c.loop-k.invariant.3 n.2)
 
 pub in_cell-requires : goal.in_cell-requires

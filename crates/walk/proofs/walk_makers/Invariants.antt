@@ -1,14 +1,11 @@
 use Prim.Native.Nat.{◌≤◌, ◌-◌}
-use mathlib.Core.Path.{◌≡◌, refl}
-use mathlib.Core.Logic.{inl, inr}
+use mathlib.Core.Path.{◌≡◌}
 use Rattle.walk.specs.code.Walk.{asked, maker_at}
 use Rattle.walk.specs.code.Cells.{Kept}
-use Rattle.walk.proofs.CellLaws.{held_sides, Next, cells-start, cells-read, cells_free, cells-end}
-use Rattle.ranking.proofs.ChoiceLaws.{sides-again, sides-end}
+use Rattle.walk.proofs.CellLaws.{held_sides}
 use Rattle.ranking.specs.Held.{no_sides}
 use Rattle.ranking.specs.code.Choice.{sides_from}
 use Rattle.page.specs.Layout.{maker_count}
-use borrow.Author.Rules.{rules}
 use Rattle.walk.proofs.walk_makers.Given as goal
 
 abbrev pub invariant-loop-k : goal.invariant-loop-k

@@ -5,17 +5,6 @@ use Rattle.ranking.specs.declared.Side.TheVariants.{Bid, Offer}
 use Rattle.walk.proofs.GuessLaws.{guess-whole}
 use Rattle.walk.proofs.MarkLaws.{odd-told}
 use Rattle.walk.proofs.KeyLaws.{above-is}
-use Rattle.walk.proofs.walk_odd.Reads as reads
-use Rattle.walk.proofs.walk_odd.Lts as lts
-use Rattle.keys.proofs.bar.Reads as bar-reads
-use Rattle.keysets.proofs.above.Reads as above-reads
-use Rattle.page.proofs.first_keys.Reads as first-keys-reads
-use Rattle.ranking.proofs.beyond.Reads as beyond-reads
-use Rattle.walk.proofs.odd_at.Reads as odd-at-reads
-use Rattle.walk.proofs.odd_by.Reads as odd-by-reads
-use Rattle.walk.proofs.odd_floor.Reads as odd-floor-reads
-use Rattle.walk.proofs.odd_stopped.Reads as odd-stopped-reads
-use Rattle.walk.proofs.stands.Reads as stands-reads
 use Rattle.walk.proofs.walk_odd.Goals as goal
 
 -- `walk::walk_odd` meets its contract.
@@ -32,9 +21,9 @@ odd_at-requires-2 c = (c.requires.page_len, c.odd_by-odd_offer.ensures.0)
 pub returns : goal.returns
 returns c =
     let bid-fits : c.args.bid.price < 2 ^ 64 =
-        search rules in
+    search rules in
     let offer-fits : c.args.offer.price < 2 ^ 64 =
-        search rules in
+    search rules in
     let b : Bytes c.args.page.now = λ i. (c.shared_slice_known-1.given i).fits in (
       guess-whole _ b Bid _ _ bid-fits _ c.bar-bar_bid.ensures _ c.if-last-lt-Z.false c.requires.a_le_last.1 _ (odd-told _ _ _ _ _ c.stands-d_bid.ensures _ c.odd_by-odd_bid.ensures.1) _ _ c.odd_at.ensures c.beyond.ensures,
       guess-whole _ b Offer _ _ offer-fits _ c.bar-bar_offer.ensures _ c.if-last-lt-Z.false c.requires.a_le_last.1 _ (odd-told _ _ _ _ _ c.stands-d_offer.ensures _ c.odd_by-odd_offer.ensures.1) _ _ c.odd_at-2.ensures c.beyond-2.ensures,

@@ -1,13 +1,6 @@
-use borrow.Author.Rules.{rules}
 use mathlib.Core.Path.{refl}
-use Rattle.field.specs.Field.{Bytes}
 use Rattle.walk.proofs.WalkLaws.{walked_both}
 use Rattle.walk.proofs.LeadingLaws.{leaders-bid, leaders-offer}
-use Rattle.walk.proofs.walk_page.Reads as reads
-use Rattle.walk.proofs.walk_page.Lts as lts
-use Rattle.walk.proofs.leaders.Reads as leaders-reads
-use Rattle.walk.proofs.walk_finra.Reads as walk-finra-reads
-use Rattle.walk.proofs.walk_odd.Reads as walk-odd-reads
 use Rattle.walk.proofs.walk_page.Goals as goal
 
 -- `walk::walk_page` meets its contract.

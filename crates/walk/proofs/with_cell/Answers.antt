@@ -6,79 +6,78 @@ use borrow.Author.Rules.{rules}
 use Rattle.walk.proofs.with_cell.Goals as goal
 use Rattle.walk.proofs.with_cell.Goals.{then-rank-best-2+else-price-eq0+else-not-is_before, else-rank-best-2}
 
-
 -- `walk::with_cell` meets its contract.
 
 pub returns-then-rank-best : goal.returns-then-rank-best
 returns-then-rank-best c =
     let priced : let a = c.args in Priced a.page.now a.side a.k a.best c.low64-price.result c.rank-rank.result =
-        record {
-          kept = c.requires.kept;
-          held = search rules;
-          cell = c.requires.k_lt_maker_count;
-          fits = search rules;
-          price = price-read _ _ _ _ _ c.cell_at.ensures c.in_quote.ensures.0 _ c.low64-price.ensures;
-          rank = c.rank-rank.ensures;
-        } in
+    record {
+      kept = c.requires.kept;
+      held = search rules;
+      cell = c.requires.k_lt_maker_count;
+      fits = search rules;
+      price = price-read _ _ _ _ _ c.cell_at.ensures c.in_quote.ensures.0 _ c.low64-price.ensures;
+      rank = c.rank-rank.ensures;
+    } in
     cell-behind _ _ _ _ _ _ priced c.if-rank-best.true
 
 pub returns-then-lots-eq0 : goal.returns-then-lots-eq0
 returns-then-lots-eq0 c =
     let priced : let a = c.args in Priced a.page.now a.side a.k a.best c.low64-price.result c.rank-rank.result =
-        record {
-          kept = c.requires.kept;
-          held = search rules;
-          cell = c.requires.k_lt_maker_count;
-          fits = search rules;
-          price = price-read _ _ _ _ _ c.cell_at.ensures c.in_quote.ensures.0 _ c.low64-price.ensures;
-          rank = c.rank-rank.ensures;
-        } in
+    record {
+      kept = c.requires.kept;
+      held = search rules;
+      cell = c.requires.k_lt_maker_count;
+      fits = search rules;
+      price = price-read _ _ _ _ _ c.cell_at.ensures c.in_quote.ensures.0 _ c.low64-price.ensures;
+      rank = c.rank-rank.ensures;
+    } in
     let sized : let a = c.args in c.low32-lots.result ≡ (cell_as a.page.now a.side a.k).size =
-        size-read _ _ _ _ _ c.cell_at.ensures c.in_quote.ensures.0 _ c.low32-lots.ensures in
+    size-read _ _ _ _ _ c.cell_at.ensures c.in_quote.ensures.0 _ c.low32-lots.ensures in
     cell-sizeless _ _ _ _ _ _ priced _ sized c.if-lots-eq0.true
 
 pub returns-then-price-eq0 : goal.returns-then-price-eq0
 returns-then-price-eq0 c =
     let priced : let a = c.args in Priced a.page.now a.side a.k a.best c.low64-price.result c.rank-rank.result =
-        record {
-          kept = c.requires.kept;
-          held = search rules;
-          cell = c.requires.k_lt_maker_count;
-          fits = search rules;
-          price = price-read _ _ _ _ _ c.cell_at.ensures c.in_quote.ensures.0 _ c.low64-price.ensures;
-          rank = c.rank-rank.ensures;
-        } in
+    record {
+      kept = c.requires.kept;
+      held = search rules;
+      cell = c.requires.k_lt_maker_count;
+      fits = search rules;
+      price = price-read _ _ _ _ _ c.cell_at.ensures c.in_quote.ensures.0 _ c.low64-price.ensures;
+      rank = c.rank-rank.ensures;
+    } in
     cell-priceless _ _ _ _ _ _ priced c.if-price-eq0.true
 
 pub returns-then-not-is_before : goal.returns-then-not-is_before
 returns-then-not-is_before c =
     let priced : let a = c.args in Priced a.page.now a.side a.k a.best c.low64-price.result c.rank-rank.result =
-        record {
-          kept = c.requires.kept;
-          held = search rules;
-          cell = c.requires.k_lt_maker_count;
-          fits = search rules;
-          price = price-read _ _ _ _ _ c.cell_at.ensures c.in_quote.ensures.0 _ c.low64-price.ensures;
-          rank = c.rank-rank.ensures;
-        } in
+    record {
+      kept = c.requires.kept;
+      held = search rules;
+      cell = c.requires.k_lt_maker_count;
+      fits = search rules;
+      price = price-read _ _ _ _ _ c.cell_at.ensures c.in_quote.ensures.0 _ c.low64-price.ensures;
+      rank = c.rank-rank.ensures;
+    } in
     let sized : let a = c.args in c.low32-lots.result ≡ (cell_as a.page.now a.side a.k).size =
-        size-read _ _ _ _ _ c.cell_at.ensures c.in_quote.ensures.0 _ c.low32-lots.ensures in
+    size-read _ _ _ _ _ c.cell_at.ensures c.in_quote.ensures.0 _ c.low32-lots.ensures in
     cell-after _ _ _ _ _ _ priced _ sized c.if-lots-eq0.false c.if-rank-best-2.true c.if-price-eq0.false _
     c.is_before.ensures (ap not c.if-not-is_before.true)
 
 pub returns : goal.returns
 returns c =
     let priced : let a = c.args in Priced a.page.now a.side a.k a.best c.low64-price.result c.rank-rank.result =
-        record {
-          kept = c.requires.kept;
-          held = search rules;
-          cell = c.requires.k_lt_maker_count;
-          fits = search rules;
-          price = price-read _ _ _ _ _ c.cell_at.ensures c.in_quote.ensures.0 _ c.low64-price.ensures;
-          rank = c.rank-rank.ensures;
-        } in
+    record {
+      kept = c.requires.kept;
+      held = search rules;
+      cell = c.requires.k_lt_maker_count;
+      fits = search rules;
+      price = price-read _ _ _ _ _ c.cell_at.ensures c.in_quote.ensures.0 _ c.low64-price.ensures;
+      rank = c.rank-rank.ensures;
+    } in
     let sized : let a = c.args in c.low32-lots.result ≡ (cell_as a.page.now a.side a.k).size =
-        size-read _ _ _ _ _ c.cell_at.ensures c.in_quote.ensures.0 _ c.low32-lots.ensures in
+    size-read _ _ _ _ _ c.cell_at.ensures c.in_quote.ensures.0 _ c.low32-lots.ensures in
     elim c.if-rank-best-2.branch [
       | then-rank-best-2+else-price-eq0+else-not-is_before w ↦ cell-before _ _ _ _ _ _ priced _ sized c.if-lots-eq0.false w.if-rank-best-2.true w.if-price-eq0.false _ w.is_before.ensures (ap not w.if-not-is_before.false)
       | else-rank-best-2 w ↦ cell-ahead _ _ _ _ _ _ priced _ sized c.if-lots-eq0.false c.if-rank-best.false w.if-rank-best-2.false

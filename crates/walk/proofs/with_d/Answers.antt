@@ -1,8 +1,4 @@
-use borrow.Author.Rules.{rules}
 use Rattle.walk.proofs.KeyLaws.{with-taken}
-use Rattle.walk.proofs.with_d.Reads as reads
-use Rattle.walk.proofs.with_d.Lts as lts
-use Rattle.keysets.proofs.with_member.Reads as with-member-reads
 use Rattle.walk.proofs.with_d.Goals as goal
 
 -- `walk::with_d` meets its contract.

@@ -1,8 +1,7 @@
 use Prim.Native.Nat.{◌-◌}
 use native.Mathlib.Omega.{arith}
 use Rattle.block.proofs.CheckLaws.{passed, passed-readable}
-use Rattle.work.proofs.RunLaws.{Going, going_start, going-again, going_end, message-place, message-is}
-use borrow.Author.Rules.{rules}
+use Rattle.work.proofs.RunLaws.{going_start, going-again, going_end, message-place, message-is}
 use Rattle.work.proofs.run.Goals as goal
 
 pub loop-i-init : goal.loop-i-init

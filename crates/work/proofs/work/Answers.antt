@@ -1,6 +1,5 @@
 use mathlib.Core.Path.{refl, sym, ◌∙◌}
 use Rattle.work.proofs.MessageLaws.{told-else, told-finra}
-use borrow.Author.Rules.{rules}
 use Rattle.work.proofs.work.Goals as goal
 
 pub finra_pages-flags-requires : goal.finra_pages-flags-requires

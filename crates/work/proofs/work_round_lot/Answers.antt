@@ -18,25 +18,25 @@ returns-in_default c =
 pub overflow_mul-a : goal.overflow_mul-a
 overflow_mul-a c =
     let hit : let k = c.in-At.k in (k < symbols_most) × (page_start k + page_length ≤ length c.args.book.now) =
-        page-inside _ c.requires.book_value.0 _ _ (sym c.find-place.ensures ∙ c.in-At.is) in
+    page-inside _ c.requires.book_value.0 _ _ (sym c.find-place.ensures ∙ c.in-At.is) in
     omega (arith, hit)
 
 pub overflow_add-a : goal.overflow_add-a
 overflow_add-a c =
     let hit : let k = c.in-At.k in (k < symbols_most) × (page_start k + page_length ≤ length c.args.book.now) =
-        page-inside _ c.requires.book_value.0 _ _ (sym c.find-place.ensures ∙ c.in-At.is) in
+    page-inside _ c.requires.book_value.0 _ _ (sym c.find-place.ensures ∙ c.in-At.is) in
     omega (arith, hit)
 
 pub overflow_add-e : goal.overflow_add-e
 overflow_add-e c =
     let hit : let k = c.in-At.k in (k < symbols_most) × (page_start k + page_length ≤ length c.args.book.now) =
-        page-inside _ c.requires.book_value.0 _ _ (sym c.find-place.ensures ∙ c.in-At.is) in
+    page-inside _ c.requires.book_value.0 _ _ (sym c.find-place.ensures ∙ c.in-At.is) in
     omega (arith, hit)
 
 pub slice_bounds-round_lot-end : goal.slice_bounds-round_lot-end
 slice_bounds-round_lot-end c =
     let hit : let k = c.in-At.k in (k < symbols_most) × (page_start k + page_length ≤ length c.args.book.now) =
-        page-inside _ c.requires.book_value.0 _ _ (sym c.find-place.ensures ∙ c.in-At.is) in
+    page-inside _ c.requires.book_value.0 _ _ (sym c.find-place.ensures ∙ c.in-At.is) in
     omega (arith, hit)
 
 pub slice_bounds-round_lot-count-2 : goal.slice_bounds-round_lot-count-2

@@ -3,7 +3,6 @@ use mathlib.Core.Path.{refl, sym, ◌∙◌}
 use native.Mathlib.Omega.{arith}
 use lib.ListN.{length}
 use Rattle.work.proofs.MessageLaws.{symbol-inside, page-inside, told-nowhere, told_at}
-use borrow.Author.Rules.{rules}
 use Rattle.page.specs.Layout.{page_length}
 use Rattle.opening.specs.Layout.{page_start, symbols_most}
 use Rattle.work.proofs.work_status.Goals as goal
@@ -18,25 +17,25 @@ returns-in_default c =
 pub overflow_mul-a : goal.overflow_mul-a
 overflow_mul-a c =
     let hit : let k = c.in-At.k in (k < symbols_most) × (page_start k + page_length ≤ length c.args.book.now) =
-        page-inside _ c.requires.book_value.0 _ _ (sym c.find-place.ensures ∙ c.in-At.is) in
+    page-inside _ c.requires.book_value.0 _ _ (sym c.find-place.ensures ∙ c.in-At.is) in
     omega (arith, hit)
 
 pub overflow_add-a : goal.overflow_add-a
 overflow_add-a c =
     let hit : let k = c.in-At.k in (k < symbols_most) × (page_start k + page_length ≤ length c.args.book.now) =
-        page-inside _ c.requires.book_value.0 _ _ (sym c.find-place.ensures ∙ c.in-At.is) in
+    page-inside _ c.requires.book_value.0 _ _ (sym c.find-place.ensures ∙ c.in-At.is) in
     omega (arith, hit)
 
 pub overflow_add-e : goal.overflow_add-e
 overflow_add-e c =
     let hit : let k = c.in-At.k in (k < symbols_most) × (page_start k + page_length ≤ length c.args.book.now) =
-        page-inside _ c.requires.book_value.0 _ _ (sym c.find-place.ensures ∙ c.in-At.is) in
+    page-inside _ c.requires.book_value.0 _ _ (sym c.find-place.ensures ∙ c.in-At.is) in
     omega (arith, hit)
 
 pub slice_bounds-trading_status-end : goal.slice_bounds-trading_status-end
 slice_bounds-trading_status-end c =
     let hit : let k = c.in-At.k in (k < symbols_most) × (page_start k + page_length ≤ length c.args.book.now) =
-        page-inside _ c.requires.book_value.0 _ _ (sym c.find-place.ensures ∙ c.in-At.is) in
+    page-inside _ c.requires.book_value.0 _ _ (sym c.find-place.ensures ∙ c.in-At.is) in
     omega (arith, hit)
 
 pub returns : goal.returns

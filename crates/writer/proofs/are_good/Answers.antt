@@ -5,7 +5,6 @@ use Rattle.block.specs.Written.{length_with}
 use native.Mathlib.Omega.{arith}
 use borrow.Author.Tests.{lt-leb}
 use Rattle.writer.proofs.GoodLaws.{good_none, good-many, good-short, good-sum, good-last}
-use borrow.Author.Rules.{rules}
 use Rattle.block.specs.Block.{block_longest}
 use Rattle.writer.proofs.are_good.Goals as goal
 

@@ -1,12 +1,8 @@
 use Prim.Native.Nat.{◌-◌, ◌≤◌}
 use mathlib.Core.Path.{◌≡◌}
-use native.Mathlib.Omega.{arith}
 use lib.Dec.{leb}
 use lib.ListN.{length, drop}
-use borrow.Author.Tests.{lt-leb, le-leb}
 use Rattle.lists.specs.Lists.{every}
-use Rattle.lists.proofs.Searches.{every-fails, every-again, every-end}
-use borrow.Author.Rules.{rules}
 use Rattle.block.specs.Block.{message_shortest}
 use Rattle.writer.proofs.are_long.Given as goal
 

@@ -1,15 +1,10 @@
 use Prim.Native.Nat.{◌+◌, ◌-◌, ◌≤◌}
-use mathlib.Core.Path.{◌≡◌, refl, sym, ◌∙◌}
+use mathlib.Core.Path.{◌≡◌}
 use mathlib.Core.Bool.{true}
-use native.Mathlib.Omega.{arith}
 use lib.Dec.{leb}
 use lib.ListN.{length, drop}
 use Rattle.lists.specs.Lists.{every, sum}
-use Rattle.lists.proofs.Searches.{sum_step}
 use Rattle.block.specs.Written.{cut_by, any_control}
-use Rattle.writer.proofs.GoodLaws.{good-is, first-long, rest-long}
-use Rattle.writer.proofs.LoopLaws.{control-found, control-not, control-end}
-use borrow.Author.Rules.{rules}
 use Rattle.block.specs.Block.{message_shortest}
 use Rattle.writer.proofs.is_any_control.Given as goal
 

@@ -1,5 +1,4 @@
 use Rattle.writer.proofs.NumberLaws.{mixed-few, mixed-any}
-use borrow.Author.Rules.{rules}
 use Rattle.writer.proofs.is_control_mixed.Goals as goal
 
 -- `writer::is_control_mixed` meets its contract.

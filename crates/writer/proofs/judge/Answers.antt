@@ -1,6 +1,5 @@
 use mathlib.Core.Path.{sym, ◌∙◌}
 use Rattle.writer.proofs.NumberLaws.{number-71, number-72, number-73, number-0}
-use borrow.Author.Rules.{rules}
 use Rattle.writer.proofs.judge.Goals as goal
 
 -- `writer::judge` meets its contract.

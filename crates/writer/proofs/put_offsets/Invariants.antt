@@ -1,13 +1,9 @@
 use Prim.Native.Nat.{◌+◌, ◌-◌, ◌≤◌}
-use mathlib.Core.Path.{◌≡◌, refl, ◌∙◌}
-use native.Mathlib.Omega.{arith}
+use mathlib.Core.Path.{◌≡◌}
 use lib.ListN.{length, drop}
 use Rattle.field.specs.Field.{splice}
 use Rattle.lists.specs.Lists.{sum}
-use Rattle.lists.proofs.Searches.{sum_step}
 use Rattle.block.specs.Written.{offsets}
-use Rattle.writer.proofs.LoopLaws.{offsets-again, offsets-end, length-put}
-use borrow.Author.Rules.{rules}
 use Rattle.block.specs.Block.{offset_at}
 use Rattle.writer.proofs.put_offsets.Given as goal
 

@@ -1,8 +1,5 @@
-use Prim.Native.Nat.{◌+◌, ◌*◌, ◌-◌, ◌≤◌}
-use mathlib.Core.Path.{◌≡◌}
+use Prim.Native.Nat.{◌-◌}
 use native.Mathlib.Omega.{arith}
-use lib.ListN.{length, drop}
-use Rattle.lists.specs.Lists.{sum}
 use Rattle.lists.proofs.Searches.{sum_step, sum-none}
 use borrow.Author.Rules.{rules}
 use Rattle.writer.proofs.total.Goals as goal

@@ -1,10 +1,7 @@
 use Prim.Native.Nat.{◌+◌, ◌*◌, ◌-◌, ◌≤◌}
 use mathlib.Core.Path.{◌≡◌}
-use native.Mathlib.Omega.{arith}
 use lib.ListN.{length, drop}
 use Rattle.lists.specs.Lists.{sum}
-use Rattle.lists.proofs.Searches.{sum_step, sum-none}
-use borrow.Author.Rules.{rules}
 use Rattle.writer.proofs.total.Given as goal
 
 abbrev pub invariant-loop-i : goal.invariant-loop-i

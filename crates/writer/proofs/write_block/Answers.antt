@@ -6,7 +6,6 @@ use Rattle.block.specs.Written.{length_with}
 use Rattle.writer.proofs.GoodLaws.{Good}
 use Rattle.writer.proofs.NumberLaws.{refused, passed}
 use Rattle.writer.proofs.OutLaws.{lent_length, out-is}
-use borrow.Author.Rules.{rules}
 use Rattle.writer.proofs.write_block.Goals as goal
 
 -- `writer::write_block` meets its contract.
@@ -18,21 +17,21 @@ pub copy-requires : goal.copy-requires
 copy-requires c =
     let pass : (Good c.args.lengths.now (length c.args.messages.now))
     × (length_with (length c.args.lengths.now) (length c.args.messages.now) ≤ length c.args.output.now) =
-        passed _ _ _ (sym c.if-number-ne0.false ∙ c.judge-number.ensures) in
+    passed _ _ _ (sym c.if-number-ne0.false ∙ c.judge-number.ensures) in
     omega (arith, (pass).1)
 
 pub slice_bounds-frame-end : goal.slice_bounds-frame-end
 slice_bounds-frame-end c =
     let pass : (Good c.args.lengths.now (length c.args.messages.now))
     × (length_with (length c.args.lengths.now) (length c.args.messages.now) ≤ length c.args.output.now) =
-        passed _ _ _ (sym c.if-number-ne0.false ∙ c.judge-number.ensures) in
+    passed _ _ _ (sym c.if-number-ne0.false ∙ c.judge-number.ensures) in
     omega (arith, (pass).1)
 
 pub frame-requires : goal.frame-requires
 frame-requires c =
     let pass : (Good c.args.lengths.now (length c.args.messages.now))
     × (length_with (length c.args.lengths.now) (length c.args.messages.now) ≤ length c.args.output.now) =
-        passed _ _ _ (sym c.if-number-ne0.false ∙ c.judge-number.ensures) in
+    passed _ _ _ (sym c.if-number-ne0.false ∙ c.judge-number.ensures) in
     let k = c in
     let g = (pass).0 in
     let n = lent_length _ _ _ k.args.sequence g (pass).1 _ c.copy.ensures in
@@ -42,7 +41,7 @@ pub returns : goal.returns
 returns c =
     let pass : (Good c.args.lengths.now (length c.args.messages.now))
     × (length_with (length c.args.lengths.now) (length c.args.messages.now) ≤ length c.args.output.now) =
-        passed _ _ _ (sym c.if-number-ne0.false ∙ c.judge-number.ensures) in
+    passed _ _ _ (sym c.if-number-ne0.false ∙ c.judge-number.ensures) in
     let f = c in
     let p = f in
     let k = p in

@@ -1,6 +1,5 @@
 use native.Mathlib.Omega.{arith}
 use Rattle.feed.proofs.FeedLaws.{size-one, size-two}
-use borrow.Author.Rules.{rules}
 use Rattle.feed.proofs.Size.of.Goals as goal
 
 -- `feed::Size::of` meets its contract.

@@ -1,5 +1,4 @@
 use Rattle.levels.specs.Levels.{item_at}
-use borrow.Author.Rules.{rules}
 use Rattle.levels.proofs.Item.get.Goals as goal
 
 pub returns : goal.returns

@@ -7,5 +7,5 @@ use Rattle.levels.proofs.Levels.holds.Goals as goal
 pub returns : goal.returns
 returns c =
     let four : length c.args.self.cells ≡ 4 =
-        search (length-of-map, rules) in
+    search (length-of-map, rules) in
     holds-is _ _ four _ _ _ _ _ c.is_held-h3.ensures c.is_held-h2.ensures c.is_held-h1.ensures c.is_held.ensures

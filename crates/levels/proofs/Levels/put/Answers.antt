@@ -7,7 +7,7 @@ use Rattle.levels.proofs.Levels.put.Goals as goal
 pub returns : goal.returns
 returns c =
     let four : length c.args.self.cells ≡ 4 =
-        search (length-of-map, rules) in
+    search (length-of-map, rules) in
     let d = c in
     let a = d in
     let f = a in

@@ -1,5 +1,4 @@
 use Rattle.levels.proofs.CellLaws.{read_is}
-use borrow.Author.Rules.{rules}
 use Rattle.levels.proofs.Levels.read.Goals as goal
 
 pub returns : goal.returns

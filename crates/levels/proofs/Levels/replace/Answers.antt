@@ -7,5 +7,5 @@ use Rattle.levels.proofs.Levels.replace.Goals as goal
 pub returns : goal.returns
 returns c =
     let four : length c.args.self.cells ≡ 4 =
-        search (length-of-map, rules) in
+    search (length-of-map, rules) in
     replace-is _ _ four _ _ _ _ _ c.renewed.ensures c.renewed-2.ensures c.renewed-3.ensures c.renewed-4.ensures

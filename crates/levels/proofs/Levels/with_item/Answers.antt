@@ -1,6 +1,5 @@
 use mathlib.Core.Path.{◌∙◌}
 use Rattle.levels.proofs.CellLaws.{item-zero, item-known, item-added, item-full}
-use borrow.Author.Rules.{rules}
 use Rattle.levels.proofs.Levels.with_item.Goals as goal
 
 pub returns-then-item-eq0 : goal.returns-then-item-eq0

@@ -7,7 +7,7 @@ use Rattle.levels.proofs.Levels.without.Goals as goal
 pub returns : goal.returns
 returns c =
     let four : length c.args.self.cells ≡ 4 =
-        search (length-of-map, rules) in
+    search (length-of-map, rules) in
     let m = c in
     let g = m in
     without_is _ _ four _ _ _ _ _ _ _ _ _ g.is_gone-g0.ensures g.is_gone-g1.ensures g.is_gone-g2.ensures g.is_gone-g3.ensures

@@ -1,5 +1,4 @@
 use Rattle.quote.proofs.QuoteLaws.{level-read}
-use borrow.Author.Rules.{rules}
 use Rattle.quote.proofs.Level.get.Goals as goal
 
 pub returns : goal.returns

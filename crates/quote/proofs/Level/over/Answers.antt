@@ -1,7 +1,6 @@
 use mathlib.Core.Path.{ap}
 use Prim.Native.Nat.{ℕ}
 use Rattle.quote.specs.Quote.{with_time}
-use borrow.Author.Rules.{rules}
 use Rattle.quote.proofs.Level.over.Goals as goal
 
 pub returns : goal.returns

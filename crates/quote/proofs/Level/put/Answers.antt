@@ -1,5 +1,4 @@
 use Rattle.quote.proofs.QuoteLaws.{level-written}
-use borrow.Author.Rules.{rules}
 use Rattle.quote.proofs.Level.put.Goals as goal
 
 pub returns : goal.returns

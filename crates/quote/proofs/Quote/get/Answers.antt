@@ -1,5 +1,4 @@
 use Rattle.quote.proofs.QuoteLaws.{quote-read}
-use borrow.Author.Rules.{rules}
 use Rattle.quote.proofs.Quote.get.Goals as goal
 
 pub returns : goal.returns

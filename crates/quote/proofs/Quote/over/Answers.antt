@@ -1,5 +1,4 @@
 use Rattle.quote.proofs.OverLaws.{over-is}
-use borrow.Author.Rules.{rules}
 use Rattle.quote.proofs.Quote.over.Goals as goal
 
 pub returns : goal.returns

@@ -1,5 +1,4 @@
 use Rattle.quote.proofs.QuoteLaws.{quote-written}
-use borrow.Author.Rules.{rules}
 use Rattle.quote.proofs.Quote.put.Goals as goal
 
 pub returns : goal.returns

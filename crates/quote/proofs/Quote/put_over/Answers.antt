@@ -1,5 +1,4 @@
 use Rattle.quote.proofs.OverLaws.{over-written}
-use borrow.Author.Rules.{rules}
 use Rattle.quote.proofs.Quote.put_over.Goals as goal
 
 pub returns : goal.returns

@@ -1,5 +1,4 @@
 use Rattle.told.specs.code.Steps.{tally_with}
-use borrow.Author.Rules.{rules}
 use Rattle.told.proofs.Tally.with.Goals as goal
 
 pub returns : goal.returns

@@ -1,4 +1,4 @@
-use Rattle.std.proofs.Common.{arith, rules}
+use Rattle.std.proofs.Common.{arith}
 use Rattle.venuerun.proofs.PackLaws.{fill-joins, fill-closes}
 use Rattle.venuerun.proofs.Fill.with.Goals as goal
 
