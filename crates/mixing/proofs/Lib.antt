@@ -1,4 +1,5 @@
 pub mod AllowanceSwaps
+pub mod Sent
 pub mod PartSwaps
 pub mod PassLaws
 pub mod MessageSwaps

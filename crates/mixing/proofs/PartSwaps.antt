@@ -30,8 +30,9 @@ use Rattle.opening.proofs.PageLaws.{OpeningKept, kept-sound, opening-then, place
 use Rattle.work.specs.Work.{part_on, code_on}
 use Rattle.work.proofs.PartLaws.{part-kept}
 use Rattle.work.proofs.PlaceLaws.{place_same, code_at, code-nowhere}
-use Rattle.regions.proofs.PartLaws.{changes, SentBy, Sent, sent-map, sent-shaped, round-changes, odd-changes, maker-changes, finra-changes, status-changes}
+use Rattle.regions.proofs.PartLaws.{changes, Sent, sent-map, sent-shaped, round-changes, odd-changes, maker-changes, finra-changes, status-changes}
 use Rattle.regions.proofs.CodeLaws.{head-part-stays, primary-stays, page-code-stays, page-swap}
+pub use Rattle.mixing.proofs.Sent.{Primary, SentOn}
 
 -- ---- books by their openings and pages
 
@@ -101,12 +102,6 @@ page-after n b sd (status_part s x) z k h =
     ∙ ap (λ (z : List ℕ). cond (hit_by (page_place b s) k) z (page_at b k)) (status-changes s x (page_at b k))
 
 -- ---- a part that is sent to a book: a trading status on the line of its symbol's primary letter
-
-abbrev pub Primary : List ℕ → ℕ → ℕ → Type 0
-Primary b l s = (k : ℕ) → page_place b s ≡ At k → page_primary (page_at b k) ≡ l
-
-abbrev pub SentOn : List ℕ → ℕ → Part → Type 0
-SentOn b l r = SentBy (Primary b l) l r
 
 module _ (b : List ℕ) (l : ℕ) (u : upper l ≡ true) (r : Part) (x : SentOn b l r) where
   pub shape : Shaped r

@@ -1,5 +1,6 @@
 pub mod RegionLaws
 pub mod RefreshLaws
+pub mod Own
 pub mod OwnLaws
 pub mod PartLaws
 pub mod SentLaws

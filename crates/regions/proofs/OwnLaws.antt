@@ -18,38 +18,8 @@ use Rattle.page.specs.Layout.{symbol_at, head_length, entries_at, slots_at, slot
 use Rattle.page.proofs.KeyLaws.{quote-keys-low, first-keys-low}
 use Rattle.update.proofs.KeyLaws.{Beside, before, behind, letters, quote-rows, first_rows, quote-first, first-quote}
 use Rattle.regions.proofs.RegionLaws.{Region, within, of-within, Apart, within-apart}
+pub use Rattle.regions.proofs.Own.{slot_of, quote_key_of, first_key_of, keys_of, places_of, cells, status, own, head}
 use Rattle.regions.proofs.RefreshLaws.{entries_kept}
-
-abbrev pub slot_of : ℕ → Region
-slot_of l = within (slot_at l) slot_length
-
--- the keys of its quote and of its first levels
-abbrev pub quote_key_of : Side → ℕ → Region
-quote_key_of s l = within (quote_key_at s l) key_length
-
-abbrev pub first_key_of : Side → ℕ → Region
-first_key_of s l = within (first_key_at s l) key_length
-
-abbrev pub keys_of : ℕ → Region
-keys_of l i = (quote_key_of Bid l i || quote_key_of Offer l i) || (first_key_of Bid l i || first_key_of Offer l i)
-
--- its quote and its levels: the slot and the keys
-abbrev pub places_of : ℕ → Region
-places_of l i = slot_of l i || keys_of l i
-
-abbrev pub cells : Region
-cells = within cells_at (maker_count * cell_length)
-
-abbrev pub status : Region
-status = within status_at 1
-
--- on a page whose primary letter is m: D's line sends makers' quotes, FINRA Close and Open, the primary letter's trading statuses (document 02, T-10)
-abbrev pub own : ℕ → ℕ → Region
-own m l i = places_of l i || ((eqb l D && cells i) || (eqb m l && status i))
-
--- symbol, round lot and primary letter
-abbrev pub head : Region
-head = within symbol_at head_length
 
 or-first : (s t : Bool) → s ≡ true → s || t ≡ true
 or-first s t e = rw e
