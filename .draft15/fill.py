@@ -1,7 +1,7 @@
 """fill CRATE FN: reads /tmp/ans/CRATE/FN.txt: blocks 'name args = text' (or with unfolding), 'use ...' lines; fills the skeleton; rest = search needs."""
 import re,sys,os
 crate,fn=sys.argv[1:3]
-root=sys.argv[3] if len(sys.argv)>3 else '/work/main'
+root=sys.argv[3] if len(sys.argv)>3 else 'CHECKOUT'
 path=f'{root}/crates/{crate}/proofs/{fn}/Proof.antt'
 s=open(path).read()
 ans=open(f'/tmp/ans/{crate}/{fn.replace("/","_")}.txt').read()

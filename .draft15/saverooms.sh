@@ -1,6 +1,6 @@
-cd /work/main
+cd CHECKOUT
 save() { # ROOM DRAFT
-  r=$1; d=/work/main/$2; mkdir -p $d
+  r=$1; d=CHECKOUT/$2; mkdir -p $d
   cd /tmp/$r || return
   git add -A >/dev/null 2>&1; git -c user.name="Miskolaba maintainers" -c user.email="maintainers@users.noreply.miskolaba.example" commit -qm "WIP saved" >/dev/null 2>&1
   git log --oneline f293192..HEAD > $d/commits.txt

@@ -1,6 +1,6 @@
 import re,glob,os,sys
 from collections import Counter
-root=sys.argv[1] if len(sys.argv)>1 else '/work/main/crates'
+root=sys.argv[1] if len(sys.argv)>1 else 'CHECKOUT/crates'
 files=glob.glob(root+'/**/*.antt',recursive=True)+glob.glob(root+'/**/*.rt',recursive=True)
 text={}
 for f in files:

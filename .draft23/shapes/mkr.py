@@ -27,15 +27,15 @@ os.makedirs(d+'/crates/drive/src',exist_ok=True)
 open(d+'/crates/drive/src/main.rt','w').write('\n'.join(o)+'\n')
 libs=[l for l in open(d+'/crates.txt') if l.startswith('quotebook:')][0].split(':')[1].split()
 work='/tmp/x/work-'+pre; shutil.rmtree(work,ignore_errors=True); os.makedirs(work+'/tc/bin')
-clang='/opt/rattle/on/x86_64/toolchain/bin/clang'
-os.symlink('/opt/rattle/toolchain/lib',work+'/tc/lib')
+clang='KIT/on/x86_64/toolchain/bin/clang'
+os.symlink('KIT/toolchain/lib',work+'/tc/lib')
 open(work+'/tc/bin/clang','w').write(f'''#!/bin/bash
 if [ -f module.bc ]; then n=$(ls {work}/*-module.bc 2>/dev/null | wc -l); cp module.bc {work}/$((n+1))-module.bc; fi
 echo "$PWD: $*" >> {work}/log
 exec {clang} "$@"
 '''); os.chmod(work+'/tc/bin/clang',0o755)
 for t in ('ld.lld','llvm-ar'): os.symlink(clang,work+'/tc/bin/'+t)
-cmd=['/opt/rattle/on/x86_64/bin/rattle-cases','--toolchain',work+'/tc','crates/drive/src/main.rt','--crate-name','drive','--lib','std=/opt/rattle/libs/std/src/lib.rt']
+cmd=['KIT/on/x86_64/bin/rattle-cases','--toolchain',work+'/tc','crates/drive/src/main.rt','--crate-name','drive','--lib','std=KIT/libs/std/src/lib.rt']
 for l in libs+['quotebook']: cmd+=['--lib',f'{l}=crates/{l}/src/lib.rt']
 r=subprocess.run(cmd,cwd=d,capture_output=True,text=True)
 mods=sorted(glob.glob(work+'/*-module.bc'))

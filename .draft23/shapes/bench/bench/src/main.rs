@@ -1,8 +1,8 @@
 #![allow(dead_code)]
 mod books;
-#[path = "/work/main/rust/bench/src/market.rs"] mod market;
-#[path = "/work/main/rust/bench/src/replay.rs"] mod replay;
-#[path = "/work/main/rust/bench/src/stream.rs"] mod stream;
+#[path = "CHECKOUT/rust/bench/src/market.rs"] mod market;
+#[path = "CHECKOUT/rust/bench/src/replay.rs"] mod replay;
+#[path = "CHECKOUT/rust/bench/src/stream.rs"] mod stream;
 use stream::{Kind, Size, Stream};
 use books::Timed;
 fn sum(rounds:&[Vec<u64>], place:usize)->u64 { (0..rounds[0].len()).map(|i|{ let mut t:Vec<u64>=rounds.iter().map(|r|r[i]).collect(); t.sort_unstable(); t[place] }).sum() }
