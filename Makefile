@@ -35,12 +35,12 @@ test:
 	@tests/run
 
 # Never older than its sources: those of crate quotebook and of the crates that it uses. What rt makes in out/ is none of them.
-used := quotebook $(shell sed -n 's/^quotebook staticlib: //p' crates.txt)
+used := $(shell install/below quotebook)
 $(archive): crates.txt $(shell find $(used:%=crates/%) -name out -prune -o \( -name '*.rt' -o -name '*.antt' \) -print)
 	@echo "Proving and compiling the library (rt lib in crates/quotebook): some minutes, the first time."
 	@install/archive quotebook
 
-$(listing): crates.txt $(shell find crates/listing $(patsubst %,crates/%,$(shell sed -n 's/^listing staticlib: //p' crates.txt)) -name out -prune -o \( -name '*.rt' -o -name '*.antt' \) -print)
+$(listing): crates.txt $(shell find $(patsubst %,crates/%,$(shell install/below listing)) -name out -prune -o \( -name '*.rt' -o -name '*.antt' \) -print)
 	@install/archive listing
 
 # The same machine code, position independent as it is, under the names of the header.

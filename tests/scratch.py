@@ -47,7 +47,7 @@ def inside(text, names):
 def types(text, names):
     """The declared types of a crate, without its functions, where these crates are modules of one."""
     out = [re.sub(r"^use (%s)::" % "|".join(names), r"use crate::\1::", use) for use in re.findall(r"^use .*?;$", text, re.M)]
-    for m in re.finditer(r"^(?:#\[derive\(.*\)\]\n)?(?:pub )?(?:struct|enum) \w+ \{", text, re.M):
+    for m in re.finditer(r"^(?:#\[derive\(.*\)\]\n)?(?:pub )?(?:struct|enum) \w+(?:<[^>]*>)? \{", text, re.M):
         depth, j = 0, m.end() - 1
         while True:
             depth += {"{": 1, "}": -1}.get(text[j], 0)

@@ -41,21 +41,38 @@ fn built() -> PathBuf {
     folder
 }
 
-/// The list of crates, and the folders of crate quotebook and of those that it uses: what is written
-/// there, without the folder `out`, where the kit keeps what it makes.
+/// The list of crates, and the folders of crate quotebook and of those that it stands on: what is
+/// written there, without the folder `out`, where the kit keeps what it makes.
 fn sources(root: &Path) -> Vec<PathBuf> {
     let list = root.join("crates.txt");
     let text = fs::read_to_string(&list).unwrap_or_default();
-    let line = text
-        .lines()
-        .find_map(|line| line.strip_prefix("quotebook staticlib:"));
-    let used = line.unwrap_or_default().split_whitespace();
-    let crates = used.chain(["quotebook"]);
-    let folders = crates.flat_map(|name| {
+    let folders = below(&text, "quotebook").into_iter().flat_map(|name| {
         ["src", "specs", "proofs"].map(|part| root.join("crates").join(name).join(part))
     });
     let written = folders.filter(|folder| folder.is_dir());
     written.chain([list.clone()]).collect()
+}
+
+/// The crate and all that it stands on: a line of the list has only those that the crate's own files
+/// name.
+fn below<'a>(list: &'a str, top: &'a str) -> Vec<&'a str> {
+    let line_of = |name: &str| {
+        list.lines().find_map(|line| {
+            let (head, used) = line.split_once(':')?;
+            (head.split_whitespace().next()? == name).then_some(used)
+        })
+    };
+    let mut found = vec![top];
+    let mut next = 0;
+    while let Some(&name) = found.get(next) {
+        for used in line_of(name).unwrap_or_default().split_whitespace() {
+            if !found.contains(&used) {
+                found.push(used);
+            }
+        }
+        next += 1;
+    }
+    found
 }
 
 fn modified(path: &Path) -> Option<SystemTime> {

@@ -1,23 +1,23 @@
 -- The allowance's bytes: what the code sums, and what a charge, a tick and a setting leave to be read.
 -- Assumes nothing.
-use Prim.Native.Nat.{ℕ, zero, suc, ◌+◌, ◌-◌, ◌%◌, ◌≤◌, ◌<◌}
+use Prim.Native.Nat.{ℕ, suc, ◌+◌, ◌-◌, ◌%◌, ◌≤◌, ◌<◌, max}
+use Rattle.std.specs.List.{zip, sum as std_sum}
+use Rattle.lists.proofs.Iteration.{sum_std}
 use mathlib.Core.Path.{◌≡◌, refl, sym, ap, ap₂, ◌∙◌}
 use mathlib.Core.Bool.{Bool, true, false, cond}
-use mathlib.Core.List.{List, ◌∷◌, ◌++◌}
+use mathlib.Core.List.{List, [], ◌∷◌, ◌++◌, map}
 use native.Mathlib.Omega.{arith}
 use native.Mathlib.Numerals.{add-one}
-use lib.Dec.{eqb, leb, ltb}
+use lib.Dec.{eqb, leb}
 use lib.ListN.{length, take, drop, set, length-append}
 use lib.Seq.{drop-cons, get_or-take, get_or-drop}
-use borrow.Author.Tests.{ltb-true, ltb-false, le-leb, lt-leb, le-ltb, lt-ltb, leb-true, leb-false, eq-eqb, ne_eqb}
+use borrow.Author.Tests.{le-leb, lt-leb, leb-true, leb-false, eq-eqb, ne_eqb}
 use Rattle.field.specs.Field.{Bytes, be, part, field, splice, be_bytes}
 use Rattle.field.proofs.Laws.{be-be_bytes, be_bytes-mod, be_bytes-one, bytes-be_bytes, bytes-splice, field-before, field-one, length-be_bytes, length_part, length-splice, part-before, part-put, splice-inside, splice-one}
 use Rattle.field.proofs.JoinLaws.{part-front, part-after, part-whole}
 use Rattle.field.proofs.ZeroLaws.{length-zeros, bytes-zeros}
-use Rattle.lists.proofs.Searches.{less_one}
 use Rattle.lists.specs.Lists.{at, sum}
 use Rattle.allowance.specs.Allowance.{share_count, shares_from, charges_from, allowance_length, spare_charged, allowance_in, spare_used, is_used_up, charged, charged_bytes, no_charges, set_to, setting_bytes, ticked, ticked_bytes}
-use Rattle.allowance.specs.code.Kept.{larger, kept_from}
 
 -- a part is its first byte and the rest
 pub part-cons : (p : List ℕ) (x k : ℕ) → x + suc k ≤ length p → part p x (suc k) ≡ field p x 1 ∷ part p (x + 1) k
@@ -39,37 +39,11 @@ part-set p x w i v h l f =
     ∙ part-put p x (splice (part p x w) i (be_bytes 1 v)) w (length-splice (part p x w) i (be_bytes 1 v) (omega (arith, length-be_bytes 1 v, q)) ∙ q) (omega arith)
     ∙ ap (splice (part p x w) i) (be_bytes-one v f) ∙ sym (splice-one (part p x w) i v (omega (arith, q)))
 
-larger-is : (s c : ℕ) → larger s c ≡ s + (c - s)
-larger-is s c = go (ltb s c) refl
-  where
-    go : (t : Bool) → ltb s c ≡ t → cond t c s ≡ s + (c - s)
-    go true e = omega (arith, ltb-true s c e)
-    go false e = omega (arith, ltb-false s c e)
-
--- share or charge, whichever is larger: the shares, and what is charged beyond them
-kept-from : (r : List ℕ) (i k : ℕ) → charges_from + i + k ≤ length r
-    → kept_from r i k ≡ sum (part r (shares_from + i) k) + spare_charged (part r (shares_from + i) k) (part r (charges_from + i) k)
-unfolding kept_from sum spare_charged part
-kept-from r i zero h = refl
-kept-from r i (suc k) h =
-    let a : part r (shares_from + i) (suc k) ≡ field r (shares_from + i) 1 ∷ part r (shares_from + i + 1) k = part-cons r (shares_from + i) k (omega arith) in
-    let b : part r (charges_from + i) (suc k) ≡ field r (charges_from + i) 1 ∷ part r (charges_from + i + 1) k = part-cons r (charges_from + i) k (omega arith) in
-    let m : shares_from + (i + 1) ≡ shares_from + i + 1 = omega arith in
-    let n : charges_from + (i + 1) ≡ charges_from + i + 1 = omega arith in
-    step (field r (shares_from + i) 1) (field r (charges_from + i) 1) _ _ _ _ _ _ _ a b (kept-from r (i + 1) k (omega arith)) (ap (λ (x : ℕ). part r x k) m) (ap (λ (x : ℕ). part r x k) n)
-  where
-    step : (s c kk : ℕ) (ss cs ss1 cs1 ss2 cs2 : List ℕ) → ss ≡ s ∷ ss1 → cs ≡ c ∷ cs1 → kk ≡ sum ss2 + spare_charged ss2 cs2 → ss2 ≡ ss1 → cs2 ≡ cs1
-        → larger s c + kk ≡ sum ss + spare_charged ss cs
-    step s c kk ss cs ss1 cs1 ss2 cs2 e f g m n = rw (e, f, g, m, n, larger-is s c) (omega arith)
-
-pub kept-is : (r : List ℕ) → length r ≡ allowance_length → kept_from r 0 share_count ≡ sum (part r shares_from share_count) + spare_charged (part r shares_from share_count) (part r charges_from share_count)
-kept-is r e = kept-from r 0 share_count (omega arith)
-
 -- ---- the code's tests
 
-pub spare-told : (r : List ℕ) (b k : ℕ) → length r ≡ allowance_length → b ≡ field r 0 1 → k ≡ kept_from r 0 share_count → leb b k ≡ spare_used (allowance_in r)
+pub spare-told : (r : List ℕ) (b k : ℕ) → b ≡ field r 0 1 → k ≡ sum (part r shares_from share_count) + spare_charged (part r shares_from share_count) (part r charges_from share_count) → leb b k ≡ spare_used (allowance_in r)
 unfolding allowance_in
-spare-told r b k e f g = rw (g, kept-is r e, ← f) (go (leb b (s + u)) refl)
+spare-told r b k f g = rw (g, ← f) (go (leb b (s + u)) refl)
   where
     s : ℕ
     s = sum (part r shares_from share_count)
@@ -81,23 +55,12 @@ spare-told r b k e f g = rw (g, kept-is r e, ← f) (go (leb b (s + u)) refl)
     go true h = let x : b - s ≤ u = omega (arith, leb-true b (s + u) h) in sym (le-leb (b - s) u x)
     go false h = let x : u < b - s = omega (arith, leb-false b (s + u) h) in sym (lt-leb (b - s) u x)
 
-pub larger-more : (s c fs fc : ℕ) → s ≡ fs → c ≡ fc → s < c → c ≡ larger fs fc
-larger-more s c fs fc e f h = rw (← e, ← f, lt-ltb s c h)
-
-pub larger-less : (s c fs fc : ℕ) → s ≡ fs → c ≡ fc → c ≤ s → s ≡ larger fs fc
-larger-less s c fs fc e f h = rw (← e, ← f, le-ltb s c h)
-
-pub kept-start : (r : List ℕ) → 0 + kept_from r 0 (share_count - 0) ≡ kept_from r 0 share_count
-kept-start r = let n : share_count - 0 ≡ share_count = omega arith in ap (λ (k : ℕ). 0 + kept_from r 0 k) n ∙ omega arith
-
-pub kept_step : (r : List ℕ) (i : ℕ) → i < share_count
-    → kept_from r i (share_count - i) ≡ larger (field r (shares_from + i) 1) (field r (charges_from + i) 1) + kept_from r (i + 1) (share_count - (i + 1))
-unfolding kept_from
-kept_step r i h = rw (less_one share_count i h)
-
-pub kept-end : (r : List ℕ) (i : ℕ) → share_count ≤ i → kept_from r i (share_count - i) ≡ 0
-unfolding kept_from
-kept-end r i h = let n : share_count - i ≡ 0 = omega arith in rw n
+-- share or charge of each line, whichever is larger: the shares, and what is charged beyond them
+pub larger-sum : (ss cs : List ℕ) → length ss ≡ length cs → std_sum (map (λ p. max p.0 p.1) (zip ss cs)) ≡ sum ss + spare_charged ss cs
+unfolding sum spare_charged
+larger-sum [] cs e = refl
+larger-sum (s ∷ ss) [] e = absurd (let z : ◌≡◌ {A = ℕ} (suc (length ss)) 0 = e in omega arith)
+larger-sum (s ∷ ss) (c ∷ cs) e = sym (sum_std (map (λ p. max p.0 p.1) (zip (s ∷ ss) (c ∷ cs)))) ∙ ap (λ (n : ℕ). max s c + n) (sum_std (map (λ p. max p.0 p.1) (zip ss cs)) ∙ larger-sum ss cs (omega (arith, e))) ∙ omega arith
 
 module _ (r : List ℕ) (i b : ℕ) (e : b ≡ field r 0 1) where
   pub unset-free : b ≡ 0 → false ≡ is_used_up (allowance_in r) i

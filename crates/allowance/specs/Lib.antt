@@ -1,2 +1,1 @@
 pub mod Allowance
-pub mod code

@@ -2,11 +2,13 @@
 // of the opening: B, the shares, the charges.
 #![tactic(auto)]
 
-ghost use Rattle.std.specs.Prelude.{◌≡◌, ◌+◌, ◌*◌, ◌-◌, ◌≤◌, ◌<◌, leb, get_or, length};
+ghost use Rattle.std.specs.Prelude.{◌≡◌, ◌+◌, ◌<◌, length};
 ghost use Rattle.field.specs.Field.{field};
 ghost use Rattle.lists.specs.Lists.{sum};
-ghost use Rattle.allowance.specs.Allowance.{allowance_in, allowance_length, charged_bytes, charges_from, is_used_up, setting_number, share_count, shares_from, spare_used};
-ghost use Rattle.allowance.specs.code.Kept.{kept_from, larger};
+ghost use Rattle.numbers.specs.Numbers.{answered};
+ghost use Rattle.allowance.specs.Allowance.{allowance_in, allowance_length, charged_bytes, is_used_up, setting_number, share_count, spare_charged, spare_used};
+
+use numbers::Refusal;
 
 /// Where B, the shares and the charges stand in these bytes. specs/Allowance.antt says the same.
 #[derive(Clone, Copy)]
@@ -34,10 +36,7 @@ pub fn is_used_up(bytes: &[u8], line: usize) -> bool
         return false;
     }
     let share = field::get8(bytes, Allowance::SHARES + line);
-    if field::get8(bytes, Allowance::CHARGES + line) < share {
-        return false;
-    }
-    is_spare_used(bytes, blocks)
+    share <= field::get8(bytes, Allowance::CHARGES + line) && is_spare_used(bytes, blocks)
 }
 
 // B is no more than what is promised to the lines or used.
@@ -45,30 +44,21 @@ fn is_spare_used(bytes: &[u8], blocks: u8) -> bool
     requires { (length bytes.now ≡ allowance_length) × (blocks ≡ field bytes.now 0 1) }
     ensures { result ≡ spare_used (allowance_in bytes.now) }
 {
-    (blocks as u32) <= kept(bytes)
+    let shares = &bytes[Allowance::SHARES..Allowance::CHARGES];
+    let charges = &bytes[Allowance::CHARGES..Allowance::LEN];
+    u32::from(blocks) <= kept(shares, charges)
 }
 
-fn kept(bytes: &[u8]) -> u32
-    requires { length bytes.now ≡ allowance_length }
-    ensures { result ≡ kept_from bytes.now 0 share_count }
+// Share or charge of each line, whichever is larger: what is promised to the lines or used.
+fn kept(shares: &[u8], charges: &[u8]) -> u32
+    requires { (length shares.now ≡ share_count) × (length charges.now ≡ share_count) }
+    ensures { result ≡ sum shares.now + spare_charged shares.now charges.now }
 {
-    let mut total: u32 = 0;
-    for i in 0..Allowance::LINES {
-        total += kept_of(bytes, i);
-    }
-    total
-}
-
-fn kept_of(bytes: &[u8], line: usize) -> u32
-    requires { (length bytes.now ≡ allowance_length) × (line < share_count) }
-    ensures { (result ≡ larger (field bytes.now (shares_from + line) 1) (field bytes.now (charges_from + line) 1)) × (result < 256) }
-{
-    let share = field::get8(bytes, Allowance::SHARES + line);
-    let charge = field::get8(bytes, Allowance::CHARGES + line);
-    if share < charge {
-        return charge as u32;
-    }
-    share as u32
+    shares
+        .iter()
+        .zip(charges)
+        .map(|(&share, &charge)| u32::from(share.max(charge)))
+        .sum()
 }
 
 /// Charges a block to a line, if an allowance is set.
@@ -80,27 +70,27 @@ pub fn charge(bytes: &mut [u8], line: usize)
         return;
     }
     let at = Allowance::CHARGES + line;
-    let count = field::get8(bytes, at) as u32;
-    field::put8(bytes, at, ((count + 1) % 256) as u8);
+    let count = field::get8(bytes, at);
+    field::put8(bytes, at, count.wrapping_add(1));
 }
 
 /// Checks 84 and 85 of a setting.
-pub fn judge(blocks: u32, shares: &[u8]) -> u8
-    ensures { result ≡ setting_number blocks shares.now }
+pub fn judge(blocks: u32, shares: &[u8]) -> Result<(), Refusal>
+    ensures { answered result ≡ setting_number blocks shares.now }
 {
     if blocks < 1 {
-        return 84;
+        return Err(Refusal::Allowance);
     }
     if Allowance::BLOCKS_MAX < blocks {
-        return 84;
+        return Err(Refusal::Allowance);
     }
     if shares.len() != Allowance::LINES {
-        return 85;
+        return Err(Refusal::Shares);
     }
     if blocks < total(shares) {
-        return 85;
+        return Err(Refusal::Shares);
     }
-    0
+    Ok(())
 }
 
 // The sum of the 64 shares.
@@ -108,16 +98,5 @@ fn total(shares: &[u8]) -> u32
     requires { length shares.now ≡ share_count }
     ensures { result ≡ sum shares.now }
 {
-    let mut acc: u32 = 0;
-    for i in 0..Allowance::LINES {
-        acc += share_of(shares, i);
-    }
-    acc
-}
-
-fn share_of(shares: &[u8], line: usize) -> u32
-    requires { (length shares.now ≡ share_count) × (line < share_count) }
-    ensures { (result ≡ get_or shares.now line 0) × (result < 256) }
-{
-    field::get8(shares, line) as u32
+    shares.iter().map(|&share| u32::from(share)).sum()
 }

@@ -5,8 +5,8 @@ use Rattle.field.specs.Field.{field}
 use Rattle.lists.specs.Lists.{at}
 use Rattle.lists.proofs.Tests.{and-true}
 use Rattle.block.specs.Block.{offset_at, block_longest, block_shortest, Readable, count_in, checksum_of, start_at, spaced, length_good, table_good, control_among, checked, messages_most}
-use Rattle.block.specs.declared.Checked.{Checked}
-use Rattle.block.specs.declared.Checked.TheVariants.{Pass, Refused}
+use Rattle.std.specs.Prelude.{Result, Ok, Err}
+use Rattle.numbers.specs.declared.Refusal.{Refusal}
 
 -- what the rules of check 33 say
 pub record Table (b : List ℕ) : Type 0 where
@@ -28,11 +28,11 @@ table b e =
 pub table-readable : (b : List ℕ) (c : ℕ) → c ≡ count_in b → Table b → length b ≤ block_longest → Readable b c
 table-readable b c n t h = record { counted = n; table = rw n t.inside; short = h }
 
-unless : (t : Bool) (x : Checked) (k c : ℕ) → cond t x (Refused k) ≡ Pass c → (t ≡ true) × (x ≡ Pass c)
+unless : (t : Bool) (x : Result ℕ Refusal) (k : Refusal) (c : ℕ) → cond t x (Err k) ≡ Ok c → (t ≡ true) × (x ≡ Ok c)
 unless true x k c e = (refl, e)
 unless false x k c e = let z : ◌≡◌ {A = ℕ} 0 1 = cc in absurd (omega arith)
 
-when : (t : Bool) (x : Checked) (k c : ℕ) → cond t (Refused k) x ≡ Pass c → (t ≡ false) × (x ≡ Pass c)
+when : (t : Bool) (x : Result ℕ Refusal) (k : Refusal) (c : ℕ) → cond t (Err k) x ≡ Ok c → (t ≡ false) × (x ≡ Ok c)
 when true x k c e = let z : ◌≡◌ {A = ℕ} 0 1 = cc in absurd (omega arith)
 when false x k c e = (refl, e)
 
@@ -47,14 +47,14 @@ pub record Passed (b : List ℕ) (c : ℕ) : Type 0 where
   pub table : Table b
   pub alone : control_among b ≡ false
 
-pub passed : (b : List ℕ) (c : ℕ) → checked b ≡ Pass c → Passed b c
+pub passed : (b : List ℕ) (c : ℕ) → checked b ≡ Ok c → Passed b c
 unfolding checked length_good
 passed b c e =
     let p0 : (length_good b ≡ true) × _ = unless _ _ _ _ e in
     let p1 : (eqb (at b 0) 1 ≡ true) × _ = unless _ _ _ _ p0.1 in
     let p2 : (eqb (checksum_of b) (field b 8 2) ≡ true) × _ = unless _ _ _ _ p1.1 in
     let p3 : (table_good b ≡ true) × _ = unless _ _ _ _ p2.1 in
-    let p4 : (control_among b ≡ false) × (Pass (count_in b) ≡ Pass c) = when _ _ _ _ p3.1 in
+    let p4 : (control_among b ≡ false) × (Ok (count_in b) ≡ Ok c) = when _ _ _ _ p3.1 in
     let n : c ≡ count_in b = cc in
     let l0 : _ × _ = and-true _ _ p0.0 in
     let l1 : _ × _ = and-true _ _ l0.1 in

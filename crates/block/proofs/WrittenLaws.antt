@@ -1,13 +1,13 @@
 -- A block written from its messages passes the checks and gives them back; one that passes the checks, taken apart and written again, is itself.
 -- Assumes nothing.
-use Rattle.std.proofs.Common.{◌≡◌, ℕ, zero, suc, ◌+◌, ◌-◌, ◌*◌, ◌<◌, ◌≤◌, Bool, true, false, cond, not, ◌&&◌, ltb, leb, ◌⊎◌, List, [], ◌∷◌, ◌++◌, map, length, take, sym, refl, ap, ◌∙◌, inl, inr, mod-lt, eq-or-lt_of_le, arith, lit<, length-append, length-take-le, le-ltb, lt-ltb, eq-eqb, le-leb, leb-true}
+use Rattle.std.proofs.Common.{◌≡◌, ℕ, zero, suc, ◌+◌, ◌*◌, ◌<◌, ◌≤◌, Bool, true, false, cond, not, ◌&&◌, ltb, leb, ◌⊎◌, List, [], ◌∷◌, ◌++◌, map, length, take, sym, refl, ap, ◌∙◌, inl, inr, mod-lt, eq-or-lt_of_le, arith, lit<, length-append, length-take-le, le-ltb, lt-ltb, eq-eqb, le-leb, leb-true}
 use Rattle.field.specs.Field.{Bytes, be, part, field, be_bytes}
 use Rattle.field.proofs.Laws.{be-be_bytes, be_bytes-field, part_join}
 use Rattle.field.proofs.JoinLaws.{part-after, part-front}
-use Rattle.lists.specs.Lists.{at, all, every, sum}
+use Rattle.lists.specs.Lists.{at, all, every}
 use Rattle.lists.proofs.Tests.{and-true}
 use Rattle.block.specs.Block.{offset_at, block_longest, block_shortest, message_shortest, messages_most, count_in, sequence_in, checksum_of, start_at, message_at, messages_from, messages_of, length_good, spaced, spaced_at, table_good, is_control, no_control_at, control_among, checked}
-use Rattle.block.specs.declared.Checked.TheVariants.{Pass}
+use Rattle.std.specs.Prelude.{Ok}
 use Rattle.block.specs.Written.{joined, length_with, offsets, front, written, any_control, control_mixed}
 use Rattle.block.proofs.CheckLaws.{Passed}
 use Rattle.block.proofs.MessageLaws.{length-message, message-long, cover, offset_of, first-offset, back}
@@ -174,7 +174,7 @@ module _ (s : ℕ) (ms : List (List ℕ)) (c : Carried ms) where
       le-leb (start_at b j + 20) (start_at b (j + 1)) (omega (arith, st j (omega arith), ap (start_at b) e ∙ st (suc j) (omega arith), offset_step (offset_at (length ms)) ms j c.long (omega arith)))) in
       rw (framed-count s own ms, le-leb 1 (length ms) c.some, le-leb (length ms) messages_most c.few, le-leb (offset_at (length ms)) (length b) (omega (arith, length-framed s own ms)), eq-eqb (start_at b 0) (offset_at (length ms)) f, each)
 
-  pub written-passes : checked (written s ms) ≡ Pass (length ms)
+  pub written-passes : checked (written s ms) ≡ Ok (length ms)
   unfolding written checked length_good
   written-passes =
       let b = framed s own ms in

@@ -1,12 +1,12 @@
 -- A block's bytes: checks 30 to 34, and its messages (document 01, "Block").
 -- Bytes 0 version, 1 message count c, 2-3 length, 4-7 sequence number of the first message, 8-9 checksum, then c offsets of 2 bytes.
 -- Assumes nothing.
-use Rattle.std.specs.Prelude.{◌≡◌, ℕ, zero, suc, ◌+◌, ◌-◌, ◌*◌, ◌%◌, ◌≤◌, Bool, cond, not, ◌&&◌, List, [], ◌∷◌, length, ◌==◌, nat_le, nat_lt, slice_set}
+use Rattle.std.specs.Prelude.{◌≡◌, ℕ, zero, suc, ◌+◌, ◌-◌, ◌*◌, ◌%◌, ◌≤◌, Bool, cond, not, ◌&&◌, List, [], ◌∷◌, length, ◌==◌, nat_le, nat_lt, slice_set, Result, Ok, Err}
 use Rattle.field.specs.Field.{part, field}
 use Rattle.field.specs.Ascii.{C, I, T, five}
 use Rattle.lists.specs.Lists.{at, member, all, sum}
-use Rattle.block.specs.declared.Checked.{Checked}
-use Rattle.block.specs.declared.Checked.TheVariants.{Pass, Refused}
+use Rattle.numbers.specs.declared.Refusal.{Refusal}
+use Rattle.numbers.specs.declared.Refusal.TheVariants as refusal
 
 -- bytes of a block, and of a message in it
 abbrev pub block_shortest : ℕ
@@ -92,20 +92,15 @@ no_control_at b i = not (is_control (message_at b i))
 unfoldable pub control_among : List ℕ → Bool
 control_among b = nat_le 2 (count_in b) && not (all (no_control_at b) 0 (count_in b))
 
--- 30 to 34 in their order: the count of messages, or the number of the first check that refuses
-unfoldable pub checked : List ℕ → Checked
+-- 30 to 34 in their order: the count of messages, or the first check that refuses
+unfoldable pub checked : List ℕ → Result ℕ Refusal
 checked b =
     cond (length_good b)
     (cond (at b 0 == 1)
     (cond (checksum_of b == field b 8 2)
     (cond (table_good b)
-    (cond (control_among b) (Refused 34) (Pass (count_in b)))
-    (Refused 33)) (Refused 32)) (Refused 31)) (Refused 30)
-
--- document 01's number of each case
-abbrev pub checked_number : Checked → ℕ
-checked_number (Pass c) = 0
-checked_number (Refused k) = k
+    (cond (control_among b) (Err refusal.ControlNotAlone) (Ok (count_in b)))
+    (Err refusal.Offsets)) (Err refusal.Checksum)) (Err refusal.Version)) (Err refusal.BlockLength)
 
 -- "Blocks whose message is C I, C T or C 5 skip checks 20 and 35, move neither and report d as 0"
 unfoldable pub idle_block : List ℕ → Bool

@@ -1,10 +1,12 @@
 // A block of messages, and the sequence numbers of a line.
 #![tactic(auto)]
 
-ghost use Rattle.std.specs.Prelude.{◌≡◌, ◌+◌, ◌*◌, ◌<◌, ◌≤◌, true, length};
+ghost use Rattle.std.specs.Prelude.{◌≡◌, ◌+◌, ◌*◌, ◌<◌, ◌≤◌, true, Ok, length};
 ghost use Rattle.lists.specs.Lists.{at, sum};
-ghost use Rattle.block.specs.Block.{block_longest, Readable, count_in, sequence_in, checksum_of, start_at, spaced, table_good, control_among, idle_block, checked, checked_number};
+ghost use Rattle.block.specs.Block.{block_longest, Readable, count_in, sequence_in, checksum_of, start_at, spaced, table_good, control_among, idle_block, checked};
 ghost use Rattle.block.specs.Sequence.{arrival_of};
+
+use numbers::Refusal;
 
 /// A block's lengths. Header: version 1, message count 1, length 2, sequence number 4, checksum 2; then a table of 2 bytes a message.
 #[derive(Clone, Copy)]
@@ -24,51 +26,34 @@ impl Block {
     pub const MESSAGE_SHORTEST: usize = 20;
 }
 
-/// What checks 30 to 34 give: the count of messages, or the number of the first check that refuses.
-#[derive(Clone, Copy)]
-pub enum Checked {
-    Pass(usize),
-    Refused(u8),
-}
-
-/// Document 01's number of what the checks give: 0 for a pass.
-pub fn number(checked: Checked) -> u8
-    ensures { result ≡ checked_number checked }
-{
-    match checked {
-        Checked::Pass(_) => 0,
-        Checked::Refused(number) => number,
-    }
-}
-
-/// Checks 30 to 34 in their order, on any bytes.
-pub fn check_block(block: &[u8]) -> Checked
+/// Checks 30 to 34 in their order, on any bytes: the count of messages, or the first check that refuses.
+pub fn check_block(block: &[u8]) -> Result<usize, Refusal>
     ensures { result ≡ checked block.now }
 {
     let len = block.len();
     if len < Block::SHORTEST {
-        return Checked::Refused(30);
+        return Err(Refusal::BlockLength);
     }
     if Block::LONGEST < len {
-        return Checked::Refused(30);
+        return Err(Refusal::BlockLength);
     }
     if field::get16(block, 2) as usize != len {
-        return Checked::Refused(30);
+        return Err(Refusal::BlockLength);
     }
     if field::get8(block, 0) != 1 {
-        return Checked::Refused(31);
+        return Err(Refusal::Version);
     }
     if checksum(block) != field::get16(block, 8) {
-        return Checked::Refused(32);
+        return Err(Refusal::Checksum);
     }
     let c = count(block);
     if is_table_good(block, c) {
         if is_control_among(block, c) {
-            return Checked::Refused(34);
+            return Err(Refusal::ControlNotAlone);
         }
-        return Checked::Pass(c);
+        return Ok(c);
     }
-    Checked::Refused(33)
+    Err(Refusal::Offsets)
 }
 
 /// The count of messages that the header gives.
@@ -101,17 +86,7 @@ pub fn total(s: &[u8]) -> u32
     requires { length s.now ≤ block_longest }
     ensures { result ≡ sum s.now }
 {
-    let mut acc: u32 = 0;
-    for i in 0..s.len() {
-        acc += wide(s[i]);
-    }
-    acc
-}
-
-fn wide(x: u8) -> u32
-    ensures { (result ≡ x) × (result < 256) }
-{
-    x as u32
+    s.iter().map(|&x| u32::from(x)).sum()
 }
 
 /// Where message i of c starts; past the last, the block's end.
@@ -130,19 +105,11 @@ fn is_table_good(block: &[u8], c: usize) -> bool
     requires { (c ≡ count_in block.now) × (length block.now ≤ block_longest) }
     ensures { result ≡ table_good block.now }
 {
-    if c < 1 {
-        return false;
-    }
-    if Block::MESSAGES < c {
-        return false;
-    }
-    if block.len() < Block::HEADER + 2 * c {
-        return false;
-    }
-    if start(block, c, 0) != Block::HEADER + 2 * c {
-        return false;
-    }
-    is_spaced(block, c)
+    1 <= c
+        && c <= Block::MESSAGES
+        && Block::HEADER + 2 * c <= block.len()
+        && start(block, c, 0) == Block::HEADER + 2 * c
+        && is_spaced(block, c)
 }
 
 // Whether each of the c messages has at least 20 bytes.
@@ -177,35 +144,32 @@ fn is_control_among(block: &[u8], c: usize) -> bool
 
 /// Whether the block's first message is C I, C T or C 5: such a block skips checks 20 and 35 and moves nothing of its line.
 pub fn is_idle(block: &[u8], c: usize) -> bool
-    requires { checked block.now ≡ Checked.Pass c }
+    requires { checked block.now ≡ Ok c }
     ensures { result ≡ idle_block block.now }
 {
     let at = start(block, c, 0);
     if field::get8(block, at) != b'C' {
         return false;
     }
-    match field::get8(block, at + 1) {
-        b'I' | b'T' | b'5' => true,
-        _ => false,
-    }
+    matches!(field::get8(block, at + 1), b'I' | b'T' | b'5')
 }
 
-/// How a block's sequence number meets the next expected one.
+/// A block that comes in order (gap 0) or behind a gap, and the next expected number after it.
 #[derive(Clone, Copy)]
-pub enum Arrival {
-    /// In order (gap 0) or behind a gap; then the next expected number.
-    Taken { gap: u32, next: u32 },
-    Duplicate,
+pub struct Arrival {
+    pub gap: u32,
+    pub next: u32,
 }
 
-/// The difference modulo 2^32: up to half the range it is in order or a gap, more is a duplicate.
-pub fn arrive(received: u32, expected: u32, c: u32) -> Arrival
+/// How a block's sequence number meets the expected one. The difference modulo 2^32: up to half the range it is in order or a gap, more is a duplicate,
+/// which gives none.
+pub fn arrive(received: u32, expected: u32, c: u32) -> Option<Arrival>
     ensures { result ≡ arrival_of received expected c }
 {
     let gap = std::num::wrapping_sub_u32(received, expected);
     if gap <= 2147483647 {
         let next = std::num::wrapping_add_u32(received, c);
-        return Arrival::Taken { gap, next };
+        return Some(Arrival { gap, next });
     }
-    Arrival::Duplicate
+    None
 }

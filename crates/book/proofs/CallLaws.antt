@@ -2,9 +2,10 @@
 -- Assumes nothing.
 use Prim.Native.Nat.{ℕ, ◌+◌, ◌-◌, ◌<◌, ◌≤◌}
 use mathlib.Core.Path.{◌≡◌, refl, sym, ap, ◌∙◌}
-use mathlib.Core.Bool.{Bool, true, false, ◌&&◌, cond}
+use mathlib.Core.Bool.{Bool, true, false, cond}
 use mathlib.Core.List.{List}
-use mathlib.Core.Option.{Option, none, some}
+use Rattle.std.specs.Prelude.{Option, None, Some}
+use Rattle.std.specs.Prelude as std
 use native.Mathlib.Omega.{arith}
 use lib.Dec.{eqb, ltb}
 use lib.ListN.{length}
@@ -12,22 +13,20 @@ use borrow.Author.Tests.{lt-ltb, le-ltb, lt-leb, le-leb, eq-eqb, ne_eqb}
 use borrow.Rule.Slice.PartMut.{put_mid}
 use Rattle.field.specs.Field.{be, field, splice, be_bytes}
 use Rattle.lists.specs.Lists.{member, is_some}
-use Rattle.lists.specs.declared.Found.{Found}
-use Rattle.lists.specs.declared.Found.TheVariants.{At, Nothing}
 use Rattle.lists.proofs.Tests.{clash, Cut, equal, apart, cut}
+use Rattle.numbers.specs.declared.Refusal.{Refusal}
+use Rattle.numbers.specs.Numbers.{number_of as refusal_number}
+use Rattle.line.proofs.GateLaws.{never-done}
 use Rattle.text.specs.Form.{symbol_good, letter_good, symbol_length}
 use Rattle.update.specs.Parts.{blank_page, new_head, emptied}
 use Rattle.update.proofs.TableLaws.{cell-order}
 use Rattle.update.proofs.SearchLaws.{is_at}
 use Rattle.update.proofs.BlankLaws.{length-blank}
 use Rattle.update.proofs.StoreLaws.{length-head}
-use Rattle.opening.specs.declared.Line.{Line}
-use Rattle.opening.specs.declared.LineState.{LineState}
-use Rattle.opening.specs.declared.LineState.TheVariants.{Open, Closed}
-use Rattle.opening.specs.Opening.{symbols_of, count_of, sound, line_bytes, lines_in, rest_in, pages_in, page_place, hinted, each_page, fresh_bytes, restart_lines, opened}
+use Rattle.opening.specs.Opening.{symbols_of, count_of, sound, line_bytes, lines_in, rest_in, pages_in, page_place, hinted, each_page, fresh_bytes, restart_lines}
 use Rattle.line.specs.Line.{done}
 use Rattle.calls.specs.Call.{Call, make, add, open_line, start_day, end_day, read, protected, convert_len, convert, snapshot_len, snapshot, try_order, set_allowance, tick, lots, number_of, bare, answer_of, after_call, make_good, number_on, answer_on, call}
-use Rattle.work.specs.Work.{is_listed, listed_of}
+use Rattle.work.specs.Work.{listed_of}
 use Rattle.calls.specs.Call as calls
 use Rattle.book.specs.code.Day.{day_number}
 use Rattle.opening.proofs.OpeningLaws.{Sound, sound-of}
@@ -56,17 +55,18 @@ bare_call (try_order s m w room) = false
 bare_call (set_allowance n ss) = true
 bare_call tick = true
 
+-- `is_some` as the code says it
+given_is : {A : Type 0} (o : Option A) → std.is_some o ≡ is_some o
+given_is None = refl
+given_is (Some a) = refl
+
+place_is : (o : Option ℕ) → std.is_some o ≡ is_at o
+place_is None = refl
+place_is (Some k) = refl
+
 either : (t : Bool) (x : ℕ) → cond t (bare (cond t x 1)) (bare 1) ≡ bare (cond t x 1)
 either true x = refl
 either false x = refl
-
--- no number of these calls is 70
-abbrev pub NoGap : ℕ → Type 0
-NoGap k = k ≡ 70 → ⊥
-
-no_gap : (t : Bool) (x y : ℕ) → NoGap x → NoGap y → NoGap (cond t x y)
-no_gap true x y h k = h
-no_gap false x y h k = k
 
 module _ (b : List ℕ) where
   bare-answer : (c : Call) → bare_call c ≡ true → answer_on b c ≡ bare (number_on b c)
@@ -93,10 +93,9 @@ module _ (b : List ℕ) where
     unfolding call
     refused k e d = rw (bare-answer c plain, ← e, d)
 
-    -- any number but 0
-    pub turned_down : (k : ℕ) → NoGap (number_on b c) → k ≡ number_on b c → (k ≡ 0 → ⊥) → record { bytes = b; answer = bare k } ≡ call b c
-    unfolding done
-    turned_down k m e z = refused k e (rw (ne_eqb k 0 z, ne_eqb k 70 (λ q. m (sym e ∙ q))))
+    -- by any check
+    pub turned_down : (r : Refusal) → refusal_number r ≡ number_on b c → record { bytes = b; answer = bare (refusal_number r) } ≡ call b c
+    turned_down r e = refused (refusal_number r) e (never-done r)
 
     pub carried-out : (b' : List ℕ) → 0 ≡ number_on b c → b' ≡ after_call b c → record { bytes = b'; answer = bare 0 } ≡ call b c
     unfolding call done
@@ -144,14 +143,6 @@ module _ (b : List ℕ) where
   unfolding day_number number_on number_of rest_in
   end-judged = refl
 
-  pub start_small : NoGap (number_on b start_day)
-  unfolding number_on number_of
-  start_small = no_gap (sound b) _ 1 (no_gap (rest_in b).day 11 0 (λ q. omega arith) (λ q. omega arith)) (λ q. omega arith)
-
-  pub end-small : NoGap (number_on b end_day)
-  unfolding number_on number_of
-  end-small = no_gap (sound b) _ 1 (no_gap (rest_in b).day 0 12 (λ q. omega arith) (λ q. omega arith)) (λ q. omega arith)
-
   module _ (day number : ℕ) where
     pub day-unsound : sound b ≡ false → 1 ≡ day_number b day number
     unfolding day_number
@@ -165,9 +156,9 @@ module _ (b : List ℕ) where
     unfolding day_number
     day-else e d de h = rw (e, ne_eqb (field b day_at 1) day (λ z. h (de ∙ z)))
 
-    pub day-passed : (k : ℕ) → k ≡ day_number b day number → k ≡ 0 → (number ≡ 0 → ⊥) → sound b ≡ true
+    pub day-passed : 0 ≡ day_number b day number → sound b ≡ true
     unfolding day_number
-    day-passed k e z n = go (sound b) (sym z ∙ e)
+    day-passed e = go (sound b) e
       where
         go : (t : Bool) → 0 ≡ cond t (cond (eqb (field b day_at 1) day) 0 number) 1 → t ≡ true
         go true w = refl
@@ -196,31 +187,18 @@ module _ (b : List ℕ) where
       unfolding number_on number_of
       open-letter g = rw (s, below, g)
 
-      module _ (g : letter_good l ≡ true) (r : LineState) (e : r ≡ opened (lines_in b i)) where
-        is_open : (o : Option Line) → r ≡ opened o → (x : Line) → r ≡ Open x → is_some o ≡ true
-        is_open none e x f = clash (cc)
-        is_open (some y) e x f = refl
-
-        is-closed : (o : Option Line) → r ≡ opened o → r ≡ Closed → is_some o ≡ false
-        is-closed none e f = refl
-        is-closed (some y) e f = clash (cc)
-
-        pub open-standing : (x : Line) → r ≡ Open x → 8 ≡ number_on b (open_line i l)
+      module _ (g : letter_good l ≡ true) where
+        pub open-standing : std.is_some (lines_in b i) ≡ true → 8 ≡ number_on b (open_line i l)
         unfolding number_on number_of rest_in
-        open-standing x f = rw (s, below, g, is_open (lines_in b i) e x f)
+        open-standing f = rw (s, below, g, sym (given_is (lines_in b i)) ∙ f)
 
-        pub open-new : r ≡ Closed → 0 ≡ number_on b (open_line i l)
+        pub open-new : std.is_some (lines_in b i) ≡ false → 0 ≡ number_on b (open_line i l)
         unfolding number_on number_of rest_in
-        open-new f = rw (s, below, g, is-closed (lines_in b i) e f)
+        open-new f = rw (s, below, g, sym (given_is (lines_in b i)) ∙ f)
 
-    pub open-small : NoGap (number_on b (open_line i l))
-    unfolding number_on number_of
-    open-small = no_gap (sound b) _ 1 (no_gap (ltb i line_count && letter_good l) _ 7 (no_gap (is_some ((rest_in b).lines i)) 8 0 (λ q. omega arith) (λ q. omega arith)) (λ q. omega arith)) (λ q. omega arith)
-
-    pub open-passed : (k : ℕ) → k ≡ number_on b (open_line i l) → k ≡ 0 → (opening_length ≤ length b) × (i < line_count)
+    pub open-passed : 0 ≡ number_on b (open_line i l) → (opening_length ≤ length b) × (i < line_count)
     unfolding number_on done
-    open-passed k e z =
-        let n : 0 ≡ number_on b (open_line i l) = sym z ∙ e in
+    open-passed n =
         let s : sound b ≡ true = number-sound b (open_line i l) refl n in
         let m : number_of (rest_in b) (listed_of (pages_in b)) (open_line i l) ≡ 0 = sym (rw s at n) in
         (omega (arith, (sound-of b s).size), (open_done (rest_in b) (listed_of (pages_in b)) i l (ap done m)).0)
@@ -248,29 +226,18 @@ module _ (b : List ℕ) where
         pub add-letter : member lots k ≡ true → letter_good p ≡ false → 75 ≡ number_on b (add x k p)
         add-letter m l = sym (add-number s ∙ rw (g, m, l))
 
-        module _ (m : member lots k ≡ true) (l : letter_good p ≡ true) (r : Found) (e : r ≡ page_place b (be x)) where
-          pub add-listed : (j : ℕ) → r ≡ At j → 4 ≡ number_on b (add x k p)
-          add-listed j f = sym (add-number s ∙ rw (g, m, l, ← e, f))
+        module _ (m : member lots k ≡ true) (l : letter_good p ≡ true) where
+          pub add-listed : std.is_some (page_place b (be x)) ≡ true → 4 ≡ number_on b (add x k p)
+          add-listed f = sym (add-number s ∙ rw (g, m, l, sym (place_is (page_place b (be x))) ∙ f))
 
-          module _ (f : r ≡ Nothing) (c n : ℕ) (ce : c ≡ field b count_at 1) (ne : n ≡ field b n_at 1) where
+          module _ (f : std.is_some (page_place b (be x)) ≡ false) (c n : ℕ) (ce : c ≡ field b count_at 1) (ne : n ≡ field b n_at 1) where
             pub add-new : c < n → 0 ≡ number_on b (add x k p)
             unfolding count_of symbols_of
-            add-new h = sym (add-number s ∙ rw (g, m, l, ← e, f, ← ce, ← ne, lt-ltb c n h))
+            add-new h = sym (add-number s ∙ rw (g, m, l, sym (place_is (page_place b (be x))) ∙ f, ← ce, ← ne, lt-ltb c n h))
 
             pub add-full : n ≤ c → 5 ≡ number_on b (add x k p)
             unfolding count_of symbols_of
-            add-full h = sym (add-number s ∙ rw (g, m, l, ← e, f, ← ce, ← ne, le-ltb c n h))
-
-    pub add_small : NoGap (number_on b (add x k p))
-    unfolding number_on number_of
-    add_small =
-        no_gap (sound b) _ 1
-        (no_gap (symbol_good x) _ 3
-        (no_gap (member lots k) _ 6
-        (no_gap (letter_good p) _ 75
-        (no_gap (is_listed (be x) (listed_of (pages_in b))) 4 _ (λ q. omega arith) (no_gap (ltb (length (listed_of (pages_in b))) (rest_in b).n) 0 5 (λ q. omega arith) (λ q. omega arith)))
-        (λ q. omega arith)) (λ q. omega arith)) (λ q. omega arith))
-        (λ q. omega arith)
+            add-full h = sym (add-number s ∙ rw (g, m, l, sym (place_is (page_place b (be x))) ∙ f, ← ce, ← ne, le-ltb c n h))
 
     -- what an add that passed its checks has room for
     pub record Addable (c : ℕ) : Type 0 where
@@ -280,10 +247,9 @@ module _ (b : List ℕ) where
       pub room : page_start c + page_length ≤ length b
       pub first : book_length 1 ≤ length b
 
-    pub add-passed : (n : ℕ) → n ≡ number_on b (add x k p) → n ≡ 0 → Addable (count_of b)
+    pub add-passed : 0 ≡ number_on b (add x k p) → Addable (count_of b)
     unfolding number_on done
-    add-passed n e z =
-        let o : 0 ≡ number_on b (add x k p) = sym z ∙ e in
+    add-passed o =
         let s : sound b ≡ true = number-sound b (add x k p) refl o in
         let m : number_of (rest_in b) (listed_of (pages_in b)) (add x k p) ≡ 0 = sym (rw s at o) in
         let a : AddDone (rest_in b) (listed_of (pages_in b)) x k p = add_done (rest_in b) (listed_of (pages_in b)) x k p (ap done m) in
@@ -296,6 +262,11 @@ module _ (b : List ℕ) where
           room = omega (arith, sd.size, cell-order page_length (count_of b) (symbols_of b) f);
           first = omega (arith, sd.size, sd.low);
         }
+
+    -- the same, with the count as it was read
+    pub add-counted : (c : ℕ) → c ≡ field b count_at 1 → 0 ≡ number_on b (add x k p) → Addable c
+    unfolding count_of
+    add-counted c e o = rw e (add-passed o)
 
     pub add-after : (b1 q b2 b3 : List ℕ) (c : ℕ) → length x ≡ symbol_length → c ≡ field b count_at 1 → b1 ≡ splice b count_at (be_bytes 1 (c + 1)) → q ≡ blank_page (new_head x k p)
         → b2 ≡ put_mid (page_start c) ((page_start c + page_length) - page_start c) b1 q → b3 ≡ hinted (be x) c b2 → b3 ≡ after_call b (add x k p)

@@ -1,7 +1,7 @@
 -- T-11 on any bytes: what the two calls answer, and that they change nothing of the book.
 -- Assumes nothing.
 use Prim.Native.Nat.{ℕ}
-use mathlib.Core.Path.{◌≡◌, refl, sym, ap, ◌∙◌}
+use mathlib.Core.Path.{◌≡◌, refl, sym, ◌∙◌}
 use mathlib.Core.Bool.{Bool, true, false, ◌&&◌, cond}
 use mathlib.Core.List.{List, []}
 use lib.Dec.{eqb, ltb}
@@ -11,10 +11,10 @@ use Rattle.field.proofs.ZeroLaws.{splice-nothing}
 use Rattle.block.specs.Written.{joined}
 use Rattle.venue.specs.Venue.{venue_count, venue_sequence, block_good, venue_messages, messages_good, messages_placed, venue_number}
 use Rattle.venuerun.specs.Run.{needed_of, needed_told, convert_number, venue_run}
-use Rattle.opening.specs.Opening.{sound, rest_in}
+use Rattle.opening.specs.Opening.{sound}
 use Rattle.line.specs.Line.{done}
-use Rattle.calls.specs.Call.{Call, convert_len, convert, number_of, Answer, bare, run_told, lot_on, answer_of, after_call, number_on, answer_on, Outcome, call}
-use Rattle.calls.specs.Buffers.{RunOut, run_out}
+use Rattle.calls.specs.Call.{convert_len, convert, number_of, Answer, bare, run_told, lot_on, answer_of, after_call, number_on, answer_on, call}
+use Rattle.calls.specs.Buffers.{run_out}
 
 -- 0, 78 and 79: of these, 0 alone is done
 venue-done : (v : List ℕ) → done (venue_number v) ≡ eqb (venue_number v) 0

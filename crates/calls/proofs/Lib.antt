@@ -1,5 +1,6 @@
 pub mod ConvertLaws
 pub mod NumberLaws
+pub mod KnownLaws
 pub mod ProtectedLaws
 pub mod OrderLaws
 pub mod SoundLaws

@@ -4,7 +4,7 @@ use Prim.Native.Nat.{ℕ, zero, suc, ◌<◌}
 use mathlib.Core.Path.{◌≡◌, refl, sym, ap, ◌∙◌}
 use mathlib.Core.Bool.{Bool, true, false, not, ◌&&◌, cond}
 use mathlib.Core.List.{List, [], ◌∷◌}
-use mathlib.Core.Option.{none, some}
+use Rattle.std.specs.Prelude.{None, Some, Result, Ok, Err, Option}
 use native.Mathlib.Omega.{arith}
 use lib.Dec.{ltb, leb, eqb, lit<}
 use lib.ListN.{length, length-map}
@@ -24,9 +24,7 @@ use Rattle.calls.specs.Call.{Call, make, add, open_line, start_day, end_day, tak
 use Rattle.block.specs.Block.{answer_length, checked, count_in, idle_block, sequence_in}
 use Rattle.block.specs.Sequence.{arrival_of}
 use Rattle.block.specs.declared.Arrival.{Arrival}
-use Rattle.block.specs.declared.Arrival.TheVariants.{Taken, Duplicate}
-use Rattle.block.specs.declared.Checked.{Checked}
-use Rattle.block.specs.declared.Checked.TheVariants as checks
+use Rattle.numbers.specs.declared.Refusal.{Refusal}
 use Rattle.allowance.specs.Allowance.{blocks_most, is_used_up, setting_number, share_count}
 use Rattle.opening.specs.declared.Line.{Line}
 use Rattle.line.proofs.GateLaws.{refused-done}
@@ -120,14 +118,14 @@ unfolding done block_number line_number
 used-refused A x day b true f h = clash (sym h)
 used-refused A x day b false f h = go (checked b) refl h
   where
-    arrived : (d : Bool) (a : Arrival) → done (cond d (arrival_number_of true a) 20) ≡ true → true ≡ false
-    arrived true (Taken g n) h = sym h
-    arrived true Duplicate h = sym h
+    arrived : (d : Bool) (a : Option Arrival) → done (cond d (arrival_number_of true a) 20) ≡ true → true ≡ false
+    arrived true (Some a) h = sym h
+    arrived true None h = sym h
     arrived false a h = sym h
 
-    go : (y : Checked) → checked b ≡ y → done (checked_number_of x day true b y) ≡ true → A
-    go (checks.Pass c) e h = clash (arrived day (arrival_of (sequence_in b) x.expected (count_in b)) (rw f at h))
-    go (checks.Refused n) e h = clash (sym h ∙ refused-done b n e)
+    go : (y : Result ℕ Refusal) → checked b ≡ y → done (checked_number_of x day true b y) ≡ true → A
+    go (Ok c) e h = clash (arrived day (arrival_of (sequence_in b) x.expected (count_in b)) (rw f at h))
+    go (Err n) e h = clash (sym h ∙ refused-done b n e)
 
 module _ (r : Rest) (ls : List Listed) where
   pub record AddDone (s : List ℕ) (k l : ℕ) : Type 0 where
@@ -161,7 +159,7 @@ module _ (r : Rest) (ls : List Listed) where
       go true b e = refl
       go false b e = clash (sym e)
 
-  pub take_done : (i : ℕ) (b : List ℕ) (k : ℕ) → done (number_of r ls (take i b k)) ≡ true → r.lines i ≡ none → ⊥
+  pub take_done : (i : ℕ) (b : List ℕ) (k : ℕ) → done (number_of r ls (take i b k)) ≡ true → r.lines i ≡ None → ⊥
   unfolding done number_of
   take_done i b k d e = go (ltb k answer_length) (rw e at d)
     where
@@ -170,7 +168,7 @@ module _ (r : Rest) (ls : List Listed) where
       go false d = clash (sym d)
 
   -- a block that is taken and not free had share or spare left
-  pub take_left : (i : ℕ) (b : List ℕ) (k : ℕ) (x : Line) → done (number_of r ls (take i b k)) ≡ true → r.lines i ≡ some x → idle_block b ≡ false → is_used_up r.allowance i ≡ false
+  pub take_left : (i : ℕ) (b : List ℕ) (k : ℕ) (x : Line) → done (number_of r ls (take i b k)) ≡ true → r.lines i ≡ Some x → idle_block b ≡ false → is_used_up r.allowance i ≡ false
   unfolding number_of
   take_left i b k x d e f = go (is_used_up r.allowance i) (ltb k answer_length) (rw e at d)
     where

@@ -11,7 +11,7 @@ use borrow.Author.Tests.{leb-true}
 use Rattle.field.specs.Field.{Bytes, be}
 use Rattle.field.proofs.Laws.{bytes-part}
 use Rattle.lists.specs.Lists.{member}
-use Rattle.lists.specs.declared.Found.TheVariants.{At}
+use Rattle.std.specs.Prelude.{Some}
 use Rattle.lists.proofs.Tests.{and-true}
 use Rattle.text.specs.Form.{symbol_good}
 use Rattle.ranking.specs.declared.Candidate.{Candidate}
@@ -80,7 +80,7 @@ module _ (b x : List ℕ) (m w room : ℕ) where
   unfolding call
   order-refused n e d = sym (rw (order-answer, ← e, d))
 
-  module _ (k : ℕ) (s : sound b ≡ true) (g : symbol_good x ≡ true) (e : page_place b (be x) ≡ At k) (h : member side_marks m ≡ true) (l : lots_good w ≡ true) (r : ltb room steps_length ≡ false) where
+  module _ (k : ℕ) (s : sound b ≡ true) (g : symbol_good x ≡ true) (e : page_place b (be x) ≡ Some k) (h : member side_marks m ≡ true) (l : lots_good w ≡ true) (r : ltb room steps_length ≡ false) where
     -- else the answer is the page's
     pub order-told : record { bytes = b; answer = steps_told 0 w (page_steps k) } ≡ call b (try_order x m w room)
     unfolding call after_call done

@@ -7,8 +7,7 @@ use mathlib.Core.Bool.{Bool, true, false, ◌&&◌, cond}
 use mathlib.Core.List.{List}
 use Rattle.field.specs.Field.{be}
 use Rattle.lists.specs.Lists.{member}
-use Rattle.lists.specs.declared.Found.{Found}
-use Rattle.lists.specs.declared.Found.TheVariants.{At, Nothing}
+use Rattle.std.specs.Prelude.{Some, Option}
 use Rattle.text.specs.Form.{symbol_good}
 use Rattle.page.specs.Page.{halted_in, published_entries}
 use Rattle.protection.specs.declared.Protection.{Protection}
@@ -24,9 +23,9 @@ use Rattle.work.proofs.PlaceLaws.{listed_at}
 use Rattle.calls.specs.Call.{Call, protected, side_marks, number_of, Answer, bare, asked_side, protection_told, answer_of, candidates_in, candidates_on, after_call, number_on, answer_on, Outcome, call}
 
 -- a listed symbol's candidates are its page's
-pub candidates-at : (b : List ℕ) (s k : ℕ) → page_place b s ≡ At k → candidates_on b s ≡ page_trading (page_at b k)
+pub candidates-at : (b : List ℕ) (s k : ℕ) → page_place b s ≡ Some k → candidates_on b s ≡ page_trading (page_at b k)
 unfolding reading_of page_candidates
-candidates-at b s k e = ap (λ (f : Found). candidates_in (reading_at b f)) e
+candidates-at b s k e = ap (λ (f : Option ℕ). candidates_in (reading_at b f)) e
 
 module _ (b x : List ℕ) (m v : ℕ) where
   abbrev asked : Call
@@ -67,7 +66,7 @@ module _ (b x : List ℕ) (m v : ℕ) where
   protected-refused n e d = sym (rw (protected-answer, ← e, d))
 
   -- else the answer is the page's
-  pub protected-told : (k : ℕ) → sound b ≡ true → symbol_good x ≡ true → page_place b (be x) ≡ At k → member side_marks m ≡ true
+  pub protected-told : (k : ℕ) → sound b ≡ true → symbol_good x ≡ true → page_place b (be x) ≡ Some k → member side_marks m ≡ true
       → record { bytes = b; answer = protection_told 0 (page_answer k) } ≡ call b asked
   unfolding call after_call done
   protected-told k s g e h =
@@ -76,7 +75,7 @@ module _ (b x : List ℕ) (m v : ℕ) where
 
   -- ---- the theorem: on memory of any bytes, of the page that is found
 
-  module _ (k : ℕ) (s : sound b ≡ true) (g : symbol_good x ≡ true) (e : page_place b (be x) ≡ At k) (h : member side_marks m ≡ true) where
+  module _ (k : ℕ) (s : sound b ≡ true) (g : symbol_good x ≡ true) (e : page_place b (be x) ≡ Some k) (h : member side_marks m ≡ true) where
     -- yes exactly if the national best, worked out anew from the page, reaches the price
     pub protected-best : (call b asked).answer.found ≡ cond (answers_yes (asked_side m) v ((published_entries (page_at b k)).national (asked_side m))) 1 0
     protected-best = ap (λ (o : Outcome). o.answer.found) (sym (protected-told k s g e h)) ∙ ap (λ (t : Bool). cond t 1 0) (published-best (asked_side m) v (page_at b k))

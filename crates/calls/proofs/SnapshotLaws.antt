@@ -1,22 +1,20 @@
 -- T-12 on any bytes: what the two calls answer, and that a subscriber who decodes what is written reads the page's entries and quotes.
 -- Assumes nothing.
-use Prim.Native.Nat.{ℕ, ◌+◌, ◌≤◌, ◌<◌}
+use Prim.Native.Nat.{ℕ, ◌≤◌, ◌<◌}
 use mathlib.Core.Path.{◌≡◌, refl, sym, ap, ◌∙◌}
 use mathlib.Core.Bool.{Bool, true, false, ◌&&◌, cond}
-use mathlib.Core.List.{List, []}
-use mathlib.Core.Option.{some}
+use mathlib.Core.List.{List}
+use Rattle.std.specs.Prelude.{Some, Option}
 use native.Mathlib.Omega.{arith}
-use lib.Dec.{lit<, eqb, leb, ltb}
+use lib.Dec.{lit<, eqb, leb}
 use lib.ListN.{length}
 use borrow.Author.Tests.{lt-ltb, le-ltb}
 use Rattle.field.specs.Field.{Bytes, be, part}
 use Rattle.field.specs.Low.{low}
 use Rattle.field.proofs.Laws.{length_part, bytes-part}
 use Rattle.lists.specs.Lists.{upper}
-use Rattle.lists.specs.declared.Found.{Found}
-use Rattle.lists.specs.declared.Found.TheVariants.{At, Nothing}
 use Rattle.lists.proofs.Tests.{upper-low}
-use Rattle.text.specs.Form.{symbol_good, symbol_length}
+use Rattle.text.specs.Form.{symbol_good}
 use Rattle.ranking.specs.declared.Side.{Side}
 use Rattle.ranking.specs.declared.Side.TheVariants.{Bid, Offer}
 use Rattle.quote.specs.declared.Level.{Level}
@@ -42,7 +40,7 @@ use Rattle.opening.proofs.ReadLaws.{found-room}
 use Rattle.line.specs.Line.{done}
 use Rattle.work.specs.Work.{listed_of}
 use Rattle.work.proofs.PlaceLaws.{listed_at}
-use Rattle.calls.specs.Call.{Call, snapshot_len, snapshot, number_of, Answer, bare, fed, size_told, snapshot_told, answer_of, entries_in, published_on, quotes_for, quotes_on, after_call, number_on, answer_on, Outcome, call}
+use Rattle.calls.specs.Call.{snapshot_len, snapshot, number_of, Answer, bare, fed, size_told, snapshot_told, answer_of, entries_in, published_on, quotes_for, quotes_on, after_call, number_on, answer_on, Outcome, call}
 use Rattle.calls.proofs.NumberLaws.{symbol-eleven}
 
 -- an answer goes by its number, of unsound bytes too
@@ -92,10 +90,10 @@ module _ (b x : List ℕ) where
   abbrev pub page_feed : ℕ → Snapshot
   page_feed k = snapshot_of x (kept_entries (page_at b k)) (quotes_in (page_at b k))
 
-  pub feed-at : (k : ℕ) → page_place b (be x) ≡ At k → snapshot_of x (published_on b (be x)) (quotes_on b (be x)) ≡ page_feed k
+  pub feed-at : (k : ℕ) → page_place b (be x) ≡ Some k → snapshot_of x (published_on b (be x)) (quotes_on b (be x)) ≡ page_feed k
   unfolding reading_of
   feed-at k e =
-      ap (λ (f : Found). snapshot_of x (entries_in (reading_at b f)) (quotes_for (reading_at b f))) e
+      ap (λ (f : Option ℕ). snapshot_of x (entries_in (reading_at b f)) (quotes_for (reading_at b f))) e
 
   -- 10
   abbrev numbered : ℕ
@@ -141,7 +139,7 @@ module _ (b x : List ℕ) where
 
   -- ---- of the page that is found
 
-  module _ (k : ℕ) (s : sound b ≡ true) (g : symbol_good x ≡ true) (e : page_place b (be x) ≡ At k) where
+  module _ (k : ℕ) (s : sound b ≡ true) (g : symbol_good x ≡ true) (e : page_place b (be x) ≡ Some k) where
     pub len-told : outcome b (size_told 0 (page_feed k)) ≡ call b (snapshot_len x)
     unfolding call after_call done
     len-told = let n : number_on b (snapshot_len x) ≡ 0 = len-number s ∙ rw (g, e) in sym (rw (len-answer, n, feed-at k e))
@@ -188,7 +186,7 @@ module _ (b x : List ℕ) where
         pub filled : length (call b (snapshot x room)).answer.output ≡ (call b (snapshot_len x)).answer.amount
         pub feed : (call b (snapshot x room)).answer.output ≡ feed_bytes (page_feed k)
         -- "Decoding by 002's layout yields"
-        pub decodes : decoded (call b (snapshot x room)).answer.output ≡ some (carried (page_feed k))
+        pub decodes : decoded (call b (snapshot x room)).answer.output ≡ Some (carried (page_feed k))
 
       pub feed-written : (room : ℕ) → (call b (snapshot_len x)).answer.amount ≤ room → Written room
       feed-written room h =

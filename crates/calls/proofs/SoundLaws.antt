@@ -4,7 +4,7 @@ use Prim.Native.Nat.{ℕ, ◌<◌}
 use mathlib.Core.Path.{◌≡◌, refl, sym, ◌∙◌}
 use mathlib.Core.Bool.{Bool, true, false, ◌&&◌, cond}
 use mathlib.Core.List.{List}
-use mathlib.Core.Option.{Option, none, some}
+use Rattle.std.specs.Prelude.{Option, None, Some}
 use lib.Dec.{leb, eqb, lit≤}
 use lib.ListN.{length}
 use borrow.Author.Tests.{eqb-true}
@@ -47,8 +47,8 @@ module _ (n : ℕ) (b : List ℕ) (sd : Sound n b) where
   take-stays : (i : ℕ) (x : List ℕ) (k : ℕ) → done (number_on b (take i x k)) ≡ true → (o : Option Line) → lines_in b i ≡ o
       → Stays n b (advance_on i x o (messages_on (letter_of o) (messages_of x) b))
   unfolding rest_in settled on_allowance
-  take-stays i x k d none e = absurd (take_done (rest_in b) (listed_of (pages_in b)) i x k (rw (number_same n b sd (take i x k)) at d) e)
-  take-stays i x k d (some r) e =
+  take-stays i x k d None e = absurd (take_done (rest_in b) (listed_of (pages_in b)) i x k (rw (number_same n b sd (take i x k)) at d) e)
+  take-stays i x k d (Some r) e =
       let g = line-open b i r e in
       let b₁ : List ℕ = messages_on r.letter (messages_of x) b in
       let c : OpeningKept b b₁ = messages-kept n r.letter (line-upper r g.1) (messages_of x) b sd in

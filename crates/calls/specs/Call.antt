@@ -1,12 +1,10 @@
 -- The calls: `call` gives the bytes after a call and its whole answer.
 -- Assumes nothing.
-use Rattle.std.specs.Prelude.{ℕ, ◌+◌, ◌-◌, Bool, true, false, ◌&&◌, cond, List, [], ◌∷◌, ltb, leb, eqb, length}
-use Rattle.std.proofs.Math.Option.{Option, none, some}
+use Rattle.std.specs.Prelude.{ℕ, ◌+◌, ◌-◌, Bool, true, false, ◌&&◌, cond, List, [], ◌∷◌, ltb, leb, eqb, length, Option, None, Some}
 use Rattle.field.specs.Field.{be, splice, be_bytes}
 use Rattle.field.specs.Ascii.{B, S}
 use Rattle.lists.specs.Lists.{member, is_some}
 use Rattle.block.specs.Block.{messages_of, answer_length, idle_block}
-use Rattle.block.specs.declared.Checked.TheVariants as checks
 use Rattle.text.specs.Form.{symbol_good, letter_good}
 use Rattle.ranking.specs.declared.Side.{Side}
 use Rattle.ranking.specs.declared.Side.TheVariants.{Bid, Offer}
@@ -149,8 +147,8 @@ report k gap r ts =
 -- "A taken block reports 0 or its 70, d, the new expected number and count"; "A refused block reports its number, d 0, no messages, and the line's
 -- expected number and count as they stand, 0 and 0 after 1, 9 or 21"
 abbrev pub line_answer : ℕ → List ℕ → List Told → Option Line → Answer
-line_answer k b ts none = bare k
-line_answer k b ts (some r) = cond (done k) (report k (gap_told r b) (advanced r b) ts) (report k 0 r [])
+line_answer k b ts None = bare k
+line_answer k b ts (Some r) = cond (done k) (report k (gap_told r b) (advanced r b) ts) (report k 0 r [])
 
 abbrev pub published : ℕ → List ℕ → Answer
 published k p =
@@ -211,8 +209,8 @@ steps_told k w xs =
     }
 
 abbrev pub letter_of : Option Line → ℕ
-letter_of none = 0
-letter_of (some x) = x.letter
+letter_of None = 0
+letter_of (Some x) = x.letter
 
 -- lot: the round lot of a symbol, 0 of one that is not listed; ts: what is told of a block's messages, from the line's letter; p: the entries of a symbol; cs: its national candidates of a side, by letter;
 -- qs: its letters' latest quotes. Book and reviewer both answer through this
@@ -236,40 +234,40 @@ answer_of r lot ts p cs qs k tick = bare k
 -- ---- the book's bytes
 
 abbrev pub entries_in : Option Reading → List ℕ
-entries_in none = []
-entries_in (some r) = r.entries
+entries_in None = []
+entries_in (Some r) = r.entries
 
 abbrev pub published_on : List ℕ → ℕ → List ℕ
 published_on b s = entries_in (reading_for b s)
 
 -- "a symbol not listed goes through with its size undivided": its lot is 0
 abbrev pub lot_in : Option Reading → ℕ
-lot_in none = 0
-lot_in (some r) = r.lot
+lot_in None = 0
+lot_in (Some r) = r.lot
 
 abbrev pub lot_on : List ℕ → ℕ → ℕ
 lot_on b s = lot_in (reading_for b s)
 
 -- worked out from the page's quotes, whatever entries it keeps; none while it is halted
 abbrev pub candidates_in : Option Reading → Side → ℕ → Option Candidate
-candidates_in none = λ s l. none
-candidates_in (some r) = trading_candidates r.halted (candidates r.quotes (occupied r.cells))
+candidates_in None = λ s l. None
+candidates_in (Some r) = trading_candidates r.halted (candidates r.quotes (occupied r.cells))
 
 abbrev pub candidates_on : List ℕ → ℕ → Side → ℕ → Option Candidate
 candidates_on b s = candidates_in (reading_for b s)
 
 -- the letters' quotes of a page, as they stand
 abbrev pub quotes_for : Option Reading → ℕ → Quote
-quotes_for none = λ l. no_quote
-quotes_for (some r) = r.quotes
+quotes_for None = λ l. no_quote
+quotes_for (Some r) = r.quotes
 
 abbrev pub quotes_on : List ℕ → ℕ → ℕ → Quote
 quotes_on b s = quotes_for (reading_for b s)
 
 -- the line's record after a block, and its charge
 abbrev pub advance_on : ℕ → List ℕ → Option Line → List ℕ → List ℕ
-advance_on i k none b = b
-advance_on i k (some r) b = settled i (advanced r k) (idle_block k) b
+advance_on i k None b = b
+advance_on i k (Some r) b = settled i (advanced r k) (idle_block k) b
 
 -- the bytes after a call that is done
 unfoldable pub after_call : List ℕ → Call → List ℕ

@@ -12,16 +12,13 @@ use Rattle.field.specs.Field.{be, part, field, splice}
 use Rattle.field.proofs.Laws.{field-part, splice-one, splice-join}
 use Rattle.field.proofs.ZeroLaws.{splice-nothing}
 use Rattle.lists.specs.Lists.{at}
-use Rattle.lists.specs.declared.Found.{Found}
-use Rattle.lists.specs.declared.Found.TheVariants.{At, Nothing}
+use Rattle.std.specs.Prelude.{Some, None, Option}
 use Rattle.page.specs.Layout.{page_length, lot_at}
 use Rattle.update.specs.Parts.{reading_of}
 use Rattle.opening.specs.Layout.{page_start}
 use Rattle.opening.specs.Opening.{page_at, page_place, reading_at}
 use Rattle.calls.specs.Call.{lot_in, lot_on}
 use Rattle.venueform.specs.declared.Form.{Form}
-use Rattle.venueform.specs.declared.Layout.{Layout}
-use Rattle.venueform.specs.declared.Layout.TheVariants.{Quote, Other}
 use Rattle.venueform.specs.Form.{layout_of, symbol_in}
 use Rattle.venue.specs.Venue.{venue_first, venue_count, next_at, venue_from, venue_messages, venue_number}
 use Rattle.venuerules.specs.Rules.{length_good}
@@ -33,30 +30,30 @@ use Rattle.convert.specs.code.Lots.{lot_by, lot_for, lots_for}
 
 -- ---- the lot of a symbol is that of the page that is found
 
-module _ (b : List ℕ) (s : ℕ) (r : Found) (e : r ≡ page_place b s) where
+module _ (b : List ℕ) (s : ℕ) (r : Option ℕ) (e : r ≡ page_place b s) where
   lot-at : lot_on b s ≡ lot_in (reading_at b r)
-  lot-at = ap (λ (f : Found). lot_in (reading_at b f)) (sym e)
+  lot-at = ap (λ (f : Option ℕ). lot_in (reading_at b f)) (sym e)
 
-  pub lot-found : (k l : ℕ) → r ≡ At k → l ≡ field b (page_start k + lot_at) 1 → l ≡ lot_on b s
+  pub lot-found : (k l : ℕ) → r ≡ Some k → l ≡ field b (page_start k + lot_at) 1 → l ≡ lot_on b s
   unfolding page_at reading_of
   lot-found k l f q =
-      q ∙ sym (field-part b (page_start k) page_length lot_at 1 (omega arith)) ∙ sym (lot-at ∙ ap (λ (g : Found). lot_in (reading_at b g)) f)
+      q ∙ sym (field-part b (page_start k) page_length lot_at 1 (omega arith)) ∙ sym (lot-at ∙ ap (λ (g : Option ℕ). lot_in (reading_at b g)) f)
 
-  pub lot-missing : r ≡ Nothing → 0 ≡ lot_on b s
-  lot-missing f = sym (lot-at ∙ ap (λ (g : Found). lot_in (reading_at b g)) f)
+  pub lot-missing : r ≡ None → 0 ≡ lot_on b s
+  lot-missing f = sym (lot-at ∙ ap (λ (g : Option ℕ). lot_in (reading_at b g)) f)
 
 -- ---- of a message
 
-module _ (b m : List ℕ) (l : Layout) (e : l ≡ layout_of m) where
-  pub lot-round : (f : Form) (s : List ℕ) (x : ℕ) → l ≡ Quote f → f.round ≡ true → s ≡ symbol_in f m → x ≡ lot_on b (be s) → x ≡ lot_for b m
+module _ (b m : List ℕ) (l : Option Form) (e : l ≡ layout_of m) where
+  pub lot-round : (f : Form) (s : List ℕ) (x : ℕ) → l ≡ Some f → f.round ≡ true → s ≡ symbol_in f m → x ≡ lot_on b (be s) → x ≡ lot_for b m
   unfolding lot_for
   lot-round f s x q r es ex = ex ∙ ap (λ (y : List ℕ). lot_on b (be y)) es ∙ sym (ap (λ (t : Bool). cond t (lot_on b (be (symbol_in f m))) 0) r) ∙ ap (lot_by b m) (sym q ∙ e)
 
-  pub lot-odd : (f : Form) → l ≡ Quote f → f.round ≡ false → 0 ≡ lot_for b m
+  pub lot-odd : (f : Form) → l ≡ Some f → f.round ≡ false → 0 ≡ lot_for b m
   unfolding lot_for
   lot-odd f q r = sym (ap (λ (t : Bool). cond t (lot_on b (be (symbol_in f m))) 0) r) ∙ ap (lot_by b m) (sym q ∙ e)
 
-  pub lot-other : l ≡ Other → 0 ≡ lot_for b m
+  pub lot-other : l ≡ None → 0 ≡ lot_for b m
   unfolding lot_for
   lot-other q = ap (lot_by b m) (sym q ∙ e)
 
@@ -73,13 +70,13 @@ lot-same : (b m : List ℕ) → converted (lot_for b m) m ≡ converted_for (lot
 unfolding converted converted_for lot_for symbol_named
 lot-same b m = go (layout_of m)
   where
-    go : (l : Layout) → converted_by (lot_by b m l) m l ≡ converted_by (lot_on b (named_by m l)) m l
-    go (Quote f) = by f.round refl
+    go : (l : Option Form) → converted_by (lot_by b m l) m l ≡ converted_by (lot_on b (named_by m l)) m l
+    go (Some f) = by f.round refl
       where
         by : (t : Bool) → f.round ≡ t → converted_as (cond f.round (lot_on b (be (symbol_in f m))) 0) f m ≡ converted_as (lot_on b (be (symbol_in f m))) f m
         by true r = ap (λ (t : Bool). converted_as (cond t (lot_on b (be (symbol_in f m))) 0) f m) r
         by false r = same-odd f m _ _ r
-    go Other = refl
+    go None = refl
 
 -- ---- of all messages
 

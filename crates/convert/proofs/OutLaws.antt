@@ -27,10 +27,10 @@ use Rattle.convert.specs.code.Lots.{lots_for}
 use Rattle.convert.proofs.LotLaws.{lots-convert}
 
 module _ (b v o : List ℕ) (s : sound b ≡ true) (n l : ℕ) (en : n ≡ convert_number v (length o)) (el : l ≡ cond (eqb (convert_number v (length o)) 0) (needed_of v) 0) where
-  pub out-refused : (n ≡ 0 → ⊥) → record { number = n; length = l; output = o } ≡ run_out b v o
+  pub out-refused : eqb n 0 ≡ false → record { number = n; length = l; output = o } ≡ run_out b v o
   out-refused h =
-      let z : l ≡ 0 = el ∙ rw (← en, ne_eqb n 0 h) in
-      rw z (run-refused b v o s n en (ne_eqb n 0 h))
+      let z : l ≡ 0 = el ∙ rw (← en, h) in
+      rw z (run-refused b v o s n en h)
 
   module _ (h : n ≡ 0) where
     done : 0 ≡ convert_number v (length o)

@@ -4,7 +4,7 @@ use Prim.Native.Nat.{ℕ}
 use mathlib.Core.Path.{◌≡◌, refl}
 use mathlib.Core.Bool.{cond}
 use mathlib.Core.List.{List, [], ◌∷◌, map}
-use mathlib.Core.Option.{Option, none, some}
+use Rattle.std.specs.Prelude.{Option, None, Some}
 use lib.Dec.{eqb}
 use Rattle.lists.specs.Lists.{member}
 use Rattle.ranking.specs.declared.Side.TheVariants.{Bid, Offer}
@@ -49,8 +49,8 @@ stands = mm (quote 82 (for 2 21) (for 2 27))
 
 -- whose odd lots are the best, of the bids and of the offers; 0 is none
 abbrev name_of : Option Candidate → ℕ
-name_of none = 0
-name_of (some c) = c.name
+name_of None = 0
+name_of (Some c) = c.name
 
 abbrev whose : Entries → List ℕ
 whose e = name_of (e.odd Bid) ∷ name_of (e.odd Offer) ∷ []

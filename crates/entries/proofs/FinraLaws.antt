@@ -3,7 +3,7 @@
 use mathlib.Core.Path.{◌≡◌, sym, ap, ◌∙◌, fun_ext}
 use mathlib.Core.Bool.{Bool, true, false, cond}
 use mathlib.Core.List.{List}
-use mathlib.Core.Option.{Option, none, some}
+use Rattle.std.specs.Prelude.{Option, None, Some}
 use Rattle.lists.specs.Lists.{collect}
 use Rattle.lists.proofs.Tests.{clash}
 use Rattle.lists.proofs.Members.{In, in-collect, collect-in}
@@ -16,12 +16,12 @@ use Rattle.quote.specs.Quote.{side_of, counts, level_candidate, candidate_of}
 use Rattle.entries.specs.Entries.{Maker, maker_candidate, finra_best}
 
 -- a candidate has its maker's name
-maker-name : (s : Side) (m : Maker) (c : Candidate) → maker_candidate s m ≡ some c → c.name ≡ m.name
+maker-name : (s : Side) (m : Maker) (c : Candidate) → maker_candidate s m ≡ Some c → c.name ≡ m.name
 unfolding maker_candidate candidate_of
 maker-name s m c = go (counts s m.quote)
   where
-    go : (t : Bool) → cond t (some (level_candidate m.name m.quote.condition (side_of s m.quote))) none ≡ some c → c.name ≡ m.name
-    go true e = ap (λ (o : Option Candidate). elim o [ none ↦ 0 | some x ↦ x.name ]) (sym e)
+    go : (t : Bool) → cond t (Some (level_candidate m.name m.quote.condition (side_of s m.quote))) None ≡ Some c → c.name ≡ m.name
+    go true e = ap (λ (o : Option Candidate). elim o [ None ↦ 0 | Some x ↦ x.name ]) (sym e)
     go false e = clash (cc)
 
 module _ (xs ys : List Maker)
@@ -39,5 +39,5 @@ module _ (xs ys : List Maker)
         let p = in-collect (maker_candidate s) a xs m in
         let q = in-collect (maker_candidate s) b xs n in
         let k : p.0 ≡ q.0 = d p.0 q.0 p.1 q.1 (sym (maker-name s p.0 a p.2) ∙ better-tie s a b e h ∙ maker-name s q.0 b q.2) in
-        let z : ◌≡◌ {A = Option Candidate} (some a) (some b) = sym p.2 ∙ ap (maker_candidate s) k ∙ q.2 in
+        let z : ◌≡◌ {A = Option Candidate} (Some a) (Some b) = sym p.2 ∙ ap (maker_candidate s) k ∙ q.2 in
         cc))

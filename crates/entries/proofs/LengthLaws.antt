@@ -3,7 +3,7 @@
 use Prim.Native.Nat.{ℕ, zero, suc, ◌+◌, ◌<◌}
 use mathlib.Core.Path.{◌≡◌, ap₂, ◌∙◌}
 use mathlib.Core.List.{List, [], ◌∷◌, ◌++◌}
-use mathlib.Core.Option.{Option, none, some}
+use Rattle.std.specs.Prelude.{Option, None, Some}
 use native.Mathlib.Omega.{arith}
 use lib.Dec.{lit<}
 use lib.ListN.{length, get_or, replicate, length-append, length-replicate}
@@ -36,16 +36,16 @@ run-same n v h = record { long = length-replicate n v; bytes = all n }
     all (suc n) (suc i) = all n i
 
 run-reason : (r : Option Reason) → Run 1 (reason_byte r ∷ [])
-run-reason none = run-same 1 32 (lit< tt)
-run-reason (some Price) = run-same 1 80 (lit< tt)
-run-reason (some Size) = run-same 1 83 (lit< tt)
-run-reason (some Time) = run-same 1 84 (lit< tt)
-run-reason (some Name) = run-same 1 76 (lit< tt)
+run-reason None = run-same 1 32 (lit< tt)
+run-reason (Some Price) = run-same 1 80 (lit< tt)
+run-reason (Some Size) = run-same 1 83 (lit< tt)
+run-reason (Some Time) = run-same 1 84 (lit< tt)
+run-reason (Some Name) = run-same 1 76 (lit< tt)
 
 run-entry : (name : Candidate → List ℕ) → ((c : Candidate) → Run 4 (name c)) → (o : Option Candidate) → Run 16 (entry_bytes name o)
 unfolding no_entry
-run-entry name h none = run-append (run-same 4 32 (lit< tt)) (run-same 12 0 (lit< tt))
-run-entry name h (some c) = run-append (h c) (run-append (run-number 8 c.price) (run-number 4 c.size))
+run-entry name h None = run-append (run-same 4 32 (lit< tt)) (run-same 12 0 (lit< tt))
+run-entry name h (Some c) = run-append (h c) (run-append (run-number 8 c.price) (run-number 4 c.size))
 
 run-publication : (e : Entries) → Run publication_length (publication e)
 unfolding publication

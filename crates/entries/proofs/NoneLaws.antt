@@ -4,7 +4,7 @@ use Prim.Native.Nat.{ℕ}
 use mathlib.Core.Path.{◌≡◌, refl, ap, fun_ext}
 use mathlib.Core.Bool.{Bool, true, false, cond}
 use mathlib.Core.List.{List, [], ◌∷◌}
-use mathlib.Core.Option.{Option, none}
+use Rattle.std.specs.Prelude.{Option, None}
 use lib.Dec.{eqb}
 use Rattle.lists.specs.Lists.{collect, gather}
 use Rattle.ranking.specs.declared.Side.{Side}
@@ -24,7 +24,7 @@ none-published = refl
 
 -- ---- no quotes, makers and levels
 
-collect-none : {A B : Type 0} (f : A → Option B) → ((a : A) → f a ≡ none) → (xs : List A) → collect f xs ≡ []
+collect-none : {A B : Type 0} (f : A → Option B) → ((a : A) → f a ≡ None) → (xs : List A) → collect f xs ≡ []
 collect-none f h [] = refl
 collect-none f h (x ∷ xs) = rw (h x) (collect-none f h xs)
 
@@ -32,16 +32,16 @@ gather_none : {A B : Type 0} (f : A → List B) → ((a : A) → f a ≡ []) →
 gather_none f h [] = refl
 gather_none f h (x ∷ xs) = rw (h x) (gather_none f h xs)
 
-pub no-candidate : (s : Side) (l : ℕ) → candidate_of s l no_quote ≡ none
+pub no-candidate : (s : Side) (l : ℕ) → candidate_of s l no_quote ≡ None
 unfolding candidate_of counts
 no-candidate Bid l = refl
 no-candidate Offer l = refl
 
-no-letter : (s : Side) (l : ℕ) → letter_candidate s (λ l. no_quote) none l ≡ none
+no-letter : (s : Side) (l : ℕ) → letter_candidate s (λ l. no_quote) None l ≡ None
 unfolding letter_candidate
 no-letter s l = rw (no-candidate s l) (go (eqb l D) (eqb l S))
   where
-    go : (t u : Bool) → cond {A = Option Candidate} t none (cond u none none) ≡ none
+    go : (t u : Bool) → cond {A = Option Candidate} t None (cond u None None) ≡ None
     go true u = refl
     go false true = refl
     go false false = refl
@@ -61,9 +61,9 @@ unfolding entries_of entries_by finra_best national_best national_reason why_ahe
 none-entries =
     λ i.
     record {
-      national = fun_ext (λ s. ap (best (better s)) (collect-none (letter_candidate s (λ l. no_quote) none) (no-letter s) letters)) i;
-      reason = fun_ext (λ s. ap (why_ahead s) (collect-none (letter_candidate s (λ l. no_quote) none) (no-letter s) letters)) i;
-      finra = λ s. none;
+      national = fun_ext (λ s. ap (best (better s)) (collect-none (letter_candidate s (λ l. no_quote) None) (no-letter s) letters)) i;
+      reason = fun_ext (λ s. ap (why_ahead s) (collect-none (letter_candidate s (λ l. no_quote) None) (no-letter s) letters)) i;
+      finra = λ s. None;
       odd =
           fun_ext (λ s.
           ap (best (better s))

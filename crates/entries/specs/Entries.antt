@@ -1,7 +1,6 @@
 -- The six best entries of a symbol (document 01, "Best entries"), from its letters' quotes, the makers that stand and its letters' levels.
 -- Assumes nothing.
-use Rattle.std.specs.Prelude.{ℕ, Bool, true, cond, List, [], eqb}
-use Rattle.std.proofs.Math.Option.{Option, none, some}
+use Rattle.std.specs.Prelude.{ℕ, Bool, true, cond, List, [], eqb, Option, None, Some}
 use Rattle.field.specs.Ascii.{A, D, S, space}
 use Rattle.lists.specs.Lists.{map_option, is_some, collect, gather, range}
 use Rattle.ranking.specs.declared.Side.{Side}
@@ -42,7 +41,7 @@ as_d c = record { name = D; price = c.price; size = c.size; time = c.time; condi
 
 -- D by its FINRA best; S, the processor, has nothing; any other letter by its quote
 unfoldable pub letter_candidate : Side → (ℕ → Quote) → Option Candidate → ℕ → Option Candidate
-letter_candidate s quotes fb l = cond (eqb l D) (map_option as_d fb) (cond (eqb l S) none (candidate_of s l (quotes l)))
+letter_candidate s quotes fb l = cond (eqb l D) (map_option as_d fb) (cond (eqb l S) None (candidate_of s l (quotes l)))
 
 -- a symbol's national candidates of a side by letter; `national_best` is the best of them
 unfoldable pub candidates : (ℕ → Quote) → List Maker → Side → ℕ → Option Candidate
@@ -62,11 +61,11 @@ national_reason quotes fb s = why_ahead s (nationals quotes fb s)
 
 -- "priced above the national bid (below the national offer; any level if that side has none)"
 abbrev pub beyond : Side → Option Candidate → ℕ → Bool
-beyond s none p = true
-beyond s (some c) p = ahead s p c.price
+beyond s None p = true
+beyond s (Some c) p = ahead s p c.price
 
 unfoldable pub odd_candidate : Side → Option Candidate → ℕ → Level → Option Candidate
-odd_candidate s nb l v = cond (beyond s nb v.price) (some (level_candidate l space v)) none
+odd_candidate s nb l v = cond (beyond s nb v.price) (Some (level_candidate l space v)) None
 
 -- "A level now ranks only while its letter's latest round quote admits that side by its condition, whatever price and size it shows. A letter other
 -- than D with no round quote since Start of Day ranks as before. D ranks only while its FINRA best has that side, whatever quotes it had" (document
@@ -92,11 +91,11 @@ entries_of quotes makers levels = entries_by quotes (finra_best makers) levels
 -- ---- document 02, T-10: "While a symbol is halted all six entries are worked out as none and T-06 says no with 26"
 
 abbrev pub no_best : Entries
-no_best = record { national = λ s. none; reason = λ s. none; finra = λ s. none; odd = λ s. none }
+no_best = record { national = λ s. None; reason = λ s. None; finra = λ s. None; odd = λ s. None }
 
 unfoldable pub unless_halted : Bool → Entries → Entries
 unless_halted halted e = cond halted no_best e
 
 -- the candidates that T-06 looks at
 unfoldable pub trading_candidates : Bool → (Side → ℕ → Option Candidate) → Side → ℕ → Option Candidate
-trading_candidates halted cs = cond halted (λ s l. none) cs
+trading_candidates halted cs = cond halted (λ s l. None) cs

@@ -1,7 +1,6 @@
 -- A publication's bytes, and which of its entries changed (document 01, "Publication" and the change flags).
 -- Assumes nothing.
-use Rattle.std.specs.Prelude.{ℕ, ◌+◌, ◌*◌, ◌^◌, Bool, true, false, ◌&&◌, List, [], ◌∷◌, ◌++◌, eqb, replicate}
-use Rattle.std.proofs.Math.Option.{Option, none, some}
+use Rattle.std.specs.Prelude.{ℕ, ◌+◌, ◌*◌, ◌^◌, Bool, true, false, ◌&&◌, List, [], ◌∷◌, ◌++◌, eqb, replicate, Option, None, Some}
 use Rattle.field.specs.Field.{field, be_bytes}
 use Rattle.field.specs.Ascii.{L, P, S, T, space}
 use Rattle.ranking.specs.declared.Side.TheVariants.{Bid, Offer}
@@ -23,16 +22,16 @@ no_entry = space ∷ space ∷ space ∷ space ∷ replicate 12 0
 
 -- "4 bytes of name, price 8, size 4"
 abbrev pub entry_bytes : (Candidate → List ℕ) → Option Candidate → List ℕ
-entry_bytes name none = no_entry
-entry_bytes name (some c) = name c ++ (be_bytes 8 c.price ++ be_bytes 4 c.size)
+entry_bytes name None = no_entry
+entry_bytes name (Some c) = name c ++ (be_bytes 8 c.price ++ be_bytes 4 c.size)
 
 -- "P, S, T or L by the comparison with the second best, or a space if there is no second" (document 02, T-08)
 abbrev pub reason_byte : Option Reason → ℕ
-reason_byte none = space
-reason_byte (some Price) = P
-reason_byte (some Size) = S
-reason_byte (some Time) = T
-reason_byte (some Name) = L
+reason_byte None = space
+reason_byte (Some Price) = P
+reason_byte (Some Size) = S
+reason_byte (Some Time) = T
+reason_byte (Some Name) = L
 
 -- "national: letter, condition", what put it ahead, a space
 abbrev pub national_name : Option Reason → Candidate → List ℕ

@@ -12,9 +12,9 @@ use Rattle.field.proofs.Laws.{part-part, length_part}
 use Rattle.lists.specs.Lists.{sum}
 use Rattle.block.specs.Written.{joined}
 use Rattle.entries.specs.Publication.{entry_length, publication_length}
-use Rattle.page.specs.Layout.{entries_at, page_length, kept_entries}
-use Rattle.snapshot.specs.Snapshot.{BothEntries, both_length, both_in, Shown}
-use Rattle.snapshot.specs.Feed.{zeros, evened, feed_header, feed_front, feed_with, feed_checksum, feed_block, consolidated, participant, finra_message, consolidated_length, participant_length, finra_length}
+use Rattle.page.specs.Layout.{entries_at, kept_entries}
+use Rattle.snapshot.specs.Snapshot.{both_length, both_in, Shown}
+use Rattle.snapshot.specs.Feed.{zeros, evened, feed_header, feed_front, feed_with, feed_checksum, feed_block, consolidated, participant, finra_message, consolidated_length, finra_length}
 use Rattle.snapshot.proofs.MessageLaws.{Sized, length-consolidated, length-finra}
 use Rattle.feedform.proofs.WriteLaws.{Written, begin, behind}
 use Rattle.feed.specs.code.Blocks.{Lent, shown_in, of_c, of_p, of_f, only_messages, first_messages, second_messages}

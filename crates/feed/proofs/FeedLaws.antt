@@ -4,7 +4,6 @@ use Prim.Native.Nat.{ℕ, ◌+◌, ◌*◌, ◌-◌, ◌≤◌, ◌<◌}
 use mathlib.Core.Path.{◌≡◌, refl, sym, ap, ◌∙◌}
 use mathlib.Core.List.{List, [], ◌∷◌, ◌++◌, append-nil}
 use native.Mathlib.Omega.{arith}
-use lib.Dec.{leb}
 use lib.ListN.{length, take, drop}
 use borrow.Author.Tests.{le-leb, lt-leb}
 use borrow.Rule.Slice.PartMut.{put_mid}
@@ -15,7 +14,7 @@ use Rattle.block.specs.Written.{joined}
 use Rattle.page.specs.Layout.{kept_entries}
 use Rattle.page.specs.Page.{quotes_in}
 use Rattle.snapshot.specs.Snapshot.{Shown, Snapshot, snapshot_of}
-use Rattle.snapshot.specs.Feed.{consolidated_length, participant_length, finra_length, feed_header, feed_block, feed_blocks, feed_bytes}
+use Rattle.snapshot.specs.Feed.{consolidated_length, participant_length, finra_length, feed_header, feed_block, feed_bytes}
 use Rattle.snapshot.specs.Sizes.{letters_alone, letters_first, first_length, feed_count, feed_length}
 use Rattle.snapshot.proofs.PackLaws.{Measured, opening, of_letters, closing, blocks-one, length-one, blocks-two, length-block-first, length-block-second}
 use Rattle.snapshot.proofs.ShownLaws.{measured-of}

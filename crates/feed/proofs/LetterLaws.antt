@@ -1,10 +1,12 @@
 -- The letters that have a message, one by one, over plain values.
 -- Assumes nothing.
 use Prim.Native.Nat.{ℕ, zero, suc, ◌+◌, ◌*◌, ◌-◌, ◌≤◌, ◌<◌}
-use mathlib.Core.Path.{◌≡◌, refl, sym, ap, ap₂, ◌∙◌, subst}
-use mathlib.Core.Bool.{Bool, true, false, not, ◌&&◌, cond}
-use mathlib.Core.List.{List, [], ◌∷◌, ◌++◌, map, append-nil}
-use mathlib.Core.Option.{Option, none, some}
+use mathlib.Core.Path.{◌≡◌, refl, sym, ap, ◌∙◌, subst}
+use mathlib.Core.Bool.{Bool, true, false, not, cond}
+use mathlib.Core.List.{List, [], ◌∷◌, ◌++◌, append-nil}
+use mathlib.Core.Logic.{◌⊎◌, inl, inr}
+use mir.Val.{bool_byte}
+use Rattle.std.specs.Prelude.{Option, None, Some}
 use native.Mathlib.Omega.{arith}
 use native.Mathlib.Numerals.{add-one}
 use borrow.Author.Tests.{ne_eqb, eq-eqb}
@@ -14,19 +16,18 @@ use Rattle.field.specs.Field.{field, splice}
 use Rattle.field.specs.Ascii.{A, D, S, Z}
 use Rattle.field.proofs.Laws.{field-part-0, splice-join}
 use Rattle.field.proofs.ZeroLaws.{splice-nothing}
-use Rattle.lists.specs.Lists.{member, range, collect, cons_option}
+use Rattle.lists.specs.Lists.{member, cons_option}
 use Rattle.lists.proofs.Searches.{less_one}
 use Rattle.block.specs.Written.{joined}
 use Rattle.text.specs.Form.{symbol_length}
 use Rattle.quote.specs.declared.Quote.{Quote}
 use Rattle.quote.specs.Quote.{is_quoted, quote_in, quote_length}
-use Rattle.page.specs.Layout.{slot_at, letter_count}
+use Rattle.page.specs.Layout.{slot_at}
 use Rattle.page.specs.Page.{quotes_in}
 use Rattle.slots.proofs.ReadLaws.{quote-condition}
 use Rattle.snapshot.specs.Snapshot.{Shown, shown_of, is_shown, shown_at, shown_from}
 use Rattle.snapshot.specs.Feed.{participant, participant_length}
 use Rattle.snapshot.proofs.MessageLaws.{length-participant}
-use Rattle.snapshot.proofs.PackLaws.{map-append}
 use Rattle.feed.specs.code.Blocks.{shown_in, of_p}
 
 -- ---- one letter
@@ -45,13 +46,19 @@ module _ (p : List ℕ) (l : ℕ) where
   shown-quoted c t a z d s e q =
       q ∙ ap is_quoted (e ∙ sym (field-part-0 p (slot_at l) quote_length 1 (omega arith))) ∙ rw (ne_eqb l D d, ne_eqb l S s, quote-condition p l a z)
 
+  -- where a letter is left out by either of the two tests
+  pub hidden-s : (l ≡ D → ⊥) → ((l ≡ D → ⊥) × (l ≡ S)) ⊎ (l ≡ D) → not (eqb l S) ≡ is_shown (quotes_in p) l
+  hidden-s d (inl h) = ap not (eq-eqb l S h.1) ∙ shown-s h.1
+  hidden-s d (inr e) = absurd (d e)
+
+  pub hidden-d : l ≡ D → not (eqb l D) ≡ is_shown (quotes_in p) l
+  hidden-d e = ap not (eq-eqb l D e) ∙ shown-d e
+
 -- ---- a count and one letter more
 
-pub count_yes : (n : ℕ) (t : Bool) → t ≡ true → n + 1 ≡ n + cond t 1 0
-count_yes n t e = rw e
-
-pub count_no : (n : ℕ) (t : Bool) → t ≡ false → n ≡ n + cond t 1 0
-count_no n t e = rw e (omega arith)
+pub counted : (n m : ℕ) (t : Bool) → m ≡ bool_byte t → n + m ≡ n + cond t 1 0
+counted n m true e = ap (λ (k : ℕ). n + k) e
+counted n m false e = ap (λ (k : ℕ). n + k) e
 
 -- a count moves by one at most
 pub count_low : (n m : ℕ) (t : Bool) → m ≡ n + cond t 1 0 → m ≤ n + 1
@@ -69,7 +76,7 @@ module _ (q : ℕ → Quote) where
   pub shown-end : (l to : ℕ) → to ≤ l → shown_from q (to - l) l ≡ []
   shown-end l to h = let e : to - l ≡ 0 = omega arith in ap (λ (n : ℕ). shown_from q n l) e
 
-  one : (t : Bool) (v : Shown) (vs : List Shown) → length (cons_option (cond t (some v) none) vs) ≡ cond t 1 0 + length vs
+  one : (t : Bool) (v : Shown) (vs : List Shown) → length (cons_option (cond t (Some v) None) vs) ≡ cond t 1 0 + length vs
   one true v vs = omega arith
   one false v vs = omega arith
 
@@ -102,8 +109,8 @@ module _ (q : ℕ → Quote) where
     where
       go : (o : Option Shown) → shown_from q (m + n) (suc l) ≡ shown_from q m (suc l) ++ shown_from q n (l + suc m)
           → cons_option o (shown_from q (m + n) (suc l)) ≡ cons_option o (shown_from q m (suc l)) ++ shown_from q n (l + suc m)
-      go none e = e
-      go (some v) e = ap (λ (vs : List Shown). v ∷ vs) e
+      go None e = e
+      go (Some v) e = ap (λ (vs : List Shown). v ∷ vs) e
 
   pub split_at : (l r to : ℕ) → l ≤ r → r ≤ to → shown_from q (to - l) l ≡ shown_from q (r - l) l ++ shown_from q (to - r) r
   split_at l r to a z =
@@ -140,12 +147,12 @@ module _ (s : List ℕ) (n : length s ≡ symbol_length) where
   length-letters (v ∷ vs) = omega (arith, length-append (participant s v) (joined (of_p s vs)), length-participant s v n, length-letters vs)
 
   joined-option : (o : Option Shown) (vs : List Shown) → joined (of_p s (cons_option o vs)) ≡ joined (of_p s (cons_option o [])) ++ joined (of_p s vs)
-  joined-option none vs = refl
-  joined-option (some v) vs = ap (λ (l : List ℕ). l ++ joined (of_p s vs)) (sym (append-nil (participant s v)))
+  joined-option None vs = refl
+  joined-option (Some v) vs = ap (λ (l : List ℕ). l ++ joined (of_p s vs)) (sym (append-nil (participant s v)))
 
   length-option : (o : Option Shown) (vs : List Shown) → length (cons_option o vs) ≡ length (cons_option o []) + length vs
-  length-option none vs = omega arith
-  length-option (some v) vs = omega arith
+  length-option None vs = omega arith
+  length-option (Some v) vs = omega arith
 
   module _ (p : List ℕ) (l : ℕ) where
     abbrev o : Option Shown

@@ -1,12 +1,12 @@
 // A symbol's snapshot, written from its page (document 02, T-12).
 #![tactic(auto)]
 
-ghost use Rattle.std.specs.Prelude.{◌≡◌, cond, [], ◌+◌, ◌*◌, ◌-◌, ◌≤◌, ◌<◌, length};
+ghost use Rattle.std.specs.Prelude.{◌≡◌, [], ◌+◌, ◌*◌, ◌-◌, ◌≤◌, ◌<◌, length};
 ghost use Rattle.field.specs.Field.{splice};
 ghost use Rattle.field.specs.Ascii as ascii;
 ghost use Rattle.block.specs.Written.{joined};
 ghost use Rattle.lists.specs.Lists.{cons_option};
-ghost use Rattle.page.specs.Layout.{page_length, kept_entries, letter_count};
+ghost use Rattle.page.specs.Layout.{page_length, kept_entries};
 ghost use Rattle.page.specs.Page.{quotes_in};
 ghost use Rattle.snapshot.specs.Snapshot.{is_shown, shown_at, snapshot_of};
 ghost use Rattle.snapshot.specs.Feed.{participant_length, feed_block, feed_bytes};
@@ -69,24 +69,9 @@ fn is_shown(page: &[u8], letter: usize) -> bool
     requires { (length page.now ≡ page_length) × ((ascii.A ≤ letter) × (letter ≤ ascii.Z)) }
     ensures { result ≡ is_shown (quotes_in page.now) letter }
 {
-    if letter == Letter::D {
-        return false;
-    }
-    if letter == Letter::S {
-        return false;
-    }
-    let at = page::slot_at(letter);
-    quote::is_quoted(field::get8(page, at))
-}
-
-fn counted(n: usize, yes: bool) -> usize
-    requires { n ≤ letter_count }
-    ensures { result ≡ n + cond yes 1 0 }
-{
-    if yes {
-        return n + 1;
-    }
-    n
+    letter != Letter::D
+        && letter != Letter::S
+        && quote::is_quoted(field::get8(page, page::slot_at(letter)))
 }
 
 /// How many letters have a message.
@@ -96,7 +81,7 @@ pub fn count(page: &[u8]) -> usize
 {
     let mut n = 0;
     for letter in Letter::A..Letter::Z + 1 {
-        n = counted(n, is_shown(page, letter));
+        n += usize::from(is_shown(page, letter));
     }
     n
 }
@@ -111,7 +96,7 @@ fn behind(page: &[u8], n: usize) -> usize
         if seen == n {
             return letter;
         }
-        seen = counted(seen, is_shown(page, letter));
+        seen += usize::from(is_shown(page, letter));
     }
     Letter::Z + 1
 }

@@ -15,27 +15,6 @@ use Rattle.entries.specs.Publication.{entry_length}
 use Rattle.snapshot.specs.Snapshot.{Priced, Shown, BothEntries, priced_of, shown_of, both_in}
 use Rattle.snapshot.specs.Feed.{spaces, zeros, opened, national_side, consolidated, priced_bytes, participant, finra_side, finra_message, feed_front, opened_length, national_length, priced_length, finra_side_length, consolidated_length, participant_length, finra_length}
 
--- ---- the loop that fills
-
-splice-none : (s : List ℕ) (at : ℕ) → at ≤ length s → s ≡ splice s at []
-unfolding part
-splice-none s at h = sym (splice-part s at 0 (omega arith))
-
-pub fill-again : (s w : List ℕ) (at n i v : ℕ) → i < n → at + i < length s → splice s (at + i) (replicate (n - i) v) ≡ w
-    → splice (set s (at + i) v) (at + (i + 1)) (replicate (n - (i + 1)) v) ≡ w
-fill-again s w at n i v h l inv =
-    let e : at + (i + 1) ≡ at + i + 1 = omega arith in
-    ap (λ (k : ℕ). splice (set s (at + i) v) k (replicate (n - (i + 1)) v)) e
-    ∙ ap (λ (z : List ℕ). splice z (at + i + 1) (replicate (n - (i + 1)) v)) (splice-one s (at + i) v l)
-    ∙ splice-join s (at + i) 1 (v ∷ []) (replicate (n - (i + 1)) v) refl
-    ∙ ap (λ (k : ℕ). splice s (at + i) (replicate k v)) (sym (less_one n i h))
-    ∙ inv
-
-pub fill_end : (s w : List ℕ) (at n i v : ℕ) → n ≤ i → at + i ≤ length s → splice s (at + i) (replicate (n - i) v) ≡ w → s ≡ w
-fill_end s w at n i v h l inv =
-    let e : n - i ≡ 0 = omega arith in
-    splice-none s (at + i) l ∙ ap (λ (k : ℕ). splice s (at + i) (replicate k v)) (sym e) ∙ inv
-
 -- ---- one piece behind the other
 
 -- n bytes x written from at on

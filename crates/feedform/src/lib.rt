@@ -76,9 +76,7 @@ fn fill(output: &mut [u8], at: usize, n: usize, byte: u8)
     requires { at + n ≤ length output.old }
     ensures { output.new ≡ splice output.old at (replicate n byte) }
 {
-    for i in 0..n {
-        output[at + i] = byte;
-    }
+    output[at..at + n].fill(byte);
 }
 
 // A message's header and symbol.

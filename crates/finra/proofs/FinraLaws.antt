@@ -74,22 +74,23 @@ module _ (c n : ℕ) (b₀ : List ℕ) where
   unfolding each_page
   marking-end w b k h g = let z : n - k ≡ 0 = omega arith in rw z at g.pages
 
-  -- the flags of the counted pages, joined on the way
-  abbrev pub Joined : ℕ → ℕ → Type 0
-  Joined flags k = bit_or flags (or_from (page_flags c b₀) k (n - k)) ≡ or_from (page_flags c b₀) 0 n
+  -- the flags of the pages from i on, joined on the way
+  module _ (i : ℕ) where
+    abbrev pub Joined : ℕ → ℕ → Type 0
+    Joined flags k = bit_or flags (or_from (page_flags c b₀) k (n - k)) ≡ or_from (page_flags c b₀) i (n - i)
 
-  pub joined-start : Joined 0 0
-  joined-start = or_zero_l _ ∙ ap (or_from (page_flags c b₀) 0) (sub-zero n)
+    pub joined-start : Joined 0 i
+    joined-start = or_zero_l _
 
-  pub joined-again : (w b : List ℕ) (flags k f : ℕ) → k < n → Marking w b k → Joined flags k
-      → f ≡ change_flags (kept_entries (lent b k)) (kept_entries (finra_on c (lent b k))) → Joined (bit_or flags f) (k + 1)
-  joined-again w b flags k f h g q e =
-      let z : n - k ≡ suc (n - (k + 1)) = omega arith in
-      let x : f ≡ page_flags c b₀ k = e ∙ ap (λ (p : List ℕ). change_flags (kept_entries p) (kept_entries (finra_on c p))) (lent-page b k ∙ g.ahead k (omega arith)) in
-      rw x (sym (or-again (page_flags c b₀) flags k (n - (k + 1))) ∙ (rw z at q))
+    pub joined-again : (w b : List ℕ) (flags k f : ℕ) → k < n → Marking w b k → Joined flags k
+        → f ≡ change_flags (kept_entries (lent b k)) (kept_entries (finra_on c (lent b k))) → Joined (bit_or flags f) (k + 1)
+    joined-again w b flags k f h g q e =
+        let z : n - k ≡ suc (n - (k + 1)) = omega arith in
+        let x : f ≡ page_flags c b₀ k = e ∙ ap (λ (p : List ℕ). change_flags (kept_entries p) (kept_entries (finra_on c p))) (lent-page b k ∙ g.ahead k (omega arith)) in
+        rw x (sym (or-again (page_flags c b₀) flags k (n - (k + 1))) ∙ (rw z at q))
 
-  pub joined_end : (flags k : ℕ) → n ≤ k → Joined flags k → flags ≡ or_from (page_flags c b₀) 0 n
-  joined_end flags k h q = let z : n - k ≡ 0 = omega arith in sym (or-end (page_flags c b₀) flags k) ∙ (rw z at q)
+    pub joined_end : (flags k : ℕ) → n ≤ k → Joined flags k → flags ≡ or_from (page_flags c b₀) i (n - i)
+    joined_end flags k h q = let z : n - k ≡ 0 = omega arith in sym (or-end (page_flags c b₀) flags k) ∙ (rw z at q)
 
 -- ---- the counted pages, then the others
 
@@ -110,13 +111,13 @@ finra-room b s n count en ec =
     let sd : Sound (symbols_of b) b = sound-of b s in
     ((omega (arith, sd.low), omega (arith, sd.up)), (omega (arith, sd.count), omega (arith, sd.size)))
 
--- both loops together are what a FINRA Close or Open does to the book
+-- the two together are what a FINRA Close or Open does to the book
 pub finra-whole : (c : ℕ) (b : List ℕ) → sound b ≡ true → (n count : ℕ) → n ≡ field b n_at 1 → count ≡ field b count_at 1
-    → (flags : ℕ) (b₁ b₂ : List ℕ) → flags ≡ or_from (page_flags c b) 0 count → b₁ ≡ each_page (finra_on c) 0 count b → b₂ ≡ each_page (finra_on c) count (n - count) b₁
+    → (flags : ℕ) (b₁ b₂ : List ℕ) → flags ≡ or_from (page_flags c b) 0 (count - 0) → b₁ ≡ each_page (finra_on c) 0 (count - 0) b → b₂ ≡ each_page (finra_on c) count (n - count) b₁
     → (flags ≡ finra_flags c b) × (b₂ ≡ each_page (finra_on c) 0 (symbols_of b) b)
 unfolding symbols_of count_of
 finra-whole c b s n count en ec flags b₁ b₂ ef e₁ e₂ =
     let sd : Sound (symbols_of b) b = sound-of b s in
     let z : 0 + count ≡ count = omega arith in
     let y : count + (n - count) ≡ n = omega (arith, sd.count) in
-    (rw (← ec) ef, rw (← en) (e₂ ∙ ap (each_page (finra_on c) count (n - count)) e₁ ∙ (rw (z, y) at (each-join (finra_on c) count 0 (n - count) b))))
+    (rw (← ec) (ef ∙ ap (or_from (page_flags c b) 0) (sub-zero count)), rw (← en) (e₂ ∙ ap (each_page (finra_on c) count (n - count)) (e₁ ∙ ap (λ (k : ℕ). each_page (finra_on c) 0 k b) (sub-zero count)) ∙ (rw (z, y) at (each-join (finra_on c) count 0 (n - count) b))))

@@ -6,7 +6,6 @@ use native.Mathlib.Omega.{arith}
 use native.Mathlib.Nat.{max-le, zero-max, max-zero, suc-max-suc}
 use lib.Arith.{bin_ind}
 use lib.Bits.{bit_or, or_step, or_zero_r}
-use Rattle.message.specs.declared.Message.TheVariants as says
 use Rattle.finra.specs.code.Flags.{or_from}
 
 -- ---- flags joined, in any grouping

@@ -16,33 +16,21 @@ pub fn finra_pages(book: &mut [u8], condition: u8) -> u8
 {
     let n = field::get8(book, Book::N) as usize;
     let count = field::get8(book, Book::COUNT) as usize;
-    let flags = finra_counted(book, count, condition);
-    finra_others(book, count, n, condition);
+    let flags = mark_pages(book, 0, count, condition);
+    let _ = mark_pages(book, count, n, condition); // pages of no symbol: their flags are not told
     flags
 }
 
-// The counted pages, and the flags of the entries that changed in any of them.
-fn finra_counted(book: &mut [u8], count: usize, condition: u8) -> u8
-    requires { (count ≤ symbols_most) × (page_start count ≤ length book.old) }
-    ensures { (result ≡ or_from (page_flags condition book.old) 0 count) × (book.new ≡ each_page (finra_on condition) 0 count book.old) }
+// The pages from `from` to `to`, and the flags of the entries that changed in any of them.
+fn mark_pages(book: &mut [u8], from: usize, to: usize, condition: u8) -> u8
+    requires { (from ≤ to) × ((to ≤ symbols_most) × (page_start to ≤ length book.old)) }
+    ensures { (result ≡ or_from (page_flags condition book.old) from (to - from)) × (book.new ≡ each_page (finra_on condition) from (to - from) book.old) }
 {
     let mut flags: u8 = 0;
-    for k in 0..count {
+    for k in from..to {
         let a = Book::OPENING_LEN + k * Book::PAGE_LEN;
         let e = a + Book::PAGE_LEN;
         flags = flags | update::finra(&mut book[a..e], condition);
     }
     flags
-}
-
-// The pages from `from` to `to`.
-fn finra_others(book: &mut [u8], from: usize, to: usize, condition: u8)
-    requires { (from ≤ to) × ((to ≤ symbols_most) × (page_start to ≤ length book.old)) }
-    ensures { book.new ≡ each_page (finra_on condition) from (to - from) book.old }
-{
-    for k in from..to {
-        let a = Book::OPENING_LEN + k * Book::PAGE_LEN;
-        let e = a + Book::PAGE_LEN;
-        update::finra(&mut book[a..e], condition);
-    }
 }

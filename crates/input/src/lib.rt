@@ -1,234 +1,171 @@
-// A tape on standard input, through a buffer: how far it is read, and why the reading stopped.
+// A tape on standard input, through a buffer: its bytes in hand, and why the reading stopped.
 #![tactic(auto)]
 
-ghost use Rattle.std.specs.Prelude.{◌+◌, ◌≤◌, ◌≡◌, length};
-ghost use Rattle.input.specs.Held.{input_length, Held, Reaches, Ready, head_length, block_most};
+ghost use Rattle.std.specs.Prelude.{◌≡◌, ◌+◌, ◌≤◌, length, IfOk, OnOk};
+ghost use Rattle.input.specs.Input.{input_length};
 
-use output::{Output, Streams};
-use std::io::Read;
-
-/// The input buffer: the longest record fits.
-pub type Input = [u8; LEN];
-
-pub const LEN: usize = 131072;
+use numbers::Refusal;
+use output::Output;
+use std::io::{Read, Stdin};
 
 /// Why the reading stopped.
-#[derive(Clone, Copy)]
+#[derive(Clone, Copy, Debug, PartialEq, Eq)]
 pub enum Stop {
-    /// It goes on.
-    Going,
     /// The tape ended between two records.
     End,
     /// The tape ended elsewhere.
     Cut,
     /// A call of the setup was refused.
-    Refused(u8),
+    Refused(Refusal),
 }
 
-/// The input buffer's bytes from `from` to `to` are read and not yet used; `filled` bytes of the output buffer wait.
+impl From<Refusal> for Stop {
+    ghost use Rattle.input.specs.declared.Stop.TheVariants.{Refused};
+
+    ghost from_gives = { λ refusal stop. stop ≡ Refused refusal };
+
+    fn from(refusal: Refusal) -> Stop {
+        Stop::Refused(refusal)
+    }
+}
+
+/// A record of a tape: a line and its block.
 #[derive(Clone, Copy)]
-pub struct Tape {
+pub struct Record<'a> {
+    pub line: u8,
+    pub block: &'a [u8],
+}
+
+impl<'a> Record<'a> {
+    // Before the block: the line, and the length of the block in two bytes.
+    const HEAD: usize = 3;
+}
+
+/// Standard input and its buffer, into which the longest record fits: the bytes from `from` to `to` are read and not yet used.
+#[derive(Drop)]
+pub struct Input {
+    input: Stdin,
+    bytes: [u8; Input::LEN],
     pub from: usize,
     pub to: usize,
-    pub filled: usize,
-    pub stop: Stop,
+    pub ghost in_hand: { from ≤ to },
+    pub ghost within: { to ≤ input_length },
 }
 
-impl Tape {
-    pub const START: Tape = Tape {
-        from: 0,
-        to: 0,
-        filled: 0,
-        stop: Stop::Going,
-    };
-    // Bytes of a count.
-    const COUNT: usize = 1;
+impl Input {
+    pub const LEN: usize = 131072;
 
-    /// Behind n bytes whose call gave this number. Where the reading stopped before, it stays so.
-    pub fn after(self, n: usize, number: u8) -> Tape
-        requires { (self.from + n ≤ self.to) × Held self }
-        ensures { Held result }
+    pub fn new(input: Stdin) -> Input
+        ensures { (result.from ≡ 0) × (result.to ≡ 0) }
     {
-        let stop = self.stop;
-        let Stop::Going = stop else {
-            return self;
-        };
-        Tape {
-            from: self.from + n,
-            to: self.to,
-            filled: self.filled,
-            stop: answered(number),
+        Input {
+            input,
+            bytes: [0; Input::LEN],
+            from: 0,
+            to: 0,
         }
     }
-}
 
-// Whether the reading goes on after a call's number.
-fn answered(number: u8) -> Stop {
-    if number == 0 {
-        return Stop::Going;
+    /// One byte: how many symbols or lines follow.
+    pub fn count(&mut self, out: &mut Output) -> Result<u8, Stop> {
+        let bytes = self.take(out, 1)?;
+        Ok(bytes[0])
     }
-    Stop::Refused(number)
-}
 
-/// A count of symbols or lines, and the tape behind it; 0 where the reading stopped.
-#[derive(Clone, Copy)]
-pub struct Counted {
-    pub n: u8,
-    pub tape: Tape,
-}
-
-/// A record of `len` bytes, with which the tape goes on: a line, the length of its block, the block.
-#[derive(Clone, Copy)]
-pub struct Record {
-    pub tape: Tape,
-    pub len: usize,
-}
-
-impl Record {
-    // The two bytes of the length.
-    const HIGH: usize = 1;
-
-    const LOW: usize = 2;
-    /// Where the block begins.
-    pub const HEAD: usize = 3;
-}
-
-/// Holds n bytes from `from` on. A tape that has fewer is cut; one that has none has ended, where it may.
-/// What waits in the output is written before the program may wait.
-pub fn hold(
-    streams: Streams,
-    input: &mut Input,
-    out: &Output,
-    tape: Tape,
-    n: usize,
-    may_end: bool,
-) -> Tape
-    requires { (n ≤ input_length) × Held tape }
-    ensures { Held result × Ready result n }
-{
-    let stop = tape.stop;
-    let Stop::Going = stop else {
-        return tape;
-    };
-    let have = tape.to - tape.from;
-    if n <= have {
-        return tape;
+    /// The next n bytes of a tape that may not end before them.
+    pub fn take(&mut self, out: &mut Output, n: usize) -> Result<&[u8], Stop>
+        requires { n ≤ input_length }
+        ensures { IfOk result (λ bytes. length bytes.now ≡ n) }
+    {
+        self.hold(out, n, Stop::Cut)?;
+        Ok(self.used(n))
     }
-    output::flush(streams, out, tape.filled);
-    move_front(input, tape.from, have);
-    let to = fill(streams, input, have, n);
-    Tape {
-        from: 0,
-        to,
-        filled: 0,
-        stop: judge(n, to, may_end),
-    }
-}
 
-/// One byte: how many symbols or lines follow.
-pub fn count(streams: Streams, input: &mut Input, out: &Output, tape: Tape) -> Counted
-    requires { Held tape }
-    ensures { Held result.tape }
-{
-    let held = hold(streams, input, out, tape, Tape::COUNT, false);
-    let stop = held.stop;
-    let Stop::Going = stop else {
-        return Counted { n: 0, tape: held };
-    };
-    let from = held.from;
-    Counted {
-        n: input[from],
-        tape: held.after(Tape::COUNT, 0),
+    /// The next record: its line, the length of its block, the block. A tape may end before it.
+    pub fn next_record(&mut self, out: &mut Output) -> Result<Record<'_>, Stop> {
+        self.hold(out, Record::HEAD, Stop::End)?;
+        let at = self.from;
+        let line = self.bytes[at];
+        let len = u16::from_be_bytes([self.bytes[at + 1], self.bytes[at + 2]]);
+        let end = Record::HEAD + usize::from(len);
+        self.hold(out, end, Stop::Cut)?;
+        let bytes = self.used(end);
+        Ok(Record {
+            line,
+            block: &bytes[Record::HEAD..],
+        })
     }
-}
 
-/// The next record: its line, the length of its block, the block. A tape may end before it.
-pub fn next_record(streams: Streams, input: &mut Input, out: &Output, tape: Tape) -> Record
-    requires { Held tape }
-    ensures held { Held result.tape × Ready result.tape result.len }
-    ensures head_length_le_len { head_length ≤ result.len }
-{
-    let head = hold(streams, input, out, tape, Record::HEAD, true);
-    let stop = head.stop;
-    let Stop::Going = stop else {
-        return Record {
-            tape: head,
-            len: Record::HEAD,
+    // The n bytes in hand, which are used now.
+    fn used(&mut self, n: usize) -> &[u8]
+        requires { self.old.from + n ≤ self.old.to }
+        ensures { length result.now ≡ n }
+    {
+        let at = self.from;
+        self.from = at + n;
+        let bytes: &[u8] = &self.bytes;
+        &bytes[at..at + n]
+    }
+
+    // Holds n bytes from `from` on. A tape that has fewer is cut; where it has none, the reading stops as `none` says.
+    // What waits in the output is written before the program may wait.
+    fn hold(&mut self, out: &mut Output, n: usize, none: Stop) -> Result<(), Stop>
+        requires { n ≤ input_length }
+        ensures { OnOk result (self.new.from + n ≤ self.new.to) }
+    {
+        if n <= self.to - self.from {
+            return Ok(());
+        }
+        out.flush();
+        self.move_front();
+        self.fill(out, n);
+        judge(n, self.to, none)
+    }
+
+    // The bytes in hand go to the front.
+    fn move_front(&mut self)
+        ensures { self.new.from ≡ 0 }
+    {
+        self.bytes.copy_within(self.from..self.to, 0);
+        self.to -= self.from;
+        self.from = 0;
+    }
+
+    // Reads until n bytes are in hand, or the input ends.
+    fn fill(&mut self, out: &Output, n: usize)
+        requires { n ≤ input_length }
+        ensures { self.new.from ≡ self.old.from }
+    {
+        // not a count: a read brings as many bytes as it will
+        while self.to < n {
+            let got = self.read(out);
+            if got == 0 {
+                return;
+            }
+            self.to += got;
+        }
+    }
+
+    // One read behind the bytes in hand; how many came. One that fails is told on standard error, and is an end of the input otherwise.
+    fn read(&mut self, out: &Output) -> usize
+        ensures came { self.new.to + result ≤ input_length }
+        ensures stays { (self.new.from ≡ self.old.from) × (self.new.to ≡ self.old.to) }
+    {
+        let to = self.to;
+        let Ok(got) = self.input.read(&mut self.bytes[to..]) else {
+            out.warn(b"tape: the input could not be read\n");
+            return 0;
         };
-    };
-    let from = head.from;
-    let high = from + Record::HIGH;
-    let low = from + Record::LOW;
-    let len = Record::HEAD + number(input[high], input[low]);
-    Record {
-        tape: hold(streams, input, out, head, len, false),
-        len,
+        got
     }
-}
-
-// A number of two bytes.
-fn number(high: u8, low: u8) -> usize
-    ensures { result ≤ block_most }
-{
-    256 * (high as usize) + low as usize
 }
 
 // Whether the reading goes on, of a tape that has `to` bytes where n are asked for.
-fn judge(n: usize, to: usize, may_end: bool) -> Stop
-    ensures { Reaches result n to }
+fn judge(n: usize, to: usize, none: Stop) -> Result<(), Stop>
+    ensures { OnOk result (n ≤ to) }
 {
     if n <= to {
-        return Stop::Going;
+        return Ok(());
     }
-    if may_end {
-        if to == 0 {
-            return Stop::End;
-        }
-    }
-    Stop::Cut
-}
-
-// The n bytes at `from` go to the front.
-fn move_front(input: &mut [u8], from: usize, n: usize)
-    requires { from + n ≤ length input.old }
-{
-    for i in 0..n {
-        input[i] = input[from + i];
-    }
-}
-
-// Reads until n bytes stand in front, or the input ends; how many stand there.
-fn fill(streams: Streams, input: &mut [u8], have: usize, n: usize) -> usize
-    requires { (length input.old ≡ input_length) × ((have ≤ input_length) × (n ≤ input_length)) }
-    ensures { result ≤ input_length }
-{
-    let mut to = have;
-    while to < n {
-        let got = read_behind(streams, input, to);
-        if got == 0 {
-            return to;
-        }
-        to = to + got;
-    }
-    to
-}
-
-// One read behind the first `to` bytes; how many came.
-fn read_behind(streams: Streams, input: &mut [u8], to: usize) -> usize
-    requires { to ≤ length input.old }
-    ensures { to + result ≤ length input.old }
-{
-    read_part(streams, &mut input[to..])
-}
-
-// A read that fails is told on standard error, and is an end of the input otherwise.
-fn read_part(streams: Streams, part: &mut [u8]) -> usize
-    ensures { result ≤ length part.old }
-{
-    let mut input = streams.input;
-    let Ok(got) = input.read(part) else {
-        output::warn(streams, b"tape: the input could not be read\n");
-        return 0;
-    };
-    got
+    Err(if to == 0 { none } else { Stop::Cut })
 }

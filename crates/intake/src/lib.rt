@@ -2,10 +2,11 @@
 #![tactic(auto)]
 
 ghost use Rattle.std.specs.Prelude.{◌≡◌};
+ghost use Rattle.numbers.specs.Numbers.{number_of};
 ghost use Rattle.calls.specs.Buffers.{taken};
 
 use calls::Report;
-use line::Gate;
+use numbers::Refusal;
 
 /// Takes a block on a line. Of a taken block, the answer buffer's four bytes at 4i hold i, the code, the change flags and 0 for message i.
 pub fn take_block(book: &mut [u8], line: u32, block: &[u8], answer: &mut [u8]) -> Report
@@ -13,42 +14,37 @@ pub fn take_block(book: &mut [u8], line: u32, block: &[u8], answer: &mut [u8]) -
 {
     let gate = line::judge(book, line, block, answer.len());
     match gate {
-        Gate::Bare(number) => Report {
-            number,
-            gap: 0,
-            expected: 0,
-            count: 0,
-            accepted: 0,
-            partly: 0,
-            rejected: 0,
+        Err(stopped) => match stopped.line {
+            None => refused(stopped.refusal, 0, 0),
+            Some(old) => refused(stopped.refusal, old.expected, old.count),
         },
-        Gate::Refused(number, old) => Report {
-            number,
-            gap: 0,
-            expected: old.expected,
-            count: old.count,
-            accepted: 0,
-            partly: 0,
-            rejected: 0,
-        },
-        Gate::Taken {
-            number,
-            gap,
-            count,
-            next,
-            free,
-        } => {
-            let tally = work::run(book, next.letter, block, count, answer);
-            line::settle(book, line, next, free);
+        Ok(taken) => {
+            let tally = work::run(book, taken.next.letter, block, taken.count, answer);
+            line::settle(book, line, taken.next, taken.free);
             Report {
-                number,
-                gap,
-                expected: next.expected,
-                count: next.count,
+                number: taken.number,
+                gap: taken.gap,
+                expected: taken.next.expected,
+                count: taken.next.count,
                 accepted: tally.accepted,
                 partly: tally.partly,
                 rejected: tally.rejected,
             }
         }
+    }
+}
+
+// The report of a refused block: why, and its line's numbers as they stand.
+fn refused(refusal: Refusal, expected: u32, count: u64) -> Report
+    ensures { result ≡ record { number = number_of refusal; gap = 0; expected = expected; count = count; accepted = 0; partly = 0; rejected = 0 } }
+{
+    Report {
+        number: refusal.number(),
+        gap: 0,
+        expected,
+        count,
+        accepted: 0,
+        partly: 0,
+        rejected: 0,
     }
 }

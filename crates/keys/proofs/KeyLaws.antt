@@ -1,6 +1,7 @@
 -- Keys rank as prices do, as far as four bytes tell.
 -- Assumes nothing.
-use Rattle.std.proofs.Common.{◌≡◌, ℕ, zero, suc, ◌+◌, ◌-◌, ◌%◌, ◌^◌, ◌<◌, ◌≤◌, Bool, true, false, cond, eqb, ltb, ◌⊎◌, sym, refl, ap, ◌∙◌, inl, inr, arith, ltb-false, ltb-true, le-ltb, lt-ltb, eq-eqb, ne_eqb, eqb-true}
+use Rattle.std.proofs.Common.{◌≡◌, ℕ, zero, suc, ◌+◌, ◌-◌, ◌%◌, ◌^◌, ◌<◌, ◌≤◌, Bool, true, false, cond, eqb, ltb, ◌⊎◌, sym, refl, ◌∙◌, inl, inr, arith, ltb-false, ltb-true, le-ltb, lt-ltb, eq-eqb, ne_eqb, eqb-true, min}
+use Rattle.std.proofs.Math.Nat.{min-eq_left, min-eq_right}
 use borrow.Author.Tests.{eqb-false}
 use Rattle.ranking.specs.declared.Side.{Side}
 use Rattle.ranking.specs.declared.Side.TheVariants.{Bid, Offer}
@@ -18,6 +19,15 @@ short-below p h = rw (lt-ltb p full_key h)
 pub short-full : (p : ℕ) → full_key ≤ p → full_key ≡ short_of p
 unfolding short_of
 short-full p h = rw (le-ltb p full_key h)
+
+-- the lesser of a price and the highest number
+pub short-min : (p r : ℕ) → r ≡ min p full_key → r ≡ short_of p
+unfolding short_of
+short-min p r e = e ∙ go (ltb p full_key) refl
+  where
+    go : (t : Bool) → ltb p full_key ≡ t → min p full_key ≡ cond t p full_key
+    go true h = min-eq_left (omega (arith, ltb-true p full_key h))
+    go false h = min-eq_right (omega (arith, ltb-false p full_key h))
 
 -- which of the two it is
 data Short (p : ℕ) : Type 0 where

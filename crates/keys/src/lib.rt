@@ -2,7 +2,7 @@
 #![tactic(auto)]
 
 ghost use Rattle.std.specs.Prelude.{◌≡◌};
-ghost use Rattle.keys.specs.Keys.{short_of, key_of, level_key, side_key, bar_of};
+ghost use Rattle.keys.specs.Keys.{key_of, level_key, side_key, bar_of};
 
 use quote::Level;
 use ranking::Side;
@@ -17,21 +17,11 @@ impl Keys {
     pub const FULL: u64 = 4294967295;
 }
 
-// A price, or the highest number of four bytes if it is not below that.
-fn short(price: u64) -> u32
-    ensures { result ≡ short_of price }
-{
-    if price < Keys::FULL {
-        return price as u32;
-    }
-    Keys::FULL as u32
-}
-
 /// The key of a price: the higher ranks first on either side; none is 0.
 pub fn key(side: Side, price: u64) -> u32
     ensures { result ≡ key_of side price }
 {
-    let short = short(price);
+    let short = price.min(Keys::FULL) as u32;
     match side {
         Side::Bid => short,
         Side::Offer => std::num::wrapping_sub_u32(0, short),

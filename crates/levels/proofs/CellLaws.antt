@@ -1,13 +1,17 @@
 -- The definitions of `Cells.antt` as the code meets them: what a call returned stands as a variable, with an equation.
 -- Assumes nothing.
-use Prim.Native.Nat.{ℕ, ◌+◌, ◌*◌, ◌-◌, ◌≤◌, ◌<◌}
+use Prim.Native.Nat.{ℕ, zero, suc, ◌+◌, ◌*◌, ◌-◌, ◌≤◌, ◌<◌}
 use mathlib.Core.Path.{◌≡◌, refl, sym, ap, ◌∙◌}
 use mathlib.Core.Bool.{Bool, true, false, cond}
 use mathlib.Core.List.{List, [], ◌∷◌, ◌++◌, map, append_assoc, append-nil}
 use native.Mathlib.Omega.{arith}
 use borrow.Author.Tests.{eq-eqb, ne_eqb, lt-ltb, le-ltb, ltb-true, ltb-false}
 use lib.Dec.{eqb, ltb, lit≤}
-use lib.ListN.{length, get_or, take, drop, length-map}
+use lib.ListN.{set, length, get_or, take, drop, length-map}
+use Rattle.std.specs.List.{list_any}
+use Rattle.std.proofs.lemmas.List.{at_drop_more, take_all, drop_all, take_more_set}
+use Rattle.std.specs.Prelude.{◌||◌}
+use native.Mathlib.Numerals.{unary_clauses}
 use lib.Seq.{drop-drop, take-take}
 use Rattle.field.specs.Field.{part, splice}
 use Rattle.field.specs.Low.{le_bytes}
@@ -21,10 +25,10 @@ use Rattle.quote.specs.Quote.{no_level, level_in, level_bytes, level_length}
 use Rattle.levels.specs.declared.Levels.{Levels}
 use Rattle.levels.specs.declared.Item.{Item}
 use Rattle.levels.specs.declared.Pair.{Pair}
-use Rattle.levels.specs.declared.Changed.{Changed}
-use Rattle.levels.specs.declared.Judged.TheVariants.{Refused}
+use Rattle.numbers.specs.declared.Rejection.TheVariants.{FifthLevel}
+use Rattle.std.specs.Prelude.{Ok, Err}
 use Rattle.levels.specs.Levels.{cells_in, side_in, side_length}
-use Rattle.levels.specs.code.Cells.{cells_of, joined_levels, leads, standing, standing_behind, ordered_of, kept_of, over_of, without_of, holds_of, replaced_of, passed, level_of, with_item}
+use Rattle.levels.specs.code.Cells.{cells_of, joined_levels, leads, standing, standing_behind, ordered_of, kept_of, over_of, without_of, holds_of, replaced_of, level_of, with_item}
 use Rattle.levels.proofs.ReadingLaws.{read-four}
 
 -- the length of an array of structs, as owning it tells
@@ -66,20 +70,67 @@ leads-rank s p q h k = side s (cut p 0) (cut q 0)
 pub ahead-is : (s : Side) (p q a b : ℕ) → a ≡ rank_of s q → b ≡ rank_of s p → p < 18446744073709551616 → q < 18446744073709551616 → ltb a b ≡ leads s p q
 ahead-is s p q a b e f h k = rw (e, f) (leads-rank s p q h k)
 
--- ---- four cells
+-- ---- cells one by one
+
+pub holds-any : (p : ℕ) (ls : List Level) → list_any (λ y. eqb y.price p) ls ≡ holds_of p ls
+unfolding holds_of
+holds-any p [] = refl
+holds-any p (y ∷ ys) = go (eqb y.price p) (holds-any p ys)
+  where
+    go : (t : Bool) {a b : Bool} → a ≡ b → t || a ≡ cond t true b
+    go true e = refl
+    go false e = e
+
+drop-past : (xs : List Level) (i : ℕ) (v : Level) → drop (i + 1) (set xs i v) ≡ drop (i + 1) xs
+drop-past [] i v = refl
+drop-past (x ∷ xs) zero v = refl
+drop-past (x ∷ xs) (suc i) v = simp unary_clauses (simp unary_clauses at (drop-past xs i v))
+
+-- a cell written: those before it, then it, then those behind it
+written : (xs : List Level) (i : ℕ) (v : Level) (zs : List Level) → i < length xs → take (i + 1) (set xs i v) ++ zs ≡ take i xs ++ v ∷ zs
+written xs i v zs h = rw (take_more_set xs i v h) (append_assoc (take i xs) (v ∷ []) zs)
+
+module _ (xs : List Level) (i : ℕ) (d : Level) (h : i < length xs) (w : List Level) where
+  -- what is done at cell i and what remains give what remained before it
+  unread : (v : Level) → drop (i + 1) (set xs i v) ≡ drop (i + 1) xs
+  unread v = drop-past xs i v
+
+  pub replaced-step : (x v : Level) → take i xs ++ replaced_of x (drop i xs) ≡ w → v ≡ cond (eqb (get_or xs i d).price x.price) x (get_or xs i d)
+      → take (i + 1) (set xs i v) ++ replaced_of x (drop (i + 1) (set xs i v)) ≡ w
+  unfolding replaced_of
+  replaced-step x v e q =
+      rw (unread v, written xs i v (replaced_of x (drop (i + 1) xs)) h)
+      (sym (at_drop_more (λ (zs : List Level). take i xs ++ replaced_of x zs) xs i d h ∙ rw (← q)) ∙ e)
+
+  module _ (s : Side) (x : Level) (p : Pair) (e : p ≡ ordered_of s x (get_or xs i d)) where
+    pub kept-step : take i xs ++ kept_of s x (drop i xs) ≡ w → take (i + 1) (set xs i p.first) ++ kept_of s p.second (drop (i + 1) (set xs i p.first)) ≡ w
+    unfolding kept_of
+    kept-step q =
+        rw (unread p.first, written xs i p.first (kept_of s p.second (drop (i + 1) xs)) h)
+        (sym (at_drop_more (λ (zs : List Level). take i xs ++ kept_of s x zs) xs i d h ∙ rw (← e)) ∙ q)
+
+    pub over-step : (o : Level) → over_of s x (drop i xs) ≡ o → over_of s p.second (drop (i + 1) (set xs i p.first)) ≡ o
+    unfolding over_of
+    over-step o q = rw (unread p.first) (sym (at_drop_more (over_of s x) xs i d h ∙ ap (λ (t : Pair). over_of s t.second (drop (i + 1) xs)) (sym e)) ∙ q)
+
+module _ (xs : List Level) (i : ℕ) (h : length xs ≤ i) where
+  -- nothing remains
+  pub replaced-all : (x : Level) (w : List Level) → take i xs ++ replaced_of x (drop i xs) ≡ w → xs ≡ w
+  unfolding replaced_of
+  replaced-all x w e = sym (rw (take_all i xs h, drop_all i xs h) (append-nil xs)) ∙ e
+
+  pub kept-all : (s : Side) (x : Level) (w : List Level) → take i xs ++ kept_of s x (drop i xs) ≡ w → xs ≡ w
+  unfolding kept_of
+  kept-all s x w e = sym (rw (take_all i xs h, drop_all i xs h) (append-nil xs)) ∙ e
+
+  pub over-all : (s : Side) (x o : Level) → over_of s x (drop i xs) ≡ o → x ≡ o
+  unfolding over_of
+  over-all s x o e = sym (ap (over_of s x) (drop_all i xs h)) ∙ e
 
 regroup : (a b c e : List ℕ) → a ++ b ++ c ++ e ≡ a ++ (b ++ (c ++ (e ++ [])))
 regroup a b c e = simp (append_assoc, append-nil)
 
 module _ (ls : List Level) (d : Level) (n : length ls ≡ 4) where
-  pub insert-is : (s : Side) (x : Level) (p0 p1 p2 p3 : Pair) → p0 ≡ ordered_of s x (get_or ls 0 d) → p1 ≡ ordered_of s p0.second (get_or ls 1 d)
-      → p2 ≡ ordered_of s p1.second (get_or ls 2 d) → p3 ≡ ordered_of s p2.second (get_or ls 3 d)
-      → (p0.first ∷ p1.first ∷ p2.first ∷ p3.first ∷ [] ≡ kept_of s x ls) × (p3.second ≡ over_of s x ls)
-  unfolding kept_of over_of
-  insert-is s x p0 p1 p2 p3 e0 e1 e2 e3 =
-      let o : p3.second ≡ over_of s x (get_or ls 0 d ∷ get_or ls 1 d ∷ get_or ls 2 d ∷ get_or ls 3 d ∷ []) = cc in
-      (sym (ap (kept_of s x) (as-four ls d n) ∙ rw (← e0, ← e1, ← e2, ← e3)), o ∙ sym (ap (over_of s x) (as-four ls d n)))
-
   pub without_is : (p : ℕ) (g0 g1 g2 g3 : Bool) (m0 m1 m2 m3 : Level)
       → g0 ≡ eqb (get_or ls 0 d).price p → g1 ≡ cond g0 true (eqb (get_or ls 1 d).price p) → g2 ≡ cond g1 true (eqb (get_or ls 2 d).price p) → g3 ≡ cond g2 true (eqb (get_or ls 3 d).price p)
       → m0 ≡ cond g0 (get_or ls 1 d) (get_or ls 0 d) → m1 ≡ cond g1 (get_or ls 2 d) (get_or ls 1 d) → m2 ≡ cond g2 (get_or ls 3 d) (get_or ls 2 d) → m3 ≡ cond g3 no_level (get_or ls 3 d)
@@ -87,18 +138,6 @@ module _ (ls : List Level) (d : Level) (n : length ls ≡ 4) where
   unfolding without_of
   without_is p g0 g1 g2 g3 m0 m1 m2 m3 a0 a1 a2 a3 b0 b1 b2 b3 =
       sym (ap (without_of false p) (as-four ls d n) ∙ rw (← a0, ← a1, ← a2, ← a3, ← b0, ← b1, ← b2, ← b3))
-
-  pub holds-is : (p : ℕ) (h0 h1 h2 h3 : Bool) → h3 ≡ cond (eqb (get_or ls 3 d).price p) true false → h2 ≡ cond (eqb (get_or ls 2 d).price p) true h3
-      → h1 ≡ cond (eqb (get_or ls 1 d).price p) true h2 → h0 ≡ cond (eqb (get_or ls 0 d).price p) true h1 → h0 ≡ holds_of p ls
-  unfolding holds_of
-  holds-is p h0 h1 h2 h3 e3 e2 e1 e0 = sym (ap (holds_of p) (as-four ls d n) ∙ rw (← e3, ← e2, ← e1, ← e0))
-
-  pub replace-is : (x m0 m1 m2 m3 : Level)
-      → m0 ≡ cond (eqb (get_or ls 0 d).price x.price) x (get_or ls 0 d) → m1 ≡ cond (eqb (get_or ls 1 d).price x.price) x (get_or ls 1 d)
-      → m2 ≡ cond (eqb (get_or ls 2 d).price x.price) x (get_or ls 2 d) → m3 ≡ cond (eqb (get_or ls 3 d).price x.price) x (get_or ls 3 d)
-      → m0 ∷ m1 ∷ m2 ∷ m3 ∷ [] ≡ replaced_of x ls
-  unfolding replaced_of
-  replace-is x m0 m1 m2 m3 e0 e1 e2 e3 = sym (ap (replaced_of x) (as-four ls d n) ∙ rw (← e0, ← e1, ← e2, ← e3))
 
   -- four cells written in a row
   pub put_is : (p : List ℕ) (at : ℕ) →
@@ -135,20 +174,20 @@ read_is s p at a b c e w x y z ea eb ec ee ew ex ey ez =
 -- ---- one item
 
 module _ (s : Side) (t : ℕ) (i : Item) (l r : Levels) where
-  pub item-zero : i.shares ≡ 0 → r.cells ≡ without_of false i.price l.cells → passed r.cells ≡ with_item s t i l
+  pub item-zero : i.shares ≡ 0 → r.cells ≡ without_of false i.price l.cells → Ok r ≡ with_item s t i l
   unfolding with_item
   item-zero e f = rw (eq-eqb i.shares 0 e, ← f)
 
   module _ (k : Bool) (h : i.shares ≡ 0 → ⊥) (eh : k ≡ holds_of i.price l.cells) where
-    pub item-known : k ≡ true → r.cells ≡ replaced_of (level_of t i) l.cells → passed r.cells ≡ with_item s t i l
+    pub item-known : k ≡ true → r.cells ≡ replaced_of (level_of t i) l.cells → Ok r ≡ with_item s t i l
     unfolding with_item
     item-known e f = rw (ne_eqb i.shares 0 h, ← eh, e, ← f)
 
     module _ (over : Level) (e : k ≡ false) (ek : r.cells ≡ kept_of s (level_of t i) l.cells) (eo : over ≡ over_of s (level_of t i) l.cells) where
-      pub item-added : over.price ≡ 0 → passed r.cells ≡ with_item s t i l
+      pub item-added : over.price ≡ 0 → Ok r ≡ with_item s t i l
       unfolding with_item
       item-added q = rw (ne_eqb i.shares 0 h, ← eh, e, ← eo, eq-eqb over.price 0 q, ← ek)
 
-      pub item-full : (over.price ≡ 0 → ⊥) → ◌≡◌ {A = Changed} (record { judged = Refused 64; levels = l }) (with_item s t i l)
+      pub item-full : (over.price ≡ 0 → ⊥) → Err FifthLevel ≡ with_item s t i l
       unfolding with_item
       item-full q = rw (ne_eqb i.shares 0 h, ← eh, e, ← eo, ne_eqb over.price 0 q)

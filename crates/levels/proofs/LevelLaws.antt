@@ -4,7 +4,7 @@ use Prim.Native.Nat.{ℕ, suc, ◌≤◌, ◌<◌}
 use mathlib.Core.Path.{◌≡◌, refl, sym, ap}
 use mathlib.Core.Bool.{Bool, true, false, cond}
 use mathlib.Core.List.{List, [], ◌∷◌}
-use mathlib.Core.Option.{Option, none, some}
+use Rattle.std.specs.Prelude.{Option, None, Some}
 use native.Mathlib.Omega.{arith}
 use borrow.Author.Tests.{ltb-true, ltb-false, lt-ltb, eqb-true, eqb-false, ne_eqb}
 use lib.Dec.{ltb, eqb}
@@ -174,24 +174,24 @@ module _ (s : Side) (y : Level) where
 
 -- ---- one item
 
-pub none-some : {A B : Type 0} (a : A) → none ≡ some a → B
+pub none-some : {A B : Type 0} (a : A) → None ≡ Some a → B
 none-some a e = clash (cc)
 
 module _ (s : Side) (t : ℕ) (i : Item) (ls : List Level) where
   -- an item that is taken removes its price, or puts it in where at most three others stand
-  pub item-elim : (P : List Level → Type 0) (ms : List Level) → item_on s t i ls ≡ some ms
+  pub item-elim : (P : List Level → Type 0) (ms : List Level) → item_on s t i ls ≡ Some ms
       → (eqb i.shares 0 ≡ true → P (without i.price ls))
       → (eqb i.shares 0 ≡ false → length (without i.price ls) < 4 → P (insert s (level_of t i) (without i.price ls))) → P ms
   unfolding item_on
   item-elim P ms e hit miss = go (eqb i.shares 0) refl (ltb (length (without i.price ls)) 4) refl e
     where
       go : (a : Bool) → eqb i.shares 0 ≡ a → (b : Bool) → ltb (length (without i.price ls)) 4 ≡ b
-          → cond a (some (without i.price ls)) (cond b (some (insert s (level_of t i) (without i.price ls))) none) ≡ some ms → P ms
+          → cond a (Some (without i.price ls)) (cond b (Some (insert s (level_of t i) (without i.price ls))) None) ≡ Some ms → P ms
       go true x b w e = let q : without i.price ls ≡ ms = cc in rw (sym q) (hit x)
       go false x true w e = let q : insert s (level_of t i) (without i.price ls) ≡ ms = cc in rw (sym q) (miss x (ltb-true (length (without i.price ls)) 4 w))
       go false x false w e = none-some ms e
 
-  module _ (ms : List Level) (e : item_on s t i ls ≡ some ms) where
+  module _ (ms : List Level) (e : item_on s t i ls ≡ Some ms) where
     pub item-short : length ls ≤ 4 → length ms ≤ 4
     item-short h =
         item-elim (λ l. length l ≤ 4) ms e (λ z. omega (arith, without-short i.price ls)) (λ z n. omega (arith, insert-length s (level_of t i) (without i.price ls)))
@@ -214,21 +214,21 @@ abbrev pub ItemsGood : ℕ → List Item → Type 0
 ItemsGood t [] = Unit {0}
 ItemsGood t (i ∷ is) = ItemGood t i × ItemsGood t is
 
-pub item-good : (s : Side) (t : ℕ) (i : Item) (ls ms : List Level) → ItemGood t i → SideGood s ls → item_on s t i ls ≡ some ms → SideGood s ms
+pub item-good : (s : Side) (t : ℕ) (i : Item) (ls ms : List Level) → ItemGood t i → SideGood s ls → item_on s t i ls ≡ Some ms → SideGood s ms
 item-good s t i ls ms g k e = record {
   ranked = item-ranked s t i ls ms e g.priced k.ranked;
   fit = item-fit s t i ls ms e g.fits k.fit;
   short = item-short s t i ls ms e k.short;
 }
 
-pub items-good : (s : Side) (t : ℕ) (is : List Item) (ls ms : List Level) → ItemsGood t is → SideGood s ls → items_on s t is ls ≡ some ms → SideGood s ms
+pub items-good : (s : Side) (t : ℕ) (is : List Item) (ls ms : List Level) → ItemsGood t is → SideGood s ls → items_on s t is ls ≡ Some ms → SideGood s ms
 unfolding items_on
 items-good s t [] ls ms g k e = let q : ls ≡ ms = cc in rw (sym q) k
 items-good s t (i ∷ is) ls ms g k e = go (item_on s t i ls) refl (λ l. items-good s t is l ms g.1) e
   where
-    go : (o : Option (List Level)) → item_on s t i ls ≡ o → ((l : List Level) → SideGood s l → items_on s t is l ≡ some ms → SideGood s ms) → bind_option o (items_on s t is) ≡ some ms → SideGood s ms
-    go none x down e = none-some ms e
-    go (some l) x down e = down l (item-good s t i ls l g.0 k x) e
+    go : (o : Option (List Level)) → item_on s t i ls ≡ o → ((l : List Level) → SideGood s l → items_on s t is l ≡ Some ms → SideGood s ms) → bind_option o (items_on s t is) ≡ Some ms → SideGood s ms
+    go None x down e = none-some ms e
+    go (Some l) x down e = down l (item-good s t i ls l g.0 k x) e
 
 -- ---- the part
 
@@ -245,16 +245,16 @@ pub record OddGood (o : Odd) : Type 0 where
   pub offers : ItemsGood o.time o.offers
 
 -- a part keeps both sides good
-pub odd-good : (o : Odd) (v w : Standing) → OddGood o → LevelsGood v → odd_on o v ≡ some w → LevelsGood w
+pub odd-good : (o : Odd) (v w : Standing) → OddGood o → LevelsGood v → odd_on o v ≡ Some w → LevelsGood w
 unfolding odd_on
 odd-good o v w g k e = go (items_on Bid o.time o.bids (cleared_by o.mark Bid v.bids)) refl (items_on Offer o.time o.offers (cleared_by o.mark Offer v.offers)) refl e
   where
     go : (x : Option (List Level)) → items_on Bid o.time o.bids (cleared_by o.mark Bid v.bids) ≡ x
         → (y : Option (List Level)) → items_on Offer o.time o.offers (cleared_by o.mark Offer v.offers) ≡ y
-        → bind_option x (λ b. map_option (λ a. record { bids = b; offers = a }) y) ≡ some w → LevelsGood w
-    go none x y f e = none-some w e
-    go (some b) x none f e = none-some w e
-    go (some b) x (some a) f e =
+        → bind_option x (λ b. map_option (λ a. record { bids = b; offers = a }) y) ≡ Some w → LevelsGood w
+    go None x y f e = none-some w e
+    go (Some b) x None f e = none-some w e
+    go (Some b) x (Some a) f e =
         let q : ◌≡◌ {A = Standing} (record { bids = b; offers = a }) w = cc in
         rw (sym q)
         (record {
@@ -266,5 +266,5 @@ pub odd-good-levels : (o : Odd) (v : Standing) → OddGood o → LevelsGood v �
 odd-good-levels o v g k = go (odd_on o v) refl
   where
     go : (x : Option Standing) → odd_on o v ≡ x → LevelsGood (or_else x v)
-    go none e = k
-    go (some w) e = odd-good o v w g k e
+    go None e = k
+    go (Some w) e = odd-good o v w g k e

@@ -4,7 +4,7 @@ use Prim.Native.Nat.{ℕ, zero, suc, ◌≤◌, ◌<◌}
 use mathlib.Core.Path.{◌≡◌, refl, sym, ap, ◌∙◌}
 use mathlib.Core.Bool.{Bool, true, false, cond}
 use mathlib.Core.List.{List, [], ◌∷◌}
-use mathlib.Core.Option.{Option, none, some}
+use Rattle.std.specs.Prelude.{Option, None, Some, Result, Err}
 use native.Mathlib.Omega.{arith}
 use borrow.Author.Tests.{ltb-true, ltb-false, lt-ltb, le-ltb, eqb-false, ne_eqb}
 use lib.Dec.{ltb, eqb}
@@ -18,8 +18,8 @@ use Rattle.quote.specs.Quote.{no_level}
 use Rattle.levels.specs.declared.Levels.{Levels}
 use Rattle.levels.specs.declared.Item.{Item}
 use Rattle.levels.specs.declared.Pair.{Pair}
-use Rattle.levels.specs.declared.Changed.{Changed}
-use Rattle.levels.specs.declared.Judged.TheVariants.{Refused}
+use Rattle.numbers.specs.declared.Rejection.{Rejection}
+use Rattle.numbers.specs.declared.Rejection.TheVariants.{FifthLevel}
 use Rattle.levels.specs.Levels.{without, insert, item_on, empty_cell, ranked}
 use Rattle.levels.specs.code.Cells.{padded_cells, cells_of, leads, standing, standing_behind, ordered_of, kept_of, over_of, head_or, without_of, holds_of, replaced_of, passed, level_of, with_item}
 use Rattle.levels.proofs.LevelLaws.{Behind, Ranked, Lacks, cell-priced, behind-lacks, without-none, without-short, insert-front}
@@ -49,7 +49,7 @@ unfolding read_behind standing_behind leads padded_cells
 read_none s [] = refl
 read_none s (x ∷ xs) = ap (λ (l : List Level). no_level ∷ l) (read_none s xs)
 
-read-behind : (s : Side) (y : Level) (xs : List Level) → eqb y.price 0 ≡ false → read_behind s y xs ≡ padded_cells (length xs) (ranked s (some y) xs)
+read-behind : (s : Side) (y : Level) (xs : List Level) → eqb y.price 0 ≡ false → read_behind s y xs ≡ padded_cells (length xs) (ranked s (Some y) xs)
 unfolding read_behind standing_behind standing padded_cells ranked
 read-behind s y [] z = refl
 read-behind s y (x ∷ xs) z = go (read-behind s x xs) (empty_cell x) refl (leads s y.price x.price) refl
@@ -58,19 +58,19 @@ read-behind s y (x ∷ xs) z = go (read-behind s x xs) (empty_cell x) refl (lead
     none_here true = refl
     none_here false = refl
 
-    go : (eqb x.price 0 ≡ false → read_behind s x xs ≡ padded_cells (length xs) (ranked s (some x) xs)) → (a : Bool) → empty_cell x ≡ a → (b : Bool) → leads s y.price x.price ≡ b
+    go : (eqb x.price 0 ≡ false → read_behind s x xs ≡ padded_cells (length xs) (ranked s (Some x) xs)) → (a : Bool) → empty_cell x ≡ a → (b : Bool) → leads s y.price x.price ≡ b
         → cond b (cond a no_level x) no_level ∷ read_behind s (cond b (cond a no_level x) no_level) xs
-        ≡ padded_cells (suc (length xs)) (cond a [] (cond (ahead s y.price x.price) (x ∷ ranked s (some x) xs) []))
+        ≡ padded_cells (suc (length xs)) (cond a [] (cond (ahead s y.price x.price) (x ∷ ranked s (Some x) xs) []))
     go down true e b f = rw (none_here b) (ap (λ (l : List Level). no_level ∷ l) (read_none s xs))
     go down false e true f = rw (sym (leads-ahead s y.price x.price z (cell-priced x e)) ∙ f) (ap (λ (l : List Level). x ∷ l) (down (cell-priced x e)))
     go down false e false f = rw (sym (leads-ahead s y.price x.price z (cell-priced x e)) ∙ f) (ap (λ (l : List Level). no_level ∷ l) (read_none s xs))
 
 pub read-four : (s : Side) (a b c d : Level)
-    → (let x = standing a in let y = standing_behind s x b in let z = standing_behind s y c in x ∷ y ∷ z ∷ standing_behind s z d ∷ []) ≡ cells_of (ranked s none (a ∷ b ∷ c ∷ d ∷ []))
+    → (let x = standing a in let y = standing_behind s x b in let z = standing_behind s y c in x ∷ y ∷ z ∷ standing_behind s z d ∷ []) ≡ cells_of (ranked s None (a ∷ b ∷ c ∷ d ∷ []))
 unfolding read_behind standing ranked padded_cells
 read-four s a b c d = go (empty_cell a) refl
   where
-    go : (t : Bool) → empty_cell a ≡ t → cond t no_level a ∷ read_behind s (cond t no_level a) (b ∷ c ∷ d ∷ []) ≡ padded_cells 4 (cond t [] (a ∷ ranked s (some a) (b ∷ c ∷ d ∷ [])))
+    go : (t : Bool) → empty_cell a ≡ t → cond t no_level a ∷ read_behind s (cond t no_level a) (b ∷ c ∷ d ∷ []) ≡ padded_cells 4 (cond t [] (a ∷ ranked s (Some a) (b ∷ c ∷ d ∷ [])))
     go true e = ap (λ (l : List Level). no_level ∷ l) (read_none s (b ∷ c ∷ d ∷ []))
     go false e = ap (λ (l : List Level). a ∷ l) (read-behind s a (b ∷ c ∷ d ∷ []) (cell-priced a e))
 
@@ -220,22 +220,22 @@ over-full s x (suc k) (y ∷ ys) n h r = go (leads s x.price y.price) refl (over
 
 -- ---- one item
 
--- the levels after an item or a part as cells, or the refusal with the old ones
-abbrev pub side_answer : Levels → Option (List Level) → Changed
-side_answer old none = record { judged = Refused 64; levels = old }
-side_answer old (some ms) = passed (cells_of ms)
+-- the levels after an item or a part as cells, or the rejection
+abbrev pub side_answer : Option (List Level) → Result Levels Rejection
+side_answer None = Err FifthLevel
+side_answer (Some ms) = passed (cells_of ms)
 
 module _ (s : Side) (t : ℕ) where
   item-new : (i : Item) (ls : List Level) → eqb i.price 0 ≡ false → Ranked s ls → (b : Bool) → ltb (length ls) 4 ≡ b
-      → cond (eqb (over_of s (level_of t i) (cells_of ls)).price 0) (passed (kept_of s (level_of t i) (cells_of ls))) (record { judged = Refused 64; levels = record { cells = cells_of ls } })
-      ≡ side_answer (record { cells = cells_of ls }) (cond b (some (insert s (level_of t i) ls)) none)
+      → cond (eqb (over_of s (level_of t i) (cells_of ls)).price 0) (passed (kept_of s (level_of t i) (cells_of ls))) (Err FifthLevel)
+      ≡ side_answer (cond b (Some (insert s (level_of t i) ls)) None)
   item-new i ls n r true f =
       let k : (kept_of s (level_of t i) (cells_of ls) ≡ cells_of (insert s (level_of t i) ls)) × (over_of s (level_of t i) (cells_of ls) ≡ no_level) =
       kept-cells s (level_of t i) 4 ls n (ltb-true (length ls) 4 f) r in
       rw (k.1, k.0)
   item-new i ls n r false f = rw (over-full s (level_of t i) 4 ls n (ltb-false (length ls) 4 f) r)
 
-  pub item-cells : (i : Item) (ls : List Level) → eqb i.price 0 ≡ false → length ls ≤ 4 → Ranked s ls → with_item s t i (record { cells = cells_of ls }) ≡ side_answer (record { cells = cells_of ls }) (item_on s t i ls)
+  pub item-cells : (i : Item) (ls : List Level) → eqb i.price 0 ≡ false → length ls ≤ 4 → Ranked s ls → with_item s t i (record { cells = cells_of ls }) ≡ side_answer (item_on s t i ls)
   unfolding with_item item_on
   item-cells i ls n h r = rw (holds-cells i.price z 4 ls h) (go (eqb i.shares 0) (holds_of i.price ls) refl)
     where
@@ -245,8 +245,8 @@ module _ (s : Side) (t : ℕ) where
       go : (a b : Bool) → holds_of i.price ls ≡ b
           → cond a (passed (without_of false i.price (cells_of ls)))
           (cond b (passed (replaced_of (level_of t i) (cells_of ls)))
-          (cond (eqb (over_of s (level_of t i) (cells_of ls)).price 0) (passed (kept_of s (level_of t i) (cells_of ls))) (record { judged = Refused 64; levels = record { cells = cells_of ls } })))
-          ≡ side_answer (record { cells = cells_of ls }) (cond a (some (without i.price ls)) (cond (ltb (length (without i.price ls)) 4) (some (insert s (level_of t i) (without i.price ls))) none))
+          (cond (eqb (over_of s (level_of t i) (cells_of ls)).price 0) (passed (kept_of s (level_of t i) (cells_of ls))) (Err FifthLevel)))
+          ≡ side_answer (cond a (Some (without i.price ls)) (cond (ltb (length (without i.price ls)) 4) (Some (insert s (level_of t i) (without i.price ls))) None))
       go true b f = ap passed (without-cells i.price z s 4 ls h r)
       go false true f =
           rw (lt-ltb (length (without i.price ls)) 4 (omega (arith, held-shorter i.price ls f)))

@@ -3,7 +3,7 @@
 use mathlib.Core.Path.{◌≡◌, refl}
 use mathlib.Core.Bool.{Bool, true, false, ◌||◌, cond}
 use mathlib.Core.List.{List, [], ◌∷◌}
-use mathlib.Core.Option.{Option, none, some}
+use Rattle.std.specs.Prelude.{Option, None, Some}
 use Rattle.lists.specs.Lists.{or_else, bind_option, map_option}
 use Rattle.lists.proofs.Tests.{clash}
 use Rattle.ranking.specs.declared.Side.{Side}
@@ -25,11 +25,11 @@ unfolding odd_on
 odd-runs o v = refl
 
 -- an untouched side keeps its levels
-pub still : (s : Side) (o : Odd) (v : Standing) → touches o s ≡ false → side_run s o v ≡ some (side_levels s v)
+pub still : (s : Side) (o : Odd) (v : Standing) → touches o s ≡ false → side_run s o v ≡ Some (side_levels s v)
 unfolding touches cleared_by items_on
 still s o v = go (clears o.mark s) (side_items s o)
   where
-    go : (c : Bool) (is : List Item) → c || named is ≡ false → items_on s o.time is (cond c [] (side_levels s v)) ≡ some (side_levels s v)
+    go : (c : Bool) (is : List Item) → c || named is ≡ false → items_on s o.time is (cond c [] (side_levels s v)) ≡ Some (side_levels s v)
     go true is e = clash e
     go false [] e = refl
     go false (i ∷ is) e = clash e
@@ -37,11 +37,11 @@ still s o v = go (clears o.mark s) (side_items s o)
 pub odd-untouched : (o : Odd) (v : Standing) (s : Side) → touches o s ≡ false → side_levels s (or_else (odd_on o v) v) ≡ side_levels s v
 odd-untouched o v Bid e = rw (odd-runs o v, still Bid o v e) (go (side_run Offer o v))
   where
-    go : (y : Option (List Level)) → (or_else (both_run (some v.bids) y) v).bids ≡ v.bids
-    go none = refl
-    go (some a) = refl
+    go : (y : Option (List Level)) → (or_else (both_run (Some v.bids) y) v).bids ≡ v.bids
+    go None = refl
+    go (Some a) = refl
 odd-untouched o v Offer e = rw (odd-runs o v, still Offer o v e) (go (side_run Bid o v))
   where
-    go : (x : Option (List Level)) → (or_else (both_run x (some v.offers)) v).offers ≡ v.offers
-    go none = refl
-    go (some b) = refl
+    go : (x : Option (List Level)) → (or_else (both_run x (Some v.offers)) v).offers ≡ v.offers
+    go None = refl
+    go (Some b) = refl

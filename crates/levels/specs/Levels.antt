@@ -1,7 +1,6 @@
 -- The odd-lot levels of one letter, and what an odd part does to them (document 01, "Odd part" and numbers 60 to 64).
 -- Assumes nothing.
-use Rattle.std.specs.Prelude.{ℕ, zero, suc, ◌+◌, ◌*◌, Bool, true, false, ◌&&◌, ◌||◌, cond, List, [], ◌∷◌, ◌++◌, ltb, leb, eqb, length, take, drop, replicate}
-use Rattle.std.proofs.Math.Option.{Option, none, some}
+use Rattle.std.specs.Prelude.{ℕ, zero, suc, ◌+◌, ◌*◌, Bool, true, false, ◌&&◌, ◌||◌, cond, List, [], ◌∷◌, ◌++◌, ltb, leb, eqb, length, take, drop, replicate, Option, None, Some}
 use Rattle.field.specs.Field.{part, field}
 use Rattle.field.specs.Ascii.{B, S, X, space}
 use Rattle.lists.specs.Lists.{member, bind_option, map_option}
@@ -46,14 +45,14 @@ insert s y (x ∷ xs) = cond (ahead s y.price x.price) (y ∷ x ∷ xs) (x ∷ i
 -- "Zero shares remove the level of that price, if any; a known price is replaced; another is added." None: it would make a fifth level
 unfoldable pub item_on : Side → ℕ → Item → List Level → Option (List Level)
 item_on s t i ls =
-    cond (eqb i.shares 0) (some (without i.price ls))
+    cond (eqb i.shares 0) (Some (without i.price ls))
     (cond (ltb (length (without i.price ls)) 4)
-    (some (insert s (record { price = i.price; size = i.shares; time = t }) (without i.price ls)))
-    none)
+    (Some (insert s (record { price = i.price; size = i.shares; time = t }) (without i.price ls)))
+    None)
 
 -- each item in order
 unfoldable pub items_on : Side → ℕ → List Item → List Level → Option (List Level)
-items_on s t [] ls = some ls
+items_on s t [] ls = Some ls
 items_on s t (i ∷ is) ls = bind_option (item_on s t i ls) (items_on s t is)
 
 -- ---- the part
@@ -105,8 +104,8 @@ odd_bad lot o =
 
 -- "only then 64 an item, when its turn comes, would make a fifth level"
 abbrev pub fifth : Option Standing → ℕ
-fifth none = 64
-fifth (some v) = 0
+fifth None = 64
+fifth (Some v) = 0
 
 -- the code of an odd part: 0, or 60 to 64
 unfoldable pub odd_code : ℕ → Standing → Odd → ℕ
@@ -146,16 +145,16 @@ abbrev pub empty_cell : Level → Bool
 empty_cell x = cond (eqb x.price 0) true (eqb x.size 0)
 
 abbrev pub behind : Side → Option Level → Level → Bool
-behind s none x = true
-behind s (some y) x = ahead s y.price x.price
+behind s None x = true
+behind s (Some y) x = ahead s y.price x.price
 
 -- the reading of a side: the cells before the first one that is empty (price 0 or shares 0) or does not rank strictly behind the cell before it
 unfoldable pub ranked : Side → Option Level → List Level → List Level
 ranked s y [] = []
-ranked s y (x ∷ xs) = cond (empty_cell x) [] (cond (behind s y x) (x ∷ ranked s (some x) xs) [])
+ranked s y (x ∷ xs) = cond (empty_cell x) [] (cond (behind s y x) (x ∷ ranked s (Some x) xs) [])
 
 unfoldable pub side_in : Side → List ℕ → List Level
-side_in s b = ranked s none (cells_in 4 b)
+side_in s b = ranked s None (cells_in 4 b)
 
 -- bids, then offers
 unfoldable pub levels_in : List ℕ → Standing

@@ -4,8 +4,9 @@
 ghost use Rattle.std.specs.Prelude.{◌≡◌, true, false, cond, ◌+◌, ◌*◌, ◌≤◌, eqb, length};
 ghost use Rattle.field.specs.Field.{part, splice};
 ghost use Rattle.levels.specs.Levels.{side_in, item_at, item_length, side_length};
-ghost use Rattle.levels.specs.code.Cells.{leads, standing, standing_behind, cells_of, joined_levels, ordered_of, kept_of, over_of, without_of, holds_of, replaced_of, passed, with_item, judged_number};
+ghost use Rattle.levels.specs.code.Cells.{leads, standing, standing_behind, cells_of, joined_levels, ordered_of, kept_of, over_of, without_of, holds_of, replaced_of, with_item};
 
+use numbers::Rejection;
 use quote::Level;
 use ranking::Side;
 
@@ -22,30 +23,6 @@ pub struct Item {
     pub shares: u32,
 }
 
-/// What judging gives: a pass, or the number of the refusal (60 to 64).
-#[derive(Clone, Copy)]
-pub enum Judged {
-    Pass,
-    Refused(u8),
-}
-
-/// The number of a judgement: 0 for a pass.
-pub fn number(judged: Judged) -> u8
-    ensures { result ≡ judged_number judged }
-{
-    match judged {
-        Judged::Pass => 0,
-        Judged::Refused(number) => number,
-    }
-}
-
-/// The changed levels with a pass, or the old ones with a refusal.
-#[derive(Clone, Copy)]
-pub struct Changed {
-    pub judged: Judged,
-    pub levels: Levels,
-}
-
 // Two levels, the one that ranks first, then the other.
 #[derive(Clone, Copy)]
 struct Pair {
@@ -58,18 +35,6 @@ struct Pair {
 struct Inserted {
     levels: Levels,
     over: Level,
-}
-
-impl Changed {
-    /// A pass with these levels.
-    pub fn pass(levels: Levels) -> Changed
-        ensures { result ≡ passed levels.cells }
-    {
-        Changed {
-            judged: Judged::Pass,
-            levels,
-        }
-    }
 }
 
 impl Item {
@@ -103,6 +68,7 @@ impl Levels {
         requires { at + side_length ≤ length page.now }
         ensures { result.cells ≡ cells_of (side_in side (part page.now at side_length)) }
     {
+        // four places of the format, each read against the one before it: a loop would count the same offsets
         let a = standing(Level::get(page, at));
         let b = standing_behind(side, a, Level::get(page, at + Level::LEN));
         let c = standing_behind(side, b, Level::get(page, at + 2 * Level::LEN));
@@ -116,11 +82,8 @@ impl Levels {
         requires { at + side_length ≤ length page.old }
         ensures { page.new ≡ splice page.old at (joined_levels self.cells) }
     {
-        let cells = self.cells;
-        let a = cells[0];
-        let b = cells[1];
-        let c = cells[2];
-        let d = cells[3];
+        // four places of the format
+        let [a, b, c, d] = self.cells;
         a.put(page, at);
         b.put(page, at + Level::LEN);
         c.put(page, at + 2 * Level::LEN);
@@ -131,6 +94,7 @@ impl Levels {
     fn without(self, price: u64) -> Levels
         ensures { result.cells ≡ without_of false price self.cells }
     {
+        // written out: a cell takes the one behind it, and the last has none
         let c = self.cells;
         let g0 = is_gone(false, c[0].price, price);
         let g1 = is_gone(g0, c[1].price, price);
@@ -149,24 +113,19 @@ impl Levels {
     fn holds(self, price: u64) -> bool
         ensures { result ≡ holds_of price self.cells }
     {
-        let c = self.cells;
-        let h3 = is_held(c[3].price, price, false);
-        let h2 = is_held(c[2].price, price, h3);
-        let h1 = is_held(c[1].price, price, h2);
-        is_held(c[0].price, price, h1)
+        self.cells.iter().any(|level| level.price == price)
     }
 
     // The cells with x in place of the level of its price.
     fn replace(self, x: Level) -> Levels
         ensures { result.cells ≡ replaced_of x self.cells }
     {
-        let c = self.cells;
-        let cells = [
-            renewed(x, c[0]),
-            renewed(x, c[1]),
-            renewed(x, c[2]),
-            renewed(x, c[3]),
-        ];
+        let mut cells = self.cells;
+        for cell in cells.iter_mut() {
+            if cell.price == x.price {
+                *cell = x;
+            }
+        }
         Levels { cells }
     }
 
@@ -174,27 +133,23 @@ impl Levels {
     fn insert(self, side: Side, x: Level) -> Inserted
         ensures { (result.levels.cells ≡ kept_of side x self.cells) × (result.over ≡ over_of side x self.cells) }
     {
-        let c = self.cells;
-        let p0 = ordered(side, x, c[0]);
-        let p1 = ordered(side, p0.second, c[1]);
-        let p2 = ordered(side, p1.second, c[2]);
-        let p3 = ordered(side, p2.second, c[3]);
-        let a = p0.first;
-        let b = p1.first;
-        let d = p2.first;
-        let e = p3.first;
-        let cells = [a, b, d, e];
-        let over = p3.second;
+        let mut cells = self.cells;
+        let mut over = x;
+        for cell in cells.iter_mut() {
+            let pair = ordered(side, over, *cell);
+            *cell = pair.first;
+            over = pair.second;
+        }
         let levels = Levels { cells };
         Inserted { levels, over }
     }
 
-    /// The levels with one item taken: zero shares remove the level of its price, a known price is replaced, another is added, or refused with 64 where four stand.
-    pub fn with_item(self, side: Side, item: Item, time: u64) -> Changed
+    /// The levels with one item taken: zero shares remove the level of its price, a known price is replaced, another is added, or rejected with 64 where four stand.
+    pub fn with_item(self, side: Side, item: Item, time: u64) -> Result<Levels, Rejection>
         ensures { result ≡ with_item side time item self }
     {
         if item.shares == 0 {
-            return Changed::pass(self.without(item.price));
+            return Ok(self.without(item.price));
         }
         let x = Level {
             price: item.price,
@@ -202,16 +157,13 @@ impl Levels {
             time,
         };
         if self.holds(item.price) {
-            return Changed::pass(self.replace(x));
+            return Ok(self.replace(x));
         }
         let put = self.insert(side, x);
         if put.over.price == 0 {
-            return Changed::pass(put.levels);
+            return Ok(put.levels);
         }
-        Changed {
-            judged: Judged::Refused(64),
-            levels: self,
-        }
+        Err(Rejection::FifthLevel)
     }
 }
 
@@ -226,10 +178,7 @@ fn is_ahead(side: Side, first: u64, second: u64) -> bool
 fn standing(cell: Level) -> Level
     ensures { result ≡ standing cell }
 {
-    if cell.price == 0 {
-        return Level::NONE;
-    }
-    if cell.size == 0 {
+    if cell.price == 0 || cell.size == 0 {
         return Level::NONE;
     }
     cell
@@ -273,27 +222,5 @@ fn moved_up(gone: bool, here: Level, behind: Level) -> Level
 fn is_gone(gone: bool, here: u64, price: u64) -> bool
     ensures { result ≡ cond gone true (eqb here price) }
 {
-    if gone {
-        return true;
-    }
-    here == price
-}
-
-// Whether this is the level of a price, or one behind it is.
-fn is_held(here: u64, price: u64, behind: bool) -> bool
-    ensures { result ≡ cond (eqb here price) true behind }
-{
-    if here == price {
-        return true;
-    }
-    behind
-}
-
-fn renewed(x: Level, here: Level) -> Level
-    ensures { result ≡ cond (eqb here.price x.price) x here }
-{
-    if here.price == x.price {
-        return x;
-    }
-    here
+    gone || here == price
 }

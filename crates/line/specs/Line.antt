@@ -1,13 +1,11 @@
 -- A block on its line: its number, and the line after it (document 01, "Block" and the line's numbers).
 -- Assumes nothing.
-use Rattle.std.specs.Prelude.{ℕ, Bool, true, cond, List, eqb}
-use Rattle.std.proofs.Math.Option.{Option, none, some}
+use Rattle.std.specs.Prelude.{ℕ, Bool, true, cond, List, eqb, Option, None, Some, Result, Ok, Err}
 use Rattle.block.specs.Block.{count_in, sequence_in, checked, idle_block}
 use Rattle.block.specs.Sequence.{arrival_of}
-use Rattle.block.specs.declared.Checked.{Checked}
-use Rattle.block.specs.declared.Checked.TheVariants as checks
+use Rattle.numbers.specs.declared.Refusal.{Refusal}
+use Rattle.numbers.specs.Numbers.{number_of}
 use Rattle.block.specs.declared.Arrival.{Arrival}
-use Rattle.block.specs.declared.Arrival.TheVariants.{Taken, Duplicate}
 use Rattle.opening.specs.declared.Line.{Line}
 use Rattle.field.specs.Field.{splice}
 use Rattle.allowance.specs.Allowance.{charged_to}
@@ -17,25 +15,25 @@ use Rattle.opening.specs.Layout.{line_at}
 -- ---- a block's number
 
 -- 20, 35, 86; else 0 or 70: after checks 30 to 34, on an open line; used: share and spare are used (T-14)
-abbrev pub arrival_number_of : Bool → Arrival → ℕ
-arrival_number_of used (Taken gap next) = cond used 86 (cond (eqb gap 0) 0 70)
-arrival_number_of used Duplicate = 35
+abbrev pub arrival_number_of : Bool → Option Arrival → ℕ
+arrival_number_of used (Some a) = cond used 86 (cond (eqb a.gap 0) 0 70)
+arrival_number_of used None = 35
 
 -- "Blocks of C I, C T and C 5 are free and skip 86"
 unfoldable pub line_number : Line → Bool → Bool → List ℕ → ℕ
 line_number r day used b = cond (idle_block b) 0 (cond day (arrival_number_of used (arrival_of (sequence_in b) r.expected (count_in b))) 20)
 
-abbrev pub checked_number_of : Line → Bool → Bool → List ℕ → Checked → ℕ
-checked_number_of r day used b (checks.Pass c) = line_number r day used b
-checked_number_of r day used b (checks.Refused k) = k
+abbrev pub checked_number_of : Line → Bool → Bool → List ℕ → Result ℕ Refusal → ℕ
+checked_number_of r day used b (Ok c) = line_number r day used b
+checked_number_of r day used b (Err k) = number_of k
 
 unfoldable pub block_number : Line → Bool → Bool → List ℕ → ℕ
 block_number r day used b = checked_number_of r day used b (checked b)
 
 -- 21, then the block
 abbrev pub on_line : Bool → Bool → List ℕ → Option Line → ℕ
-on_line day used b none = 21
-on_line day used b (some r) = block_number r day used b
+on_line day used b None = 21
+on_line day used b (Some r) = block_number r day used b
 
 -- 0 and 70: the call is done
 unfoldable pub done : ℕ → Bool
@@ -43,13 +41,13 @@ done k = cond (eqb k 0) true (eqb k 70)
 
 -- ---- the line after a taken block
 
-abbrev pub gap_by : Arrival → ℕ
-gap_by (Taken gap next) = gap
-gap_by Duplicate = 0
+abbrev pub gap_by : Option Arrival → ℕ
+gap_by (Some a) = a.gap
+gap_by None = 0
 
-abbrev pub next_by : ℕ → Arrival → ℕ
-next_by expected (Taken gap next) = next
-next_by expected Duplicate = expected
+abbrev pub next_by : ℕ → Option Arrival → ℕ
+next_by expected (Some a) = a.next
+next_by expected None = expected
 
 -- d of a taken block: "Blocks whose message is C I, C T or C 5 .. report d as 0"
 unfoldable pub gap_told : Line → List ℕ → ℕ

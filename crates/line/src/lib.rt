@@ -1,87 +1,115 @@
 // A block on its line: the checks before its messages are worked, and the line's record after it.
 #![tactic(auto)]
 
-ghost use Rattle.std.specs.Prelude.{◌≡◌, cond, eqb, ◌≤◌, ◌<◌, length};
+ghost use Rattle.std.specs.Prelude.{◌≡◌, cond, eqb, ◌≤◌, ◌<◌, length, Ok, Some, None};
 ghost use Rattle.block.specs.Block.{checked};
 ghost use Rattle.allowance.specs.Allowance.{is_used_up};
 ghost use Rattle.opening.specs.Opening.{allowance_on};
 ghost use Rattle.opening.specs.Layout.{line_count, opening_length};
 ghost use Rattle.line.specs.Line.{block_number, settled};
-ghost use Rattle.line.specs.code.Gate.{gate_by, gate_of};
+ghost use Rattle.line.specs.code.Gate.{gate_by, gate_of, gate_told};
 
-use block::{Arrival, Block, Checked};
-use opening::{Book, Line, LineState};
+use block::{Arrival, Block};
+use numbers::Refusal;
+use opening::{Book, Line};
 
-/// What the checks of a block call give.
+/// A block that is taken: its number, 0 or 70, the gap, the count of messages, the line's record after it, and whether it is free (C I, C T,
+/// C 5).
 #[derive(Clone, Copy)]
-pub enum Gate {
-    /// Refused, before a line is known: 1, 9, 21.
-    Bare(u8),
-    /// Refused, with the line as it stands.
-    Refused(u8, Line),
-    /// Taken, with 0 or 70: the gap, the count of messages, the line's record after the block, and whether it is free (C I, C T, C 5).
-    Taken {
-        number: u8,
-        gap: u32,
-        count: usize,
-        next: Line,
-        free: bool,
-    },
+pub struct Taken {
+    // 0 and 70 are no refusals
+    pub number: u8,
+    pub gap: u32,
+    pub count: usize,
+    pub next: Line,
+    pub free: bool,
+}
+
+/// A block that is refused: why, and the line as it stands; none where no line is known yet (1, 9, 21).
+#[derive(Clone, Copy)]
+pub struct Stopped {
+    pub refusal: Refusal,
+    pub line: Option<Line>,
+}
+
+impl Stopped {
+    fn bare(refusal: Refusal) -> Stopped
+        ensures { result ≡ record { refusal = refusal; line = None } }
+    {
+        Stopped {
+            refusal,
+            line: None,
+        }
+    }
+
+    fn on(line: Line, refusal: Refusal) -> Stopped
+        ensures { result ≡ record { refusal = refusal; line = Some line } }
+    {
+        Stopped {
+            refusal,
+            line: Some(line),
+        }
+    }
 }
 
 /// The checks of a block call, in their order: 1, 9, 21, those of the block, 20, 35, 86.
-pub fn judge(book: &[u8], line: u32, block: &[u8], room: usize) -> Gate
-    ensures { result ≡ gate_of book.now line block.now room }
+pub fn judge(book: &[u8], line: u32, block: &[u8], room: usize) -> Result<Taken, Stopped>
+    ensures { gate_told result ≡ gate_of book.now line block.now room }
 {
-    if opening::is_sound(book) {
-        if room < Block::ANSWER_LEN {
-            return Gate::Bare(9);
-        }
-        let state = opening::line_state(book, line);
-        let LineState::Open(old) = state else {
-            return Gate::Bare(21);
-        };
-        let checked = block::check_block(block);
-        let Checked::Pass(c) = checked else {
-            return Gate::Refused(block::number(checked), old);
-        };
-        return admit(book, line, old, field::get8(book, Book::DAY) == 1, block, c);
+    if !opening::is_sound(book) {
+        return Err(Stopped::bare(Refusal::NoBook));
     }
-    Gate::Bare(1)
+    if room < Block::ANSWER_LEN {
+        return Err(Stopped::bare(Refusal::BufferShort));
+    }
+    let old = opening::line_state(book, line).ok_or(Stopped::bare(Refusal::LineNotOpen))?;
+    let checked = block::check_block(block);
+    // a match: what a closure of `map_err` gives has no name that the proof can use
+    match checked {
+        Err(refusal) => Err(Stopped::on(old, refusal)),
+        Ok(c) => admit(book, line, old, field::get8(book, Book::DAY) == 1, block, c),
+    }
 }
 
 // Checks 20, 35 and 86 of a block that passed its own, and the line's record after it.
-fn admit(book: &[u8], line: u32, old: Line, day: bool, block: &[u8], c: usize) -> Gate
-    requires { (checked block.now ≡ Checked.Pass c) × ((opening_length ≤ length book.now) × (line < line_count)) }
-    ensures { result ≡ gate_by old (block_number old day (is_used_up (allowance_on book.now) line) block.now) block.now }
+fn admit(
+    book: &[u8],
+    line: u32,
+    old: Line,
+    day: bool,
+    block: &[u8],
+    c: usize,
+) -> Result<Taken, Stopped>
+    requires { (checked block.now ≡ Ok c) × ((opening_length ≤ length book.now) × (line < line_count)) }
+    ensures { gate_told result ≡ gate_by old (block_number old day (is_used_up (allowance_on book.now) line) block.now) block.now }
 {
     if block::is_idle(block, c) {
-        return Gate::Taken {
+        return Ok(Taken {
             number: 0,
             gap: 0,
             count: c,
             next: old,
             free: true,
-        };
+        });
     }
-    if day {
-        let sequence = block::sequence(block);
-        let arrival = block::arrive(sequence, old.expected, c as u32);
-        let Arrival::Taken { gap, next: _ } = arrival else {
-            return Gate::Refused(35, old);
-        };
-        if opening::is_used_up(book, line) {
-            return Gate::Refused(86, old);
-        }
-        return Gate::Taken {
-            number: warning(gap),
-            gap,
-            count: c,
-            next: opening::advance(old, sequence, c as u32),
-            free: false,
-        };
+    if !day {
+        return Err(Stopped::on(old, Refusal::BlockWhileClosed));
     }
-    Gate::Refused(20, old)
+    let sequence = block::sequence(block);
+    let arrival = block::arrive(sequence, old.expected, c as u32);
+    let Some(Arrival { gap, next: _ }) = arrival else {
+        return Err(Stopped::on(old, Refusal::Duplicate));
+    };
+    if opening::is_used_up(book, line) {
+        return Err(Stopped::on(old, Refusal::UsedUp));
+    }
+    Ok(Taken {
+        number: warning(gap),
+        gap,
+        count: c,
+        next: opening::advance(old, sequence, c as u32),
+        free: false,
+    })
 }
 
 // 70 for a gap.

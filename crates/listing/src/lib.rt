@@ -56,8 +56,8 @@ pub extern "C" fn listing_checksum(block: &[u8]) -> u16
 #[unsafe(no_mangle)]
 pub extern "C" fn listing_check_block(block: &[u8]) -> u8 {
     match block::check_block(block) {
-        block::Checked::Pass(c) => 0,
-        block::Checked::Refused(number) => number,
+        Ok(_) => 0,
+        Err(refusal) => refusal.number(),
     }
 }
 

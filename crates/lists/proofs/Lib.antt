@@ -3,3 +3,4 @@ pub mod Tables
 pub mod Searches
 pub mod Members
 pub mod Ranges
+pub mod Iteration

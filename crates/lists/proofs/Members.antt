@@ -3,7 +3,7 @@
 use mathlib.Core.Path.{◌≡◌, refl, sym, ap, ◌∙◌}
 use mathlib.Core.Logic.{◌⊎◌, inl, inr}
 use mathlib.Core.List.{List, [], ◌∷◌}
-use mathlib.Core.Option.{Option, none, some}
+use Rattle.std.specs.Prelude.{Option, None, Some}
 use Prim.Native.Nat.{ℕ, suc, ◌≤◌}
 use native.Mathlib.Omega.{arith}
 use lib.ListN.{length}
@@ -16,24 +16,24 @@ In x (y ∷ ys) = (x ≡ y) ⊎ In x ys
 
 module _ {A B : Type 0} (f : A → Option B) where
   Source : B → List A → Type 0
-  Source b xs = (a : A) × In a xs × (f a ≡ some b)
+  Source b xs = (a : A) × In a xs × (f a ≡ Some b)
 
   source-step : (b : B) (x : A) (xs : List A) (o : Option B) → f x ≡ o → (In b (collect f xs) → Source b xs) → In b (cons_option o (collect f xs)) → Source b (x ∷ xs)
   unfolding Source
-  source-step b x xs none e down m = let r = down m in (r.0, inr r.1, r.2)
-  source-step b x xs (some y) e down (inl p) = (x, inl refl, e ∙ ap some (sym p))
-  source-step b x xs (some y) e down (inr m) = let r = down m in (r.0, inr r.1, r.2)
+  source-step b x xs None e down m = let r = down m in (r.0, inr r.1, r.2)
+  source-step b x xs (Some y) e down (inl p) = (x, inl refl, e ∙ ap Some (sym p))
+  source-step b x xs (Some y) e down (inr m) = let r = down m in (r.0, inr r.1, r.2)
 
-  pub in-collect : (b : B) (xs : List A) → In b (collect f xs) → (a : A) × In a xs × (f a ≡ some b)
+  pub in-collect : (b : B) (xs : List A) → In b (collect f xs) → (a : A) × In a xs × (f a ≡ Some b)
   unfolding Source
   in-collect b [] m = absurd m
   in-collect b (x ∷ xs) m = source-step b x xs (f x) refl (in-collect b xs) m
 
   in-cons : (b : B) (o : Option B) (ys : List B) → In b ys → In b (cons_option o ys)
-  in-cons b none ys m = m
-  in-cons b (some y) ys m = inr m
+  in-cons b None ys m = m
+  in-cons b (Some y) ys m = inr m
 
-  pub collect-in : (a : A) (b : B) (xs : List A) → In a xs → f a ≡ some b → In b (collect f xs)
+  pub collect-in : (a : A) (b : B) (xs : List A) → In a xs → f a ≡ Some b → In b (collect f xs)
   collect-in a b [] m e = absurd m
   collect-in a b (x ∷ xs) (inl p) e = rw (sym (ap f p) ∙ e) (inl refl)
   collect-in a b (x ∷ xs) (inr m) e = in-cons b (f x) (collect f xs) (collect-in a b xs m e)

@@ -11,8 +11,7 @@ use native.Mathlib.Numerals.{add-one}
 use lib.ListN.{length, get_or, drop, drop_of_length-le}
 use lib.Seq.{drop-cons}
 use Rattle.lists.specs.Lists.{all, first_from, every, sum}
-use Rattle.lists.specs.declared.Found.{Found}
-use Rattle.lists.specs.declared.Found.TheVariants.{At, Nothing}
+use Rattle.std.specs.Prelude.{Some, None, Option}
 use Rattle.lists.proofs.Tests.{clash, and-true, Cut, equal, apart, cut}
 
 -- what is left of a count at k below n is one more than at k + 1
@@ -39,20 +38,20 @@ module _ (p : ℕ → Bool) (n : ℕ) where
       let e : n - k ≡ 0 = omega arith in
       rw e at inv
 
-  first_step : (k : ℕ) → k < n → first_from p k (n - k) ≡ cond (p k) (At k) (first_from p (k + 1) (n - (k + 1)))
+  first_step : (k : ℕ) → k < n → first_from p k (n - k) ≡ cond (p k) (Some k) (first_from p (k + 1) (n - (k + 1)))
   unfolding first_from
   first_step k h = rw (less_one n k h)
 
   pub first-start : first_from p 0 (n - 0) ≡ first_from p 0 n
   first-start = simp sub-zero
 
-  pub first_found : (w : Found) (k : ℕ) → k < n → first_from p k (n - k) ≡ w → p k ≡ true → At k ≡ w
-  first_found w k h inv e = sym (ap (λ (t : Bool). cond t (At k) (first_from p (k + 1) (n - (k + 1)))) e) ∙ sym (first_step k h) ∙ inv
+  pub first_found : (w : Option ℕ) (k : ℕ) → k < n → first_from p k (n - k) ≡ w → p k ≡ true → Some k ≡ w
+  first_found w k h inv e = sym (ap (λ (t : Bool). cond t (Some k) (first_from p (k + 1) (n - (k + 1)))) e) ∙ sym (first_step k h) ∙ inv
 
-  pub first-again : (w : Found) (k : ℕ) → k < n → first_from p k (n - k) ≡ w → p k ≡ false → first_from p (k + 1) (n - (k + 1)) ≡ w
-  first-again w k h inv e = sym (ap (λ (t : Bool). cond t (At k) (first_from p (k + 1) (n - (k + 1)))) e) ∙ sym (first_step k h) ∙ inv
+  pub first-again : (w : Option ℕ) (k : ℕ) → k < n → first_from p k (n - k) ≡ w → p k ≡ false → first_from p (k + 1) (n - (k + 1)) ≡ w
+  first-again w k h inv e = sym (ap (λ (t : Bool). cond t (Some k) (first_from p (k + 1) (n - (k + 1)))) e) ∙ sym (first_step k h) ∙ inv
 
-  pub first-end : (w : Found) (k : ℕ) → n ≤ k → first_from p k (n - k) ≡ w → Nothing ≡ w
+  pub first-end : (w : Option ℕ) (k : ℕ) → n ≤ k → first_from p k (n - k) ≡ w → None ≡ w
   unfolding first_from
   first-end w k h inv =
       let e : n - k ≡ 0 = omega arith in
@@ -77,7 +76,7 @@ unfolding all
 each_all p i zero f = refl
 each_all p i (suc k) f = rw (f i (omega arith) (omega arith)) (each_all p (i + 1) k (λ j l h. f j (omega arith) (omega arith)))
 
-cond-at : (t : Bool) (i j : ℕ) (rest : Found) → cond t (At i) rest ≡ At j → ((t ≡ true) × (i ≡ j)) ⊎ ((t ≡ false) × (rest ≡ At j))
+cond-at : (t : Bool) (i j : ℕ) (rest : Option ℕ) → cond t (Some i) rest ≡ Some j → ((t ≡ true) × (i ≡ j)) ⊎ ((t ≡ false) × (rest ≡ Some j))
 cond-at true i j rest e = inl (refl, cc)
 cond-at false i j rest e = inr (refl, e)
 
@@ -87,7 +86,7 @@ pub record Hit (p : ℕ → Bool) (i k j : ℕ) : Type 0 where
   pub high : j < i + k
   pub holds : p j ≡ true
 
-pub first-hit : (p : ℕ → Bool) (i k j : ℕ) → first_from p i k ≡ At j → Hit p i k j
+pub first-hit : (p : ℕ → Bool) (i k j : ℕ) → first_from p i k ≡ Some j → Hit p i k j
 unfolding first_from
 first-hit p i zero j e = let z : ◌≡◌ {A = ℕ} 0 1 = cc in absurd (omega arith)
 first-hit p i (suc k) j e =
@@ -98,23 +97,23 @@ first-hit p i (suc k) j e =
     (cond-at (p i) i j (first_from p (i + 1) k) e)
 
 -- none before what a search finds passes
-pub first-before : (p : ℕ → Bool) (n i k : ℕ) → first_from p i n ≡ At k → (j : ℕ) → i ≤ j → j < k → p j ≡ false
+pub first-before : (p : ℕ → Bool) (n i k : ℕ) → first_from p i n ≡ Some k → (j : ℕ) → i ≤ j → j < k → p j ≡ false
 unfolding first_from
 first-before p zero i k e j lo hi = clash (cc)
 first-before p (suc n) i k e j lo hi = go (p i) refl (cut i j) e (λ d l. first-before p n (i + 1) k d j l hi)
   where
-    go : (t : Bool) → p i ≡ t → Cut i j → cond t (At i) (first_from p (i + 1) n) ≡ At k → (first_from p (i + 1) n ≡ At k → i + 1 ≤ j → p j ≡ false) → p j ≡ false
+    go : (t : Bool) → p i ≡ t → Cut i j → cond t (Some i) (first_from p (i + 1) n) ≡ Some k → (first_from p (i + 1) n ≡ Some k → i + 1 ≤ j → p j ≡ false) → p j ≡ false
     go true x c e down = let z : i ≡ k = cc in absurd (omega arith)
     go false x (equal t q) e down = rw (sym q) x
     go false x (apart t q) e down = down e (omega (arith, q))
 
 -- where none is found, none passes
-pub first-none : (p : ℕ → Bool) (n i : ℕ) → first_from p i n ≡ Nothing → (j : ℕ) → i ≤ j → j < i + n → p j ≡ false
+pub first-none : (p : ℕ → Bool) (n i : ℕ) → first_from p i n ≡ None → (j : ℕ) → i ≤ j → j < i + n → p j ≡ false
 unfolding first_from
 first-none p zero i e j lo hi = absurd (omega arith)
 first-none p (suc n) i e j lo hi = go (p i) refl (cut i j) e (λ d l. first-none p n (i + 1) d j l (omega arith))
   where
-    go : (t : Bool) → p i ≡ t → Cut i j → cond t (At i) (first_from p (i + 1) n) ≡ Nothing → (first_from p (i + 1) n ≡ Nothing → i + 1 ≤ j → p j ≡ false) → p j ≡ false
+    go : (t : Bool) → p i ≡ t → Cut i j → cond t (Some i) (first_from p (i + 1) n) ≡ None → (first_from p (i + 1) n ≡ None → i + 1 ≤ j → p j ≡ false) → p j ≡ false
     go true x c e down = clash (cc)
     go false x (equal t q) e down = rw (sym q) x
     go false x (apart t q) e down = down e (omega (arith, q))

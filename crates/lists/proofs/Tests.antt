@@ -2,15 +2,21 @@
 -- Assumes nothing.
 use Prim.Native.Nat.{ℕ, ◌≤◌}
 use mathlib.Core.Path.{◌≡◌, refl}
-use mathlib.Core.Bool.{Bool, true, false, ◌&&◌}
+use mathlib.Core.Bool.{Bool, true, false, ◌&&◌, cond}
 use native.Mathlib.Omega.{arith}
 use lib.Dec.{eqb, leb}
 use borrow.Author.Tests.{eqb-true, eqb-false, leb-true, le-leb}
+use Rattle.std.specs.Int.{from_bool}
 use Rattle.lists.specs.Lists.{upper}
 
 -- a test is not true and false
 pub clash : {A : Type 0} → true ≡ false → A
 clash {A} e = absurd (let z : ◌≡◌ {A = ℕ} 0 1 = cc in omega arith)
+
+-- a test as a number, as `u8::from(t)` and the like give it
+pub from_bool-cond : (t : Bool) → from_bool t ≡ cond t 1 0
+from_bool-cond true = refl
+from_bool-cond false = refl
 
 pub and-true : (s t : Bool) → s && t ≡ true → (s ≡ true) × (t ≡ true)
 and-true true t e = (refl, e)

@@ -1,9 +1,6 @@
 -- Options, results over lists, tables of numbers, tests over ranges, searches.
 -- Assumes nothing.
-use Rattle.std.specs.Prelude.{ℕ, zero, suc, ◌+◌, Bool, true, false, ◌&&◌, cond, List, [], ◌∷◌, ◌++◌, eqb, leb, get_or}
-use Rattle.std.proofs.Math.Option.{Option, none, some}
-use Rattle.lists.specs.declared.Found.{Found}
-use Rattle.lists.specs.declared.Found.TheVariants.{At, Nothing}
+use Rattle.std.specs.Prelude.{ℕ, zero, suc, ◌+◌, Bool, true, false, ◌&&◌, cond, List, [], ◌∷◌, ◌++◌, eqb, leb, get_or, Option, None, Some}
 
 -- element i; past its end a list reads as 0
 abbrev pub at : List ℕ → ℕ → ℕ
@@ -12,26 +9,26 @@ at b i = get_or b i 0
 -- ---- options
 
 abbrev pub map_option : {A B : Type 0} → (A → B) → Option A → Option B
-map_option f none = none
-map_option f (some a) = some (f a)
+map_option f None = None
+map_option f (Some a) = Some (f a)
 
 abbrev pub bind_option : {A B : Type 0} → Option A → (A → Option B) → Option B
-bind_option none f = none
-bind_option (some a) f = f a
+bind_option None f = None
+bind_option (Some a) f = f a
 
 abbrev pub or_else : {A : Type 0} → Option A → A → A
-or_else none d = d
-or_else (some a) d = a
+or_else None d = d
+or_else (Some a) d = a
 
 abbrev pub is_some : {A : Type 0} → Option A → Bool
-is_some none = false
-is_some (some a) = true
+is_some None = false
+is_some (Some a) = true
 
 -- ---- lists
 
 abbrev pub cons_option : {A : Type 0} → Option A → List A → List A
-cons_option none xs = xs
-cons_option (some x) xs = x ∷ xs
+cons_option None xs = xs
+cons_option (Some x) xs = x ∷ xs
 
 -- the results of f over a list, where it has one
 abbrev pub collect : {A B : Type 0} → (A → Option B) → List A → List B
@@ -84,6 +81,6 @@ same_list (x ∷ xs) [] = false
 same_list (x ∷ xs) (y ∷ ys) = eqb x y && same_list xs ys
 
 -- the first of the k numbers from i on at which a test holds
-unfoldable pub first_from : (ℕ → Bool) → ℕ → ℕ → Found
-first_from p i zero = Nothing
-first_from p i (suc k) = cond (p i) (At i) (first_from p (i + 1) k)
+unfoldable pub first_from : (ℕ → Bool) → ℕ → ℕ → Option ℕ
+first_from p i zero = None
+first_from p i (suc k) = cond (p i) (Some i) (first_from p (i + 1) k)

@@ -4,7 +4,7 @@ use Prim.Native.Nat.{ℕ}
 use mathlib.Core.Path.{◌≡◌, refl}
 use mathlib.Core.Bool.{true, false}
 use mathlib.Core.List.{List, [], ◌∷◌, ◌++◌}
-use mathlib.Core.Option.{Option, none, some}
+use Rattle.std.specs.Prelude.{Option, None, Some}
 use lib.ListN.{length, take, drop, set, replicate}
 use Rattle.field.specs.Field.{be, be_bytes, part, field, splice}
 use Rattle.logform.specs.Log.{mixed, check_from, check_of, is_head, entry_at}
@@ -41,32 +41,32 @@ abbrev symbol : List ℕ
 symbol = 90 ∷ 84 ∷ 32 ∷ 32 ∷ 32 ∷ 32 ∷ 32 ∷ 32 ∷ 32 ∷ 32 ∷ 32 ∷ []
 
 pub record Kinds : Type 0 where
-  pub makes : call_of 1 (0 ∷ 0 ∷ 1 ∷ 2 ∷ []) ≡ some (make 258)
-  pub makes_short : call_of 1 (0 ∷ 1 ∷ 2 ∷ []) ≡ none
-  pub makes_long : call_of 1 (0 ∷ 0 ∷ 1 ∷ 2 ∷ 3 ∷ []) ≡ none
-  pub adds : call_of 2 ((0 ∷ 0 ∷ 0 ∷ 100 ∷ 78 ∷ []) ++ symbol) ≡ some (add symbol 100 78)
-  pub adds_nothing : call_of 2 (0 ∷ 0 ∷ 0 ∷ 100 ∷ 78 ∷ []) ≡ some (add [] 100 78)
-  pub adds_short : call_of 2 (0 ∷ 0 ∷ 0 ∷ 100 ∷ []) ≡ none
-  pub opens : call_of 3 (0 ∷ 0 ∷ 0 ∷ 5 ∷ 78 ∷ []) ≡ some (open_line 5 78)
-  pub opens_long : call_of 3 (0 ∷ 0 ∷ 0 ∷ 5 ∷ 78 ∷ 0 ∷ []) ≡ none
-  pub starts : call_of 4 [] ≡ some start_day
-  pub starts_long : call_of 4 (0 ∷ []) ≡ none
-  pub ends : call_of 5 [] ≡ some end_day
-  pub takes : call_of 6 (0 ∷ 0 ∷ 0 ∷ 5 ∷ 0 ∷ 0 ∷ 0 ∷ 0 ∷ 0 ∷ 0 ∷ 0 ∷ 180 ∷ 1 ∷ 2 ∷ []) ≡ some (book.take 5 (1 ∷ 2 ∷ []) 180)
-  pub takes_short : call_of 6 (0 ∷ 0 ∷ 0 ∷ 5 ∷ 0 ∷ 0 ∷ 0 ∷ 0 ∷ 0 ∷ 0 ∷ 0 ∷ []) ≡ none
-  pub reads : call_of 7 ((0 ∷ 0 ∷ 0 ∷ 0 ∷ 0 ∷ 0 ∷ 0 ∷ 96 ∷ []) ++ symbol) ≡ some (read symbol 96)
-  pub asks : call_of 8 ((66 ∷ 0 ∷ 0 ∷ 0 ∷ 0 ∷ 0 ∷ 0 ∷ 3 ∷ 232 ∷ []) ++ symbol) ≡ some (protected symbol 66 1000)
-  pub measures : call_of 9 (7 ∷ 8 ∷ []) ≡ some (convert_len (7 ∷ 8 ∷ []))
-  pub converts : call_of 10 (0 ∷ 0 ∷ 0 ∷ 0 ∷ 0 ∷ 0 ∷ 14 ∷ 16 ∷ 7 ∷ 8 ∷ []) ≡ some (convert (7 ∷ 8 ∷ []) 3600)
-  pub measures_feed : call_of 11 symbol ≡ some (snapshot_len symbol)
-  pub feeds : call_of 12 ((0 ∷ 0 ∷ 0 ∷ 0 ∷ 0 ∷ 0 ∷ 6 ∷ 170 ∷ []) ++ symbol) ≡ some (snapshot symbol 1706)
-  pub tries : call_of 13 ((83 ∷ 0 ∷ 0 ∷ 0 ∷ 9 ∷ 0 ∷ 0 ∷ 0 ∷ 0 ∷ 0 ∷ 0 ∷ 1 ∷ 69 ∷ []) ++ symbol) ≡ some (try_order symbol 83 9 325)
-  pub sets : call_of 14 (0 ∷ 0 ∷ 0 ∷ 9 ∷ 3 ∷ 4 ∷ []) ≡ some (set_allowance 9 (3 ∷ 4 ∷ []))
-  pub sets_short : call_of 14 (0 ∷ 0 ∷ 9 ∷ []) ≡ none
-  pub ticks : call_of 15 [] ≡ some tick
-  pub ticks_long : call_of 15 (0 ∷ []) ≡ none
-  pub no_kind : call_of 0 [] ≡ none
-  pub no_kind_more : call_of 16 [] ≡ none
+  pub makes : call_of 1 (0 ∷ 0 ∷ 1 ∷ 2 ∷ []) ≡ Some (make 258)
+  pub makes_short : call_of 1 (0 ∷ 1 ∷ 2 ∷ []) ≡ None
+  pub makes_long : call_of 1 (0 ∷ 0 ∷ 1 ∷ 2 ∷ 3 ∷ []) ≡ None
+  pub adds : call_of 2 ((0 ∷ 0 ∷ 0 ∷ 100 ∷ 78 ∷ []) ++ symbol) ≡ Some (add symbol 100 78)
+  pub adds_nothing : call_of 2 (0 ∷ 0 ∷ 0 ∷ 100 ∷ 78 ∷ []) ≡ Some (add [] 100 78)
+  pub adds_short : call_of 2 (0 ∷ 0 ∷ 0 ∷ 100 ∷ []) ≡ None
+  pub opens : call_of 3 (0 ∷ 0 ∷ 0 ∷ 5 ∷ 78 ∷ []) ≡ Some (open_line 5 78)
+  pub opens_long : call_of 3 (0 ∷ 0 ∷ 0 ∷ 5 ∷ 78 ∷ 0 ∷ []) ≡ None
+  pub starts : call_of 4 [] ≡ Some start_day
+  pub starts_long : call_of 4 (0 ∷ []) ≡ None
+  pub ends : call_of 5 [] ≡ Some end_day
+  pub takes : call_of 6 (0 ∷ 0 ∷ 0 ∷ 5 ∷ 0 ∷ 0 ∷ 0 ∷ 0 ∷ 0 ∷ 0 ∷ 0 ∷ 180 ∷ 1 ∷ 2 ∷ []) ≡ Some (book.take 5 (1 ∷ 2 ∷ []) 180)
+  pub takes_short : call_of 6 (0 ∷ 0 ∷ 0 ∷ 5 ∷ 0 ∷ 0 ∷ 0 ∷ 0 ∷ 0 ∷ 0 ∷ 0 ∷ []) ≡ None
+  pub reads : call_of 7 ((0 ∷ 0 ∷ 0 ∷ 0 ∷ 0 ∷ 0 ∷ 0 ∷ 96 ∷ []) ++ symbol) ≡ Some (read symbol 96)
+  pub asks : call_of 8 ((66 ∷ 0 ∷ 0 ∷ 0 ∷ 0 ∷ 0 ∷ 0 ∷ 3 ∷ 232 ∷ []) ++ symbol) ≡ Some (protected symbol 66 1000)
+  pub measures : call_of 9 (7 ∷ 8 ∷ []) ≡ Some (convert_len (7 ∷ 8 ∷ []))
+  pub converts : call_of 10 (0 ∷ 0 ∷ 0 ∷ 0 ∷ 0 ∷ 0 ∷ 14 ∷ 16 ∷ 7 ∷ 8 ∷ []) ≡ Some (convert (7 ∷ 8 ∷ []) 3600)
+  pub measures_feed : call_of 11 symbol ≡ Some (snapshot_len symbol)
+  pub feeds : call_of 12 ((0 ∷ 0 ∷ 0 ∷ 0 ∷ 0 ∷ 0 ∷ 6 ∷ 170 ∷ []) ++ symbol) ≡ Some (snapshot symbol 1706)
+  pub tries : call_of 13 ((83 ∷ 0 ∷ 0 ∷ 0 ∷ 9 ∷ 0 ∷ 0 ∷ 0 ∷ 0 ∷ 0 ∷ 0 ∷ 1 ∷ 69 ∷ []) ++ symbol) ≡ Some (try_order symbol 83 9 325)
+  pub sets : call_of 14 (0 ∷ 0 ∷ 0 ∷ 9 ∷ 3 ∷ 4 ∷ []) ≡ Some (set_allowance 9 (3 ∷ 4 ∷ []))
+  pub sets_short : call_of 14 (0 ∷ 0 ∷ 9 ∷ []) ≡ None
+  pub ticks : call_of 15 [] ≡ Some tick
+  pub ticks_long : call_of 15 (0 ∷ []) ≡ None
+  pub no_kind : call_of 0 [] ≡ None
+  pub no_kind_more : call_of 16 [] ≡ None
 
 pub kinds : Kinds
 unfolding be part field call_of

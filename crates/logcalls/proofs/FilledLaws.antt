@@ -4,7 +4,7 @@ use Prim.Native.Nat.{ℕ, zero, suc, ◌+◌, ◌*◌}
 use mathlib.Core.Path.{◌≡◌, refl, ap, sym, ◌∙◌}
 use mathlib.Core.Bool.{Bool, true, false, cond}
 use mathlib.Core.List.{List, [], ◌∷◌, ◌++◌}
-use mathlib.Core.Option.{Option, none, some}
+use Rattle.std.specs.Prelude.{Option, None, Some}
 use native.Mathlib.Omega.{arith}
 use lib.Dec.{eqb, ltb}
 use borrow.Author.Tests.{eqb-true}
@@ -83,8 +83,8 @@ module _ (b : List ℕ) (i : ℕ) (k : List ℕ) (room : ℕ) where
           → Fills (cond s (cond (eqb (numbered s t o) 9) (bare (numbered s t o)) (line_answer (numbered s t o) k (told_on b (letter_of o) (messages_of k)) o)) (bare 1))
       go false t o = none_filled 1 refl
       go true true o = none_filled 9 refl
-      go true false none = none_filled 21 refl
-      go true false (some r) = rw (block-nine r (rest_in b).day used k) (lined r (block_number r (rest_in b).day used k) (done (block_number r (rest_in b).day used k)) refl)
+      go true false None = none_filled 21 refl
+      go true false (Some r) = rw (block-nine r (rest_in b).day used k) (lined r (block_number r (rest_in b).day used k) (done (block_number r (rest_in b).day used k)) refl)
 
 -- ---- a call that fills the output alone, by n bytes, and may tell two numbers
 

@@ -4,7 +4,7 @@ use Prim.Native.Nat.{ℕ, ◌+◌, ◌*◌, ◌-◌, ◌≤◌, ◌<◌}
 use mathlib.Core.Path.{◌≡◌, refl, ap, sym, ◌∙◌}
 use mathlib.Core.Bool.{Bool, true, false, cond}
 use mathlib.Core.List.{List, [], ◌∷◌, ◌++◌, append-nil, append_assoc}
-use mathlib.Core.Option.{Option, none, some}
+use Rattle.std.specs.Prelude.{Option, None, Some}
 use native.Mathlib.Omega.{arith}
 use lib.Dec.{eqb, leb}
 use lib.ListN.{length, take, drop, length-append, length-take, length-drop}
@@ -35,13 +35,13 @@ module _ (b out : List ℕ) (w : ℕ) (a : List ℕ) (c : Call) where
   pub wrong-length : (length a ≡ w → ⊥) → record { known = false; length = 0; bytes = b; output = out } ≡ ran_call b out (exactly w a c)
   wrong-length h = rw (ne_eqb (length a) w h)
 
-  pub right-length : (r : Ran) → length a ≡ w → r ≡ ran_call b out (some c) → r ≡ ran_call b out (exactly w a c)
+  pub right-length : (r : Ran) → length a ≡ w → r ≡ ran_call b out (Some c) → r ≡ ran_call b out (exactly w a c)
   right-length r h e = rw (eq-eqb (length a) w h) e
 
   pub too_short : length a < w → record { known = false; length = 0; bytes = b; output = out } ≡ ran_call b out (at_least w a c)
   too_short h = rw (lt-leb w (length a) h)
 
-  pub long-enough : (r : Ran) → w ≤ length a → r ≡ ran_call b out (some c) → r ≡ ran_call b out (at_least w a c)
+  pub long-enough : (r : Ran) → w ≤ length a → r ≡ ran_call b out (Some c) → r ≡ ran_call b out (at_least w a c)
   long-enough r h e = rw (le-leb w (length a) h) e
 
 -- the bytes behind the numbers
@@ -64,7 +64,7 @@ words-over p n w x e h =
 
 -- d: the call as the code made it
 pub ran-bare : (b out : List ℕ) (c d : Call) (n : ℕ) (b₁ o₁ : List ℕ) → ◌≡◌ {A = Outcome} (record { bytes = b₁; answer = bare n }) (call b d) → d ≡ c
-    → o₁ ≡ splice out 0 (answer_bytes (bare n)) → record { known = true; length = words_length; bytes = b₁; output = o₁ } ≡ ran_call b out (some c)
+    → o₁ ≡ splice out 0 (answer_bytes (bare n)) → record { known = true; length = words_length; bytes = b₁; output = o₁ } ≡ ran_call b out (Some c)
 ran-bare b out c d n b₁ o₁ e q o =
     let l : words_length ≡ length (answer_bytes (bare n)) = sym (ap length (bare-bytes n) ∙ length-words (words_of (bare n))) in
     rw (o, l) (ap (λ (x : Outcome). record { known = true; length = length (answer_bytes x.answer); bytes = x.bytes; output = splice out 0 (answer_bytes x.answer) }) (e ∙ ap (call b) q))
@@ -76,7 +76,7 @@ put-bare-is out o₁ n e = e ∙ ap (splice out 0) (sym (bare-bytes n))
 
 pub ran-is : (b out : List ℕ) (c : Call) (a : Answer) (b₁ x ws : List ℕ) (n : ℕ) (o₁ : List ℕ) → ◌≡◌ {A = Outcome} (record { bytes = b₁; answer = a }) (call b c)
     → words_of a ≡ ws → filled_of a ≡ x → length x ≡ n → words_length ≤ length out → o₁ ≡ splice (splice out words_length x) 0 (words_bytes ws)
-    → record { known = true; length = words_length + n; bytes = b₁; output = o₁ } ≡ ran_call b out (some c)
+    → record { known = true; length = words_length + n; bytes = b₁; output = o₁ } ≡ ran_call b out (Some c)
 unfolding answer_bytes
 ran-is b out c a b₁ x ws n o₁ e w f l h o =
     let y : answer_bytes a ≡ words_bytes ws ++ x = λ i. words_bytes (w i) ++ f i in
@@ -130,7 +130,7 @@ pub ran-take : (b out : List ℕ) (i : ℕ) (k : List ℕ) (room e : ℕ) (told 
     → ◌≡◌ {A = TakenBlock} (record { bytes = b₁; report = told; answer = y }) (taken b i k (take (e - words_length) (drop words_length out))) → length y ≡ length (take (e - words_length) (drop words_length out))
     → n ≡ cond (done told.number) (4 * count_in k) 0
     → o₁ ≡ splice (put_mid words_length (e - words_length) out y) 0 (words_bytes (told.number ∷ told.gap ∷ told.expected ∷ told.count ∷ told.accepted ∷ told.partly ∷ told.rejected ∷ 0 ∷ 0 ∷ n ∷ 0 ∷ 0 ∷ []))
-    → record { known = true; length = words_length + n; bytes = b₁; output = o₁ } ≡ ran_call b out (some (calls.take i k room))
+    → record { known = true; length = words_length + n; bytes = b₁; output = o₁ } ≡ ran_call b out (Some (calls.take i k room))
 unfolding taken
 ran-take b out i k room e told b₁ y n o₁ ends long t l en o =
     let m : ℕ = lent_of room answer_length in

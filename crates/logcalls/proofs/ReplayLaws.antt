@@ -4,7 +4,7 @@ use Prim.Native.Nat.{ℕ, zero, suc, ◌+◌, ◌-◌, ◌≤◌, ◌<◌}
 use mathlib.Core.Path.{◌≡◌, refl, ap, sym, ◌∙◌}
 use mathlib.Core.Bool.{Bool, true, false, cond}
 use mathlib.Core.List.{List, [], ◌∷◌, ◌++◌}
-use mathlib.Core.Option.{Option, none, some}
+use Rattle.std.specs.Prelude.{Option, None, Some}
 use native.Mathlib.Omega.{arith}
 use lib.Dec.{ltb}
 use lib.ListN.{length, length-append}
@@ -41,8 +41,8 @@ module _ (log : List ℕ) where
   next-inside at c next e = entry (entry_at log at) refl e
     where
       known : (p : Place) → Whole log at p → (o : Option Call) → next_by (p.stop + check_length) o ≡ calls c next → (at < next) × (next ≤ length log)
-      known p w none k = clash (ap tagged k)
-      known p w (some d) k = let n : p.stop + check_length ≡ next = ap next_of k in (omega (arith, w.first, w.order, n), omega (arith, w.inside, n))
+      known p w None k = clash (ap tagged k)
+      known p w (Some d) k = let n : p.stop + check_length ≡ next = ap next_of k in (omega (arith, w.first, w.order, n), omega (arith, w.inside, n))
 
       entry : (x : Entry) → entry_at log at ≡ x → next_in log x ≡ calls c next → (at < next) × (next ≤ length log)
       entry End q k = clash (ap tagged k)

@@ -20,8 +20,7 @@ use Rattle.snapshot.specs.Sizes.{letters_alone, feed_count, feed_length}
 use Rattle.snapshot.proofs.PackLaws.{Measured}
 use Rattle.snapshot.proofs.RoundLaws.{length-feed}
 use Rattle.snapshot.proofs.ShownLaws.{measured-of}
-use Rattle.lists.specs.declared.Found.{Found}
-use Rattle.lists.specs.declared.Found.TheVariants.{At, Nothing}
+use Rattle.std.specs.Prelude.{Some, None, Option}
 use Rattle.field.specs.Field.{be}
 use Rattle.field.proofs.Laws.{length_part}
 use Rattle.text.specs.Form.{symbol_good}
@@ -92,11 +91,11 @@ module _ (b : List ℕ) where
       refused : (n : ℕ) → ((r : ℕ) → n ≡ number_on b (snapshot s r)) → done n ≡ false → call b (snapshot s (lent_of room filled_most)) ≡ call b (snapshot s room)
       refused n e d = sym (feed-refused b s (lent_of room filled_most) n (e (lent_of room filled_most)) d) ∙ feed-refused b s room n (e room) d
 
-      go : (t : Bool) → sound b ≡ t → (g : Bool) → symbol_good s ≡ g → (f : Found) → page_place b (be s) ≡ f → call b (snapshot s (lent_of room filled_most)) ≡ call b (snapshot s room)
+      go : (t : Bool) → sound b ≡ t → (g : Bool) → symbol_good s ≡ g → (f : Option ℕ) → page_place b (be s) ≡ f → call b (snapshot s (lent_of room filled_most)) ≡ call b (snapshot s room)
       go false et g eg f ef = refused 1 (λ r. number-unsound b (snapshot s r) refl et) refl
       go true et false eg f ef = refused 10 (λ r. sym (feed-number b s r et ∙ rw eg)) refl
-      go true et true eg Nothing ef = refused 10 (λ r. sym (feed-number b s r et ∙ rw (eg, ef))) refl
-      go true et true eg (At k) ef =
+      go true et true eg None ef = refused 10 (λ r. sym (feed-number b s r et ∙ rw (eg, ef))) refl
+      go true et true eg (Some k) ef =
           let w : length (page_at b k) ≡ page_length = length_part b (page_start k) page_length (found-room b (be s) k (page_place b (be s)) et refl ef).0 in
           let x : Snapshot = page_feed b s k in
           let m : Measured x = measured-of (quotes_in (page_at b k)) s (kept_entries (page_at b k)) (symbol-eleven s eg) (length_part (page_at b k) entries_at publication_length (omega (arith, w))) in

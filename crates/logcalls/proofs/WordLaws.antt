@@ -2,7 +2,9 @@
 -- Assumes nothing.
 use Prim.Native.Nat.{ℕ, ◌+◌, ◌*◌, ◌<◌, ◌≤◌}
 use mathlib.Core.Path.{◌≡◌, refl, ap, sym, ◌∙◌}
+use mathlib.Core.Bool.{Bool, true, false, cond}
 use mathlib.Core.List.{List, [], ◌∷◌, ◌++◌, append-nil}
+use mir.Val.{bool_byte}
 use native.Mathlib.Omega.{arith}
 use native.Mathlib.Numerals.{add-one}
 use lib.ListN.{length, drop, get_or, length-append, drop_of_length-le}
@@ -34,3 +36,8 @@ words-end words i out whole h e = sym (splice-nothing out (8 * i)) ∙ (rw (drop
 pub bare-bytes : (n : ℕ) → answer_bytes (bare n) ≡ words_bytes (words_of (bare n))
 unfolding answer_bytes
 bare-bytes n = append-nil (words_bytes (words_of (bare n)))
+
+-- yes and no as numbers
+pub bit-is : (t : Bool) → bool_byte t ≡ cond t 1 0
+bit-is true = refl
+bit-is false = refl

@@ -1,4 +1,5 @@
 pub mod Answers
+pub mod code
 pub mod Kinds
 pub mod Replayed
 pub mod Restored

@@ -1,7 +1,6 @@
 -- A log replayed on a book.
 -- Assumes nothing.
-use Rattle.std.specs.Prelude.{ℕ, zero, suc, ◌+◌, ◌-◌, Bool, true, false, cond, List, [], ◌∷◌, ltb, length}
-use Rattle.std.proofs.Math.Option.{Option, none, some}
+use Rattle.std.specs.Prelude.{ℕ, zero, suc, ◌+◌, ◌-◌, Bool, true, false, cond, List, [], ◌∷◌, ltb, length, Option, None, Some}
 use Rattle.field.specs.Field.{splice}
 use Rattle.logform.specs.Log.{check_length, entry_at, arguments_of}
 use Rattle.logform.specs.declared.Place.{Place}
@@ -20,8 +19,8 @@ pub record Ran : Type 0 where
   pub output : List ℕ
 
 abbrev pub ran_call : List ℕ → List ℕ → Option Call → Ran
-ran_call b out none = record { known = false; length = 0; bytes = b; output = out }
-ran_call b out (some c) =
+ran_call b out None = record { known = false; length = 0; bytes = b; output = out }
+ran_call b out (Some c) =
     record {
       known = true;
       length = length (answer_bytes (call b c).answer);
@@ -37,8 +36,8 @@ pub data Next : Type 0 where
   calls : Call → ℕ → Next
 
 abbrev pub next_by : ℕ → Option Call → Next
-next_by n none = stops 92
-next_by n (some c) = calls c n
+next_by n None = stops 92
+next_by n (Some c) = calls c n
 
 -- 0: the end; 91: the log ends inside a record; 92: a damaged record, or one that is no call
 abbrev pub next_in : List ℕ → Entry → Next
@@ -98,7 +97,7 @@ went next r = record { going = true; number = 0; place = next; length = r.length
 
 abbrev pub stepped_by : List ℕ → ℕ → List ℕ → Next → Stepped
 stepped_by b at out (stops n) = stopped n at b out
-stepped_by b at out (calls c next) = cond (ltb (length out) answer_most) (stopped 93 at b out) (went next (ran_call b out (some c)))
+stepped_by b at out (calls c next) = cond (ltb (length out) answer_most) (stopped 93 at b out) (went next (ran_call b out (Some c)))
 
 unfoldable pub stepped : List ℕ → List ℕ → ℕ → List ℕ → Stepped
 stepped b log at out = stepped_by b at out (next_at log at)

@@ -4,10 +4,9 @@ use Prim.Native.Nat.{ℕ}
 use mathlib.Core.Path.{◌≡◌, refl}
 use mathlib.Core.Bool.{true, false}
 use mathlib.Core.List.{List, [], ◌∷◌, ◌++◌}
-use lib.ListN.{take, drop, set}
+use lib.ListN.{take, set}
 use Rattle.field.specs.Field.{be, part, field}
-use Rattle.logform.specs.Log.{mixed, check_from, check_of, is_head, head_of, entry_by, entry_at, arguments_of}
-use Rattle.logform.specs.declared.Entry.{Entry}
+use Rattle.logform.specs.Log.{mixed, check_from, check_of, is_head, head_of, entry_at, arguments_of}
 use Rattle.logform.specs.declared.Entry.TheVariants.{End, Cut, Damaged, Record}
 
 -- n 2, T-01 to T-13

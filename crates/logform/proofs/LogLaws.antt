@@ -2,18 +2,16 @@
 -- Assumes nothing.
 use Prim.Native.Nat.{ℕ, ◌+◌, ◌-◌, ◌<◌, ◌≤◌}
 use mathlib.Core.Path.{◌≡◌, refl, ap, sym, ◌∙◌}
-use mathlib.Core.Bool.{Bool, true, false, cond}
+use mathlib.Core.Bool.{Bool, true, false, ◌&&◌, cond}
 use mathlib.Core.List.{List, [], ◌∷◌}
 use native.Mathlib.Omega.{arith}
-use native.Mathlib.Numerals.{add-one}
 use lib.Dec.{eqb, leb, ltb}
 use lib.ListN.{length, take, drop, get_or, length-drop, drop_of_length-le}
 use lib.Seq.{drop-cons, drop-drop}
 use borrow.Author.Tests.{lt-ltb, le-ltb, le-leb, lt-leb, eq-eqb, ne_eqb, leb-false, ltb-false, leb-true}
 use Rattle.field.specs.Field.{be, part, field}
 use Rattle.lists.proofs.Tests.{and-true}
-use Rattle.field.proofs.Laws.{field-one}
-use Rattle.logform.specs.Log.{mixed, check_from, check_of, head_length, head_of, log_mark, log_version, is_head, record_shortest, before_length, check_length, entry_by, entry_at, arguments_of}
+use Rattle.logform.specs.Log.{mixed, check_from, check_of, head_length, head_of, is_head, record_shortest, before_length, check_length, entry_by, entry_at}
 use Rattle.logform.specs.declared.Place.{Place}
 use Rattle.logform.specs.declared.Entry.{Entry}
 use Rattle.logform.specs.declared.Entry.TheVariants.{End, Cut, Damaged, Record}
@@ -45,8 +43,8 @@ module _ (s : List ℕ) (h g at w : ℕ) (e : check_from h (drop at s) ≡ w) wh
   unfolding field part
   word-again k m = rw (m, ← drop-drop 4 at s) (sym (word_first h (drop at s) (rw (length-drop) k)) ∙ e)
 
-  pub byte-again : at < length s → length s - at < 4 → g ≡ mixed h (field s at 1) → check_from g (drop (at + 1) s) ≡ w
-  byte-again k l m = rw (m, field-one s at (omega arith), ← drop-drop 1 at s, ← first) (sym (byte-first h (drop at s) (rw (length-drop) (omega arith)) (rw (length-drop) l)) ∙ e)
+  pub byte-again : at < length s → length s - at < 4 → g ≡ mixed h (get_or s at 0) → check_from g (drop (at + 1) s) ≡ w
+  byte-again k l m = rw (m, ← drop-drop 1 at s, ← first) (sym (byte-first h (drop at s) (rw (length-drop) (omega arith)) (rw (length-drop) l)) ∙ e)
     where
       first : get_or (drop at s) 0 0 ≡ get_or s at 0
       first = rw (drop-cons s at 0)
@@ -142,36 +140,8 @@ whole log at p e = beyond (leb (length log) at) refl e
     beyond true h k = clash (ap tag (sym k))
     beyond false h k = enough (ltb (length log - at) record_shortest) (leb-false (length log) at h) k
 
--- ---- `is_head`, return by return
-
-module _ (log : List ℕ) where
-  pub head-short : length log < head_length → false ≡ is_head log
-  unfolding is_head
-  head-short h = rw (lt-leb head_length (length log) h)
-
-  module _ (long : head_length ≤ length log) (mark : ℕ) (marks : mark ≡ field log 0 8) where
-    pub head-mark : (mark ≡ log_mark → ⊥) → false ≡ is_head log
-    unfolding is_head
-    head-mark h = rw (le-leb head_length (length log) long, ← marks, ne_eqb mark log_mark h)
-
-    module _ (marked : mark ≡ log_mark) (version : ℕ) (versions : version ≡ field log 8 1) where
-      pub head-version : (version ≡ log_version → ⊥) → false ≡ is_head log
-      unfolding is_head
-      head-version h = rw (le-leb head_length (length log) long, ← marks, eq-eqb mark log_mark marked, ← versions, ne_eqb version log_version h)
-
-      pub head-check : version ≡ log_version → (sum own : ℕ) → sum ≡ check_of (take 12 (drop 0 log)) → own ≡ field log 12 4 → eqb sum own ≡ is_head log
-      unfolding is_head part
-      head-check h sum own s o = rw (le-leb head_length (length log) long, ← marks, eq-eqb mark log_mark marked, ← versions, eq-eqb version log_version h, s, o)
-
 -- ---- what a head tells
 
-module _ (log : List ℕ) (yes : Bool) (is : yes ≡ is_head log) where
-  pub head-long : yes ≡ true → head_length ≤ length log
-  unfolding is_head
-  head-long e = leb-true head_length (length log) (and-true (leb head_length (length log)) _ (sym is ∙ e)).0
-
-  pub head-told : yes ≡ true → (n requests : ℕ) → n ≡ field log 9 1 → requests ≡ field log 10 2 → record { number = 0; n = n; requests = requests } ≡ head_of log
-  head-told e n requests a b = rw (← is, e, a, b) refl
-
-  pub head-none : yes ≡ false → record { number = 90; n = 0; requests = 0 } ≡ head_of log
-  head-none e = rw (← is, e) refl
+pub head-long : (log : List ℕ) (headed : Bool) → headed ≡ is_head log → headed ≡ true → head_length ≤ length log
+unfolding is_head
+head-long log headed is e = leb-true head_length (length log) (and-true (leb head_length (length log)) _ (sym is ∙ e)).0

@@ -2,8 +2,10 @@
 -- Head: 0-7 mark, 8 version, 9 the book's n, 10-11 a bit for each request that the calls follow (bit 0: T-01), 12-15 check of the bytes before it.
 -- Record: 0-3 its length, 4 kind of call, 5-12 arrival time, from 13 on the arguments, the last four bytes check those before them.
 -- Assumes nothing.
-use Rattle.std.specs.Prelude.{ℕ, ◌+◌, ◌*◌, ◌-◌, ◌%◌, Bool, ◌&&◌, cond, List, [], ◌∷◌, eqb, leb, ltb, length}
+use Rattle.std.specs.Prelude.{ℕ, ◌+◌, ◌*◌, ◌-◌, ◌%◌, Bool, ◌&&◌, cond, List, [], ◌∷◌, eqb, leb, ltb, length, Result, Ok, Err}
 use Rattle.field.specs.Field.{be, part, field}
+use Rattle.numbers.specs.declared.Refusal.{Refusal}
+use Rattle.numbers.specs.Numbers.{number_of}
 use Rattle.logform.specs.declared.Head.{Head}
 use Rattle.logform.specs.declared.Place.{Place}
 use Rattle.logform.specs.declared.Entry.{Entry}
@@ -40,8 +42,18 @@ unfoldable pub is_head : List ℕ → Bool
 is_head log =
     leb head_length (length log) && (eqb (field log 0 8) log_mark && (eqb (field log 8 1) log_version && eqb (check_of (part log 0 12)) (field log 12 4)))
 
+pub record Told : Type 0 where
+  pub number : ℕ
+  pub n : ℕ
+  pub requests : ℕ
+
+-- what `read_head` gives
+abbrev pub told : Result Head Refusal → Told
+told (Ok h) = record { number = 0; n = h.n; requests = h.requests }
+told (Err r) = record { number = number_of r; n = 0; requests = 0 }
+
 -- what a head tells: 0, the book's n and the requests; 90 and nothing of a log that does not begin with one
-abbrev pub head_of : List ℕ → Head
+abbrev pub head_of : List ℕ → Told
 head_of log = cond (is_head log) (record { number = 0; n = field log 9 1; requests = field log 10 2 }) (record { number = 90; n = 0; requests = 0 })
 
 -- ---- a record

@@ -2,7 +2,9 @@
 #![tactic(auto)]
 
 ghost use Rattle.std.specs.Prelude.{◌≡◌, ◌<◌};
-ghost use Rattle.logform.specs.Log.{mixed, check_of, is_head, head_of, entry_at};
+ghost use Rattle.logform.specs.Log.{mixed, check_of, is_head, head_of, told, entry_at};
+
+use numbers::Refusal;
 
 /// Lengths and places of a log.
 #[derive(Clone, Copy)]
@@ -30,10 +32,9 @@ impl Log {
     pub const SHORTEST: usize = Log::ARGUMENTS + Log::CHECK;
 }
 
-/// What the head of a log tells.
+/// What the head of a log tells: the symbols of the book, and the requests that the calls follow.
 #[derive(Clone, Copy)]
 pub struct Head {
-    pub number: u8,
     pub n: u8,
     pub requests: u16,
 }
@@ -47,6 +48,7 @@ pub struct Place {
 }
 
 /// What stands at a place of a log: nothing more, a record that the log's end cuts, one that is damaged, or a whole one.
+// its own enum: it says what bytes are, and only a replay refuses two of them
 #[derive(Clone, Copy)]
 pub enum Entry {
     End,
@@ -66,14 +68,13 @@ pub fn check_of(s: &[u8]) -> u32
     ensures { result ≡ check_of s.now }
 {
     let mut h: u32 = 2166136261;
-    let mut at: usize = 0;
-    while 4 <= s.len() - at {
-        h = mix(h, field::get32(s, at));
-        at = at + 4;
+    let words = s.len() / 4;
+    for i in 0..words {
+        h = mix(h, field::get32(s, 4 * i));
     }
-    while at < s.len() {
-        h = mix(h, field::get8(s, at) as u32);
-        at = at + 1;
+    let rest = &s[4 * words..];
+    for &x in rest {
+        h = mix(h, u32::from(x));
     }
     h
 }
@@ -82,34 +83,23 @@ pub fn check_of(s: &[u8]) -> u32
 pub fn is_head(log: &[u8]) -> bool
     ensures { result ≡ is_head log.now }
 {
-    if log.len() < Log::HEAD {
-        return false;
-    }
-    if field::get64(log, 0) != Log::MARK {
-        return false;
-    }
-    if field::get8(log, 8) != Log::VERSION {
-        return false;
-    }
-    check_of(&log[0..Log::HEAD_CHECK]) == field::get32(log, Log::HEAD_CHECK)
+    Log::HEAD <= log.len()
+        && field::get64(log, 0) == Log::MARK
+        && field::get8(log, 8) == Log::VERSION
+        && check_of(&log[0..Log::HEAD_CHECK]) == field::get32(log, Log::HEAD_CHECK)
 }
 
-/// What the log's head tells: 0, the symbols of the book and the requests that the calls follow; 90 of a log that does not begin with one.
-pub fn read_head(log: &[u8]) -> Head
-    ensures { result ≡ head_of log.now }
+/// What the log's head tells; 90 of a log that does not begin with one.
+pub fn read_head(log: &[u8]) -> Result<Head, Refusal>
+    ensures { told result ≡ head_of log.now }
 {
-    if is_head(log) {
-        return Head {
-            number: 0,
-            n: field::get8(log, Log::N),
-            requests: field::get16(log, Log::REQUESTS),
-        };
+    if !is_head(log) {
+        return Err(Refusal::LogHead);
     }
-    Head {
-        number: 90,
-        n: 0,
-        requests: 0,
-    }
+    Ok(Head {
+        n: field::get8(log, Log::N),
+        requests: field::get16(log, Log::REQUESTS),
+    })
 }
 
 /// What stands at a place of the log.

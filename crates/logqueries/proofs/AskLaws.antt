@@ -4,7 +4,7 @@ use Prim.Native.Nat.{ℕ, ◌+◌, ◌*◌, ◌-◌, ◌≤◌}
 use mathlib.Core.Path.{◌≡◌, refl, ap, sym, subst, ◌∙◌}
 use mathlib.Core.Bool.{Bool, true, false, ◌&&◌, cond}
 use mathlib.Core.List.{List, [], ◌∷◌, ◌++◌, append-nil}
-use mathlib.Core.Option.{Option, none, some}
+use Rattle.std.specs.Prelude.{Option, None, Some}
 use native.Mathlib.Omega.{arith}
 use lib.Dec.{eqb, ltb}
 use lib.ListN.{length, take, drop}
@@ -12,8 +12,6 @@ use borrow.Rule.Slice.PartMut.{put_mid}
 use Rattle.field.specs.Field.{be, part, splice}
 use Rattle.field.proofs.Laws.{length_part}
 use Rattle.field.proofs.ZeroLaws.{splice-nothing}
-use Rattle.lists.specs.declared.Found.{Found}
-use Rattle.lists.specs.declared.Found.TheVariants.{At, Nothing}
 use Rattle.lists.proofs.Tests.{and-true, clash}
 use Rattle.text.specs.Form.{symbol_good}
 use Rattle.entries.specs.Publication.{publication_length}
@@ -42,7 +40,7 @@ use Rattle.logcalls.proofs.RanLaws.{ran-is, filled-inside, lent_length, lent-fil
 -- ---- an answer of numbers alone
 
 pub ran-words : (b out : List ℕ) (c : Call) (a : Answer) (b₁ ws o₁ : List ℕ) → ◌≡◌ {A = Outcome} (record { bytes = b₁; answer = a }) (call b c) → words_of a ≡ ws → filled_of a ≡ []
-    → answer_most ≤ length out → o₁ ≡ splice out 0 (words_bytes ws) → record { known = true; length = words_length; bytes = b₁; output = o₁ } ≡ ran_call b out (some c)
+    → answer_most ≤ length out → o₁ ≡ splice out 0 (words_bytes ws) → record { known = true; length = words_length; bytes = b₁; output = o₁ } ≡ ran_call b out (Some c)
 ran-words b out c a b₁ ws o₁ e w f h o =
     ran-is b out c a b₁ [] ws 0 o₁ e w f refl (omega arith) (o ∙ ap (λ (z : List ℕ). splice z 0 (words_bytes ws)) (sym (splice-nothing out words_length)))
 
@@ -52,7 +50,7 @@ ran-words b out c a b₁ ws o₁ e w f h o =
 pub ran-lent : (b out : List ℕ) (c : Call) (m e : ℕ) (x y ws : List ℕ) (n : ℕ) (b₁ o₁ : List ℕ) → e ≡ words_length + m → e ≤ length out → b₁ ≡ (call b c).bytes
     → words_of (call b c).answer ≡ ws → filled_of (call b c).answer ≡ x → length x ≡ n → y ≡ splice (take (e - words_length) (drop words_length out)) 0 x
     → length y ≡ length (take (e - words_length) (drop words_length out)) → o₁ ≡ splice (put_mid words_length (e - words_length) out y) 0 (words_bytes ws)
-    → record { known = true; length = words_length + n; bytes = b₁; output = o₁ } ≡ ran_call b out (some c)
+    → record { known = true; length = words_length + n; bytes = b₁; output = o₁ } ≡ ran_call b out (Some c)
 ran-lent b out c m e x y ws n b₁ o₁ ends inside eb w f l ey ly o =
     ran-is b out c (call b c).answer b₁ x ws n o₁ (λ j. record { bytes = eb j; answer = (call b c).answer }) w f l (omega arith)
     (o ∙ ap (λ (z : List ℕ). splice z 0 (words_bytes ws)) (lent-filled out m e ends inside y x ly ey))
@@ -76,12 +74,12 @@ module _ (b s : List ℕ) where
   unfolding page_at
   known-length g k = go (page_place b (be s)) refl (sym (listed_at b (be s)) ∙ (and-true (symbol_good s) (is_listed (be s) (listed_of (pages_in b))) k).1)
     where
-      go : (r : Found) → page_place b (be s) ≡ r → is_at r ≡ true → length (published_on b (be s)) ≡ publication_length
-      go (At j) e t =
-          let h = found-room b (be s) j (At j) g (sym e) refl in
+      go : (r : Option ℕ) → page_place b (be s) ≡ r → is_at r ≡ true → length (published_on b (be s)) ≡ publication_length
+      go (Some j) e t =
+          let h = found-room b (be s) j (Some j) g (sym e) refl in
           let p : length (page_at b j) ≡ page_length = length_part b (page_start j) page_length h.0 in
           ap length (published-at b (be s) j e) ∙ length_part (page_at b j) entries_at publication_length (omega (arith, p))
-      go Nothing e t = clash (sym t)
+      go None e t = clash (sym t)
 
   read-fills : (room : ℕ) → PublicationOnly (call b (calls.read s room)).answer
   unfolding call number_on number_of answer_of done
@@ -104,7 +102,7 @@ module _ (b s : List ℕ) where
       → ◌≡◌ {A = ReadOut} (record { number = k; publication = y }) (read_out b s (take (e - words_length) (drop words_length out)))
       → length y ≡ length (take (e - words_length) (drop words_length out)) → n ≡ cond (eqb k 0) publication_length 0
       → o₁ ≡ splice (put_mid words_length (e - words_length) out y) 0 (words_bytes (k ∷ 0 ∷ 0 ∷ 0 ∷ 0 ∷ 0 ∷ 0 ∷ 0 ∷ 0 ∷ 0 ∷ n ∷ 0 ∷ []))
-      → record { known = true; length = words_length + n; bytes = b; output = o₁ } ≡ ran_call b out (some (calls.read s room))
+      → record { known = true; length = words_length + n; bytes = b; output = o₁ } ≡ ran_call b out (Some (calls.read s room))
   unfolding read_out
   ran-read out room e k n y o₁ ends long t ly en o =
       let inside : e ≤ length out = omega (arith, lent-most room publication_length) in
@@ -144,7 +142,7 @@ pub ran-output : (b out : List ℕ) (c : Call) (m e k g v n : ℕ) (y o₁ : Lis
     → k ≡ (call b c).answer.number → g ≡ (call b c).answer.found → v ≡ (call b c).answer.amount
     → y ≡ splice (take (e - words_length) (drop words_length out)) 0 (call b c).answer.output → length y ≡ length (take (e - words_length) (drop words_length out))
     → o₁ ≡ splice (put_mid words_length (e - words_length) out y) 0 (words_bytes (k ∷ 0 ∷ 0 ∷ 0 ∷ 0 ∷ 0 ∷ 0 ∷ g ∷ v ∷ 0 ∷ 0 ∷ n ∷ []))
-    → record { known = true; length = words_length + n; bytes = b; output = o₁ } ≡ ran_call b out (some c)
+    → record { known = true; length = words_length + n; bytes = b; output = o₁ } ≡ ran_call b out (Some c)
 ran-output b out c m e k g v n y o₁ ends inside f kept ek eg ev ey ly o =
     let dk : (call b c).answer.number ≡ k = sym ek in
     let dg : (call b c).answer.found ≡ g = sym eg in
@@ -158,7 +156,7 @@ module _ (b out : List ℕ) (room e k n : ℕ) (y o₁ : List ℕ) (long : answe
       → ◌≡◌ {A = RunOut} (record { number = k; length = n; output = y }) (run_out b v (take (e - words_length) (drop words_length out)))
       → length y ≡ length (take (e - words_length) (drop words_length out))
       → o₁ ≡ splice (put_mid words_length (e - words_length) out y) 0 (words_bytes (k ∷ 0 ∷ 0 ∷ 0 ∷ 0 ∷ 0 ∷ 0 ∷ 0 ∷ n ∷ 0 ∷ 0 ∷ n ∷ []))
-      → record { known = true; length = words_length + n; bytes = b; output = o₁ } ≡ ran_call b out (some (calls.convert v room))
+      → record { known = true; length = words_length + n; bytes = b; output = o₁ } ≡ ran_call b out (Some (calls.convert v room))
   unfolding run_out
   ran-convert v ends t ly o =
       let inside : e ≤ length out = omega (arith, lent-most room filled_most) in
@@ -190,7 +188,7 @@ module _ (b out : List ℕ) (room e k n : ℕ) (y o₁ : List ℕ) (long : answe
       → ◌≡◌ {A = FeedOut} (record { number = k; blocks = g; bytes = n; output = y }) (feed_out b s (take (e - words_length) (drop words_length out)))
       → length y ≡ length (take (e - words_length) (drop words_length out))
       → o₁ ≡ splice (put_mid words_length (e - words_length) out y) 0 (words_bytes (k ∷ 0 ∷ 0 ∷ 0 ∷ 0 ∷ 0 ∷ 0 ∷ g ∷ n ∷ 0 ∷ 0 ∷ n ∷ []))
-      → record { known = true; length = words_length + n; bytes = b; output = o₁ } ≡ ran_call b out (some (calls.snapshot s room))
+      → record { known = true; length = words_length + n; bytes = b; output = o₁ } ≡ ran_call b out (Some (calls.snapshot s room))
   unfolding feed_out
   ran-feed s g ends t ly o =
       let inside : e ≤ length out = omega (arith, lent-most room filled_most) in
@@ -222,7 +220,7 @@ module _ (b out : List ℕ) (room e k n : ℕ) (y o₁ : List ℕ) (long : answe
       → ◌≡◌ {A = OrderOut} (record { number = k; found = g; amount = v; steps = y }) (order_out b s m w (take (e - words_length) (drop words_length out)))
       → length y ≡ length (take (e - words_length) (drop words_length out)) → n ≡ step_length * g
       → o₁ ≡ splice (put_mid words_length (e - words_length) out y) 0 (words_bytes (k ∷ 0 ∷ 0 ∷ 0 ∷ 0 ∷ 0 ∷ 0 ∷ g ∷ v ∷ 0 ∷ 0 ∷ n ∷ []))
-      → record { known = true; length = words_length + n; bytes = b; output = o₁ } ≡ ran_call b out (some (calls.try_order s m w room))
+      → record { known = true; length = words_length + n; bytes = b; output = o₁ } ≡ ran_call b out (Some (calls.try_order s m w room))
   unfolding order_out
   ran-order s m w g v ends t ly en o =
       let inside : e ≤ length out = omega (arith, lent-most room steps_length) in

@@ -4,7 +4,7 @@ use Prim.Native.Nat.{ℕ, zero, suc, ◌+◌, ◌-◌, ◌≤◌, ◌<◌}
 use mathlib.Core.Path.{◌≡◌, refl, ap, sym, ◌∙◌}
 use mathlib.Core.Bool.{Bool, true, false, ◌&&◌, cond}
 use mathlib.Core.List.{List, [], ◌∷◌, ◌++◌}
-use mathlib.Core.Option.{Option, none, some}
+use Rattle.std.specs.Prelude.{Option, None, Some}
 use native.Mathlib.Omega.{arith}
 use lib.Dec.{ltb, eqb, leb}
 use lib.ListN.{length, take, drop}
@@ -44,14 +44,14 @@ part_bytes s at w e = take-bytes w (drop at s) (drop-bytes at s e)
 
 -- whatever call a record's arguments give
 abbrev option_bytes : Option Call → Bool
-option_bytes none = true
-option_bytes (some c) = block_is_bytes c
+option_bytes None = true
+option_bytes (Some c) = block_is_bytes c
 
 both : (t : Bool) (o p : Option Call) → option_bytes o ≡ true → option_bytes p ≡ true → option_bytes (cond t o p) ≡ true
 both true o p a b = a
 both false o p a b = b
 
-given : (t : Bool) (c : Call) → block_is_bytes c ≡ true → option_bytes (cond t (some c) none) ≡ true
+given : (t : Bool) (c : Call) → block_is_bytes c ≡ true → option_bytes (cond t (Some c) None) ≡ true
 given true c e = e
 given false c e = refl
 
@@ -84,8 +84,8 @@ module _ (log : List ℕ) (bytes : are_bytes log ≡ true) where
   next-bytes at = go (entry_at log at)
     where
       by : (n : ℕ) (o : Option Call) → option_bytes o ≡ true → next_bytes (next_by n o) ≡ true
-      by n none e = refl
-      by n (some c) e = e
+      by n None e = refl
+      by n (Some c) e = e
 
       go : (x : Entry) → next_bytes (next_in log x) ≡ true
       go End = refl

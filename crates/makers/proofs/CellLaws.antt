@@ -1,16 +1,16 @@
 -- What the functions on maker cells owe, over plain values.
 -- Assumes nothing.
-use Prim.Native.Nat.{ℕ, suc, ◌+◌, ◌-◌, ◌≤◌, ◌<◌}
+use Prim.Native.Nat.{ℕ, ◌+◌, ◌-◌, ◌≤◌, ◌<◌}
 use mathlib.Core.Path.{◌≡◌, refl, sym, ap, ◌∙◌}
 use mathlib.Core.Bool.{Bool, true, false, cond}
 use mathlib.Core.List.{List, [], ◌∷◌}
-use mathlib.Core.Option.{none, some}
+use Rattle.std.specs.Prelude.{None, Some}
 use native.Mathlib.Omega.{arith}
 use lib.Dec.{eqb, lit≤}
-use lib.ListN.{length, set, replicate}
+use lib.ListN.{length, replicate}
 use Rattle.field.specs.Field.{part, field, splice, be_bytes}
 use Rattle.field.specs.Ascii.{L, R}
-use Rattle.field.proofs.Laws.{field-part, field-part-0, splice-part, splice-join, splice-inside, splice-one, length-be_bytes}
+use Rattle.field.proofs.Laws.{field-part, field-part-0, splice-part, splice-join, splice-inside, length-be_bytes}
 use Rattle.lists.specs.Lists.{is_some, member}
 use Rattle.lists.proofs.Searches.{less_one}
 use Rattle.quote.specs.declared.Quote.{Quote}
@@ -23,11 +23,11 @@ use Rattle.page.specs.Layout.{cell_length, maker_count, cell_at}
 
 -- ---- cells
 
-some_is : {A : Type 0} (t : Bool) (x : A) → is_some (cond t (some x) none) ≡ t
+some_is : {A : Type 0} (t : Bool) (x : A) → is_some (cond t (Some x) None) ≡ t
 some_is true x = refl
 some_is false x = refl
 
-named_some : (t : Bool) (m : ℕ) (x : Maker) → named m (cond t (some x) none) ≡ cond t (eqb x.name m) false
+named_some : (t : Bool) (m : ℕ) (x : Maker) → named m (cond t (Some x) None) ≡ cond t (eqb x.name m) false
 named_some true m x = refl
 named_some false m x = refl
 
@@ -70,22 +70,6 @@ module _ (p : List ℕ) (k m : ℕ) (q : Quote) (a : ℕ) (e : a ≡ cell_at k) 
   pub over-maker : (standing new : Quote) (p' : List ℕ) → standing ≡ quote_in (part p (a + name_length) quote_length) → new ≡ quote_over standing q → p' ≡ splice p (cell_at k) (cell_for m new)
       → p' ≡ splice p (cell_at k) (cell_for m (quote_over (quote_in (part p (cell_at k + name_length) quote_length)) q))
   over-maker standing new p' f g d = d ∙ rw (g, f, e)
-
--- ---- zeros
-
--- the first byte, then the others
-clear_step : (s : List ℕ) (i n : ℕ) → i < length s → splice (set s i 0) (i + 1) (replicate n 0) ≡ splice s i (replicate (suc n) 0)
-clear_step s i n h = ap (λ (l : List ℕ). splice l (i + 1) (replicate n 0)) (splice-one s i 0 h) ∙ splice-join s i 1 (0 ∷ []) (replicate n 0) refl
-
-pub clear-again : (s w : List ℕ) (i to : ℕ) → i < to → to ≤ length s → splice s i (replicate (to - i) 0) ≡ w → splice (set s i 0) (i + 1) (replicate (to - (i + 1)) 0) ≡ w
-clear-again s w i to h l inv =
-    clear_step s i (to - (i + 1)) (omega arith) ∙ ap (λ (n : ℕ). splice s i (replicate n 0)) (sym (less_one to i h)) ∙ inv
-
-pub clear-end : (s w : List ℕ) (i to : ℕ) → to ≤ i → i ≤ length s → splice s i (replicate (to - i) 0) ≡ w → s ≡ w
-unfolding part
-clear-end s w i to h l inv =
-    let z : to - i ≡ 0 = omega arith in
-    sym (splice-part s i 0 (omega arith)) ∙ ap (λ (n : ℕ). splice s i (replicate n 0)) (sym z) ∙ inv
 
 -- ---- FINRA Close and Open
 

@@ -1,7 +1,7 @@
 // The maker cells of a page: search, writing, FINRA Close and Open.
 #![tactic(auto)]
 
-ghost use Rattle.std.specs.Prelude.{◌≡◌, not, ◌+◌, ◌-◌, ◌≤◌, ◌<◌, length, replicate};
+ghost use Rattle.std.specs.Prelude.{◌≡◌, ◌+◌, ◌-◌, ◌≤◌, ◌<◌, length, replicate};
 ghost use Rattle.field.specs.Field.{part, splice};
 ghost use Rattle.lists.specs.Lists.{is_some};
 ghost use Rattle.text.specs.Form.{name_length};
@@ -9,7 +9,6 @@ ghost use Rattle.quote.specs.Quote.{empty_side, empty_quote, quote_over, quote_i
 ghost use Rattle.page.specs.Layout.{cell_length, maker_count, page_length, cell_at};
 ghost use Rattle.makers.specs.Makers.{named, cell_of, cell_for, maker_place, free_place, mark_cell, mark_cells};
 
-use lists::Found;
 use page::{Cell, Page};
 use quote::{Level, Quote};
 
@@ -21,67 +20,51 @@ fn is_standing(page: &[u8], k: usize) -> bool
     page::stands(field::get8(page, page::cell_at(k) + Cell::QUOTE))
 }
 
-fn is_free(page: &[u8], k: usize) -> bool
-    requires { (length page.now ≡ page_length) × (k < maker_count) }
-    ensures { result ≡ not (is_some (cell_of page.now k)) }
-{
-    !is_standing(page, k)
-}
-
 // Whether cell k stands under a name.
 fn is_named(page: &[u8], k: usize, name: u32) -> bool
     requires { (length page.now ≡ page_length) × (k < maker_count) }
     ensures { result ≡ named name (cell_of page.now k) }
 {
-    if is_standing(page, k) {
-        return field::get32(page, page::cell_at(k)) == name;
-    }
-    false
+    is_standing(page, k) && field::get32(page, page::cell_at(k)) == name
 }
 
 /// The first cell of a name.
-pub fn maker_place(page: &[u8], name: u32) -> Found
+pub fn maker_place(page: &[u8], name: u32) -> Option<usize>
     requires { length page.now ≡ page_length }
     ensures { result ≡ maker_place page.now name }
 {
     for k in 0..Page::MAKERS {
         if is_named(page, k, name) {
-            return Found::At(k);
+            return Some(k);
         }
     }
-    Found::Nothing
+    None
 }
 
 /// The first free cell.
-pub fn free_place(page: &[u8]) -> Found
+pub fn free_place(page: &[u8]) -> Option<usize>
     requires { length page.now ≡ page_length }
     ensures { result ≡ free_place page.now }
 {
     for k in 0..Page::MAKERS {
-        if is_free(page, k) {
-            return Found::At(k);
+        if !is_standing(page, k) {
+            return Some(k);
         }
     }
-    Found::Nothing
+    None
 }
 
 /// Both sides 0 and 0.
 pub fn is_empty(quote: Quote) -> bool
     ensures { result ≡ empty_quote quote }
 {
-    if is_empty_side(quote.bid) {
-        return is_empty_side(quote.offer);
-    }
-    false
+    is_empty_side(quote.bid) && is_empty_side(quote.offer)
 }
 
 fn is_empty_side(l: Level) -> bool
     ensures { result ≡ empty_side l }
 {
-    if l.price == 0 {
-        return l.size == 0;
-    }
-    false
+    l.price == 0 && l.size == 0
 }
 
 /// Writes a maker's quote into cell k; an empty one frees it.
@@ -112,9 +95,7 @@ pub fn clear(s: &mut [u8], from: usize, to: usize)
     requires { (from ≤ to) × (to ≤ length s.old) }
     ensures { s.new ≡ splice s.old from (replicate (to - from) 0) }
 {
-    for i in from..to {
-        s[i] = 0;
-    }
+    s[from..to].fill(0);
 }
 
 // Gives cell k the condition, if it stands.

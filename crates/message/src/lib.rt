@@ -4,7 +4,7 @@
 ghost use Rattle.std.specs.Prelude.{◌≡◌, cond, ◌+◌, ◌*◌, ◌≤◌, ◌<◌, length};
 ghost use Rattle.lists.specs.Lists.{at, member};
 ghost use Rattle.text.specs.Form.{maker_good};
-ghost use Rattle.message.specs.Message.{control_kind, quote_kind, kind_of, level_at, quote_at, odd_at, round_conditions, maker_conditions, side_bad, price_fault, quote_fault, test_bytes, read_inquiry, read_test, read_finra, read_round_lot, misplaced, read_odd_lot, read_maker, status_kind, statuses, read_status, message_of};
+ghost use Rattle.message.specs.Message.{control_kind, quote_kind, kind_of, level_at, quote_at, odd_at, round_conditions, maker_conditions, side_bad, price_fault, test_bytes, read_inquiry, read_test, read_finra, read_round_lot, misplaced, read_odd_lot, read_maker, status_kind, statuses, read_status, message_of};
 ghost use Rattle.levels.specs.Levels.{item_length};
 
 use levels::Item;
@@ -62,7 +62,7 @@ impl Layout {
 }
 
 /// The type of a message. C I and C T are alike.
-#[derive(Clone, Copy)]
+#[derive(Clone, Copy, Debug, PartialEq, Eq)]
 pub enum Kind {
     Inquiry,
     Close,
@@ -112,11 +112,12 @@ pub enum Message {
 }
 
 /// Checks 40 to 48 as far as the message and the letter of its line tell, and what the message says. Any bytes, any length.
+#[tactic(auto, unfolding(crate::specs::Message::message_of))]
 pub fn read(msg: &[u8], letter: u8) -> Message
     ensures { result ≡ message_of letter msg.now }
 {
     let kind = kind_of(msg);
-    if let Kind::Unknown = kind {
+    if kind == Kind::Unknown {
         return Message::Refused(40);
     }
     if field::byte(msg, Layout::LETTER) != letter {
@@ -135,22 +136,20 @@ pub fn read(msg: &[u8], letter: u8) -> Message
     }
 }
 
+#[tactic(auto, unfolding(crate::specs::Message::kind_of))]
 fn kind_of(msg: &[u8]) -> Kind
     ensures { result ≡ kind_of msg.now }
 {
-    let category = field::byte(msg, Layout::CATEGORY);
-    if category == b'C' {
-        return control_kind(field::byte(msg, Layout::TYPE));
+    let kind = field::byte(msg, Layout::TYPE);
+    match field::byte(msg, Layout::CATEGORY) {
+        b'C' => control_kind(kind),
+        b'Q' => quote_kind(kind),
+        b'T' => status_kind(kind),
+        _ => Kind::Unknown,
     }
-    if category == b'Q' {
-        return quote_kind(field::byte(msg, Layout::TYPE));
-    }
-    if category == b'T' {
-        return status_kind(field::byte(msg, Layout::TYPE));
-    }
-    Kind::Unknown
 }
 
+#[tactic(auto, unfolding(crate::specs::Message::control_kind, lists::specs::Lists::member))]
 fn control_kind(kind: u8) -> Kind
     ensures { result ≡ control_kind kind }
 {
@@ -163,6 +162,7 @@ fn control_kind(kind: u8) -> Kind
     }
 }
 
+#[tactic(auto, unfolding(crate::specs::Message::quote_kind))]
 fn quote_kind(kind: u8) -> Kind
     ensures { result ≡ quote_kind kind }
 {
@@ -175,15 +175,17 @@ fn quote_kind(kind: u8) -> Kind
     }
 }
 
+#[tactic(auto, unfolding(crate::specs::Message::status_kind))]
 fn status_kind(kind: u8) -> Kind
     ensures { result ≡ status_kind kind }
 {
-    if kind == b'S' {
-        return Kind::Status;
+    match kind {
+        b'S' => Kind::Status,
+        _ => Kind::Unknown,
     }
-    Kind::Unknown
 }
 
+#[tactic(auto, unfolding(crate::specs::Message::read_inquiry))]
 fn read_inquiry(msg: &[u8]) -> Message
     ensures { result ≡ read_inquiry msg.now }
 {
@@ -196,19 +198,17 @@ fn read_inquiry(msg: &[u8]) -> Message
     Message::Idle
 }
 
+#[tactic(auto, unfolding(crate::specs::Message::read_test))]
 fn read_test(msg: &[u8]) -> Message
     ensures { result ≡ read_test msg.now }
 {
     if msg.len() != Layout::TEST_LEN {
         return Message::Refused(42);
     }
-    if field::byte(msg, Layout::ZERO) != 0 {
+    if field::byte(msg, Layout::ZERO) != 0 || !is_test(msg) {
         return Message::Refused(43);
     }
-    if is_test(msg) {
-        return Message::Idle;
-    }
-    Message::Refused(43)
+    Message::Idle
 }
 
 // Whether 95 bytes behind the header are hex 20 to 7E in order.
@@ -216,20 +216,16 @@ fn is_test(msg: &[u8]) -> bool
     requires { length msg.now ≡ 115 }
     ensures { result ≡ test_bytes msg.now }
 {
+    // i is both the place and, from a space on, the byte that stands there
     for i in 0..95 {
-        if wide(msg[Layout::HEADER + i]) != Layout::TEST_FIRST + i {
+        if usize::from(msg[Layout::HEADER + i]) != Layout::TEST_FIRST + i {
             return false;
         }
     }
     true
 }
 
-fn wide(x: u8) -> usize
-    ensures { (result ≡ x) × (result < 256) }
-{
-    x as usize
-}
-
+#[tactic(auto, unfolding(crate::specs::Message::read_finra))]
 fn read_finra(msg: &[u8], letter: u8, condition: u8) -> Message
     ensures { result ≡ read_finra condition letter msg.now }
 {
@@ -245,16 +241,14 @@ fn read_finra(msg: &[u8], letter: u8, condition: u8) -> Message
     Message::Refused(44)
 }
 
+#[tactic(auto, unfolding(crate::specs::Message::read_round_lot, crate::specs::Message::odd_at, crate::specs::Message::quote_fault, field::specs::Field::part))]
 fn read_round_lot(msg: &[u8], letter: u8) -> Message
     ensures { result ≡ read_round_lot letter msg.now }
 {
     if msg.len() != odd_length(msg, Layout::ROUND_LOT_CLEAR, Layout::ROUND_LOT_ITEMS) {
         return Message::Refused(42);
     }
-    if field::byte(msg, Layout::ZERO) != 0 {
-        return Message::Refused(43);
-    }
-    if field::byte(msg, Layout::ROUND_LOT_ZERO) != 0 {
+    if field::byte(msg, Layout::ZERO) != 0 || field::byte(msg, Layout::ROUND_LOT_ZERO) != 0 {
         return Message::Refused(43);
     }
     if letter == b'D' {
@@ -263,26 +257,24 @@ fn read_round_lot(msg: &[u8], letter: u8) -> Message
     if text::is_symbol(&msg[Layout::SYMBOL..Layout::CONDITION]) {
         let quote = quote_at(msg);
         let odd = odd_at(msg, Layout::ROUND_LOT_CLEAR, Layout::ROUND_LOT_ITEMS);
-        let fault = round_lot_fault(quote);
+        let fault = quote_fault(quote, is_round_condition(quote.condition), 0);
         return Message::RoundLot { fault, quote, odd };
     }
     Message::Refused(45)
 }
 
 // Q M, or FINRA's Q T.
+#[tactic(auto, unfolding(crate::specs::Message::read_odd_lot, crate::specs::Message::odd_at, field::specs::Field::part))]
 fn read_odd_lot(msg: &[u8], letter: u8, finra: bool) -> Message
     ensures { result ≡ read_odd_lot finra letter msg.now }
 {
     if msg.len() != odd_length(msg, Layout::ODD_LOT_CLEAR, Layout::ODD_LOT_ITEMS) {
         return Message::Refused(42);
     }
-    if field::byte(msg, Layout::ZERO) != 0 {
-        return Message::Refused(43);
-    }
-    if field::byte(msg, Layout::ODD_LOT_ZEROS) != 0 {
-        return Message::Refused(43);
-    }
-    if field::byte(msg, Layout::ODD_LOT_ZEROS + 1) != 0 {
+    if field::byte(msg, Layout::ZERO) != 0
+        || field::byte(msg, Layout::ODD_LOT_ZEROS) != 0
+        || field::byte(msg, Layout::ODD_LOT_ZEROS + 1) != 0
+    {
         return Message::Refused(43);
     }
     if is_misplaced(letter, finra) {
@@ -305,6 +297,7 @@ fn is_misplaced(letter: u8, finra: bool) -> bool
     letter == b'D'
 }
 
+#[tactic(auto, unfolding(crate::specs::Message::read_maker, crate::specs::Message::maker_name, crate::specs::Message::quote_fault, field::specs::Field::part))]
 fn read_maker(msg: &[u8], letter: u8) -> Message
     ensures { result ≡ read_maker letter msg.now }
 {
@@ -321,13 +314,14 @@ fn read_maker(msg: &[u8], letter: u8) -> Message
         let quote = quote_at(msg);
         let name = field::get32(msg, Layout::MAKER);
         let rest = name_fault(&msg[Layout::MAKER..Layout::MAKER_LEN]);
-        let fault = maker_fault(quote, rest);
+        let fault = quote_fault(quote, is_maker_condition(quote.condition), rest);
         return Message::Maker { fault, name, quote };
     }
     Message::Refused(45)
 }
 
 // T S, on any line.
+#[tactic(auto, unfolding(crate::specs::Message::read_status, field::specs::Field::part))]
 fn read_status(msg: &[u8]) -> Message
     ensures { result ≡ read_status msg.now }
 {
@@ -344,13 +338,11 @@ fn read_status(msg: &[u8]) -> Message
 }
 
 /// Whether a trading status is H, halted, or T, trading.
+#[tactic(auto, unfolding(lists::specs::Lists::member))]
 pub fn is_status(status: u8) -> bool
     ensures { result ≡ member statuses status }
 {
-    match status {
-        b'H' | b'T' => true,
-        _ => false,
-    }
+    matches!(status, b'H' | b'T')
 }
 
 // The length that the counts behind a clear mark ask for, the items starting at `items`.
@@ -358,119 +350,92 @@ fn odd_length(msg: &[u8], clear: usize, items: usize) -> usize
     requires { (clear < 1000) × (items < 1000) }
     ensures { result ≡ items + item_length * (at msg.now (clear + 1) + at msg.now (clear + 2)) }
 {
-    items + Item::LEN * (wide(field::byte(msg, clear + 1)) + wide(field::byte(msg, clear + 2)))
+    let bids = usize::from(field::byte(msg, clear + 1));
+    let offers = usize::from(field::byte(msg, clear + 2));
+    items + Item::LEN * (bids + offers)
 }
 
+#[tactic(auto, unfolding(crate::specs::Message::odd_at, crate::specs::Message::time_of))]
 fn odd_at(msg: &[u8], clear: usize, items: usize) -> OddPart
     requires { (clear < 1000) × (12 ≤ length msg.now) }
     ensures { result ≡ odd_at msg.now clear items }
 {
-    let mark = field::byte(msg, clear);
-    let bids = wide(field::byte(msg, clear + 1));
-    let offers = wide(field::byte(msg, clear + 2));
-    let time = field::get64(msg, Layout::TIME);
     OddPart {
-        mark,
-        bids,
-        offers,
-        time,
+        mark: field::byte(msg, clear),
+        bids: usize::from(field::byte(msg, clear + 1)),
+        offers: usize::from(field::byte(msg, clear + 2)),
+        time: field::get64(msg, Layout::TIME),
         items,
     }
 }
 
 // Price and size from `side` on, with the message's time.
+#[tactic(auto, unfolding(crate::specs::Message::level_at, crate::specs::Message::time_of))]
 fn level_at(msg: &[u8], side: usize) -> Level
     requires { (12 ≤ side) × (side + 12 ≤ length msg.now) }
     ensures { result ≡ level_at msg.now side }
 {
-    let price = field::get64(msg, side);
-    let size = field::get32(msg, side + 8);
-    let time = field::get64(msg, Layout::TIME);
-    Level { price, size, time }
+    Level {
+        price: field::get64(msg, side),
+        size: field::get32(msg, side + 8),
+        time: field::get64(msg, Layout::TIME),
+    }
 }
 
+#[tactic(auto, unfolding(crate::specs::Message::quote_at))]
 fn quote_at(msg: &[u8]) -> Quote
     requires { 56 ≤ length msg.now }
     ensures { result ≡ quote_at msg.now }
 {
-    let condition = field::get8(msg, Layout::CONDITION);
-    let bid = level_at(msg, Layout::BID);
-    let offer = level_at(msg, Layout::OFFER);
     Quote {
-        condition,
-        bid,
-        offer,
+        condition: field::get8(msg, Layout::CONDITION),
+        bid: level_at(msg, Layout::BID),
+        offer: level_at(msg, Layout::OFFER),
     }
 }
 
-// 46, 47.
-fn round_lot_fault(q: Quote) -> u8
-    ensures { result ≡ quote_fault round_conditions q 0 }
+// 46 for a condition that the type doesn't take, 47, then what follows.
+#[tactic(auto, unfolding(crate::specs::Message::price_fault))]
+fn quote_fault(q: Quote, takes: bool, rest: u8) -> u8
+    ensures { result ≡ cond takes (price_fault q rest) 46 }
 {
-    if is_round_condition(q.condition) {
-        return price_fault(q, 0);
+    if !takes {
+        return 46;
     }
-    46
-}
-
-// 46, 47, then what the name gives.
-fn maker_fault(q: Quote, rest: u8) -> u8
-    ensures { result ≡ quote_fault maker_conditions q rest }
-{
-    if is_maker_condition(q.condition) {
-        return price_fault(q, rest);
+    if is_side_bad(q.bid) || is_side_bad(q.offer) {
+        return 47;
     }
-    46
+    rest
 }
 
 // 48 for a maker that is not A to Z, at least one, then spaces.
 fn name_fault(s: &[u8]) -> u8
     ensures { result ≡ cond (maker_good s.now) 0 48 }
 {
-    if text::is_maker(s) {
-        return 0;
-    }
-    48
-}
-
-// 47, then what follows.
-fn price_fault(q: Quote, rest: u8) -> u8
-    ensures { result ≡ price_fault q rest }
-{
-    if is_side_bad(q.bid) {
-        return 47;
-    }
-    if is_side_bad(q.offer) {
-        return 47;
-    }
-    rest
+    if text::is_maker(s) { 0 } else { 48 }
 }
 
 // Price 0 with a size.
 fn is_side_bad(l: Level) -> bool
     ensures { result ≡ side_bad l }
 {
-    if l.price == 0 {
-        return 0 < l.size;
-    }
-    false
+    l.price == 0 && 0 < l.size
 }
 
 /// Whether a Q K takes the condition.
+#[tactic(auto, unfolding(lists::specs::Lists::member))]
 pub fn is_round_condition(condition: u8) -> bool
     ensures { result ≡ member round_conditions condition }
 {
-    match condition {
-        b'A' | b'B' | b'C' | b'E' | b'F' | b'H' | b'N' | b'O' | b'R' | b'U' | b'W' => true,
-        _ => false,
-    }
+    matches!(
+        condition,
+        b'A' | b'B' | b'C' | b'E' | b'F' | b'H' | b'N' | b'O' | b'R' | b'U' | b'W'
+    )
 }
 
+#[tactic(auto, unfolding(lists::specs::Lists::member))]
 fn is_maker_condition(condition: u8) -> bool
     ensures { result ≡ member maker_conditions condition }
 {
-    match condition {
-        b'L' | b'R' => true,
-        _ => false,
-    }
+    matches!(condition, b'L' | b'R')
 }

@@ -4,7 +4,7 @@ use Prim.Native.Nat.{ℕ, ◌<◌}
 use mathlib.Core.Path.{◌≡◌, refl, sym, ap, ◌∙◌, subst}
 use mathlib.Core.Bool.{Bool, true, false, ◌||◌, cond}
 use mathlib.Core.List.{List, map}
-use mathlib.Core.Option.{Option, none, some}
+use Rattle.std.specs.Prelude.{Option, None, Some}
 use Rattle.field.specs.Field.{Bytes}
 use Rattle.lists.specs.Lists.{upper}
 use Rattle.block.specs.Block.{idle_block, messages_of}
@@ -26,7 +26,7 @@ use Rattle.mixing.proofs.StepLaws.{Passes, number_for, settle_on, step_by, answe
 -- ---- two blocks that are taken
 
 module _ (n : ℕ) (b : List ℕ) (sd : Sound n b) (i j : ℕ) (d : i ≡ j → ⊥) (kx ky : List ℕ) where
-  module _ (off : Bool) (x y : Line) (ex : lines_in b i ≡ some x) (ey : lines_in b j ≡ some y) (l : x.letter ≡ y.letter → ⊥) where
+  module _ (off : Bool) (x y : Line) (ex : lines_in b i ≡ Some x) (ey : lines_in b j ≡ Some y) (l : x.letter ≡ y.letter → ⊥) where
     ux : upper x.letter ≡ true
     ux = up n b sd i kx x ex
 
@@ -67,7 +67,7 @@ module _ (n : ℕ) (b : List ℕ) (sd : Sound n b) (i j : ℕ) (d : i ≡ j → 
   -- ---- two blocks, refused ones among them
 
   module _ (a : Alone b) (day off : Bool) (rx ry : ℕ) where
-    letters : (x y : Line) → lines_in b i ≡ some x → lines_in b j ≡ some y → x.letter ≡ y.letter → ⊥
+    letters : (x y : Line) → lines_in b i ≡ Some x → lines_in b j ≡ Some y → x.letter ≡ y.letter → ⊥
     letters x y e f = alone-lines b a i j d x y e f
 
     steps-swap : (o q : Option Line) → lines_in b i ≡ o → lines_in b j ≡ q → step_by day off q j ky ry (step_by day off o i kx rx b) ≡ step_by day off o i kx rx (step_by day off q j ky ry b)
@@ -79,9 +79,9 @@ module _ (n : ℕ) (b : List ℕ) (sd : Sound n b) (i j : ℕ) (d : i ≡ j → 
         go o q e f true s false v = refl
         go o q e f false s true v = refl
         go o q e f false s false v = refl
-        go none q e f true s true v = absurd (none_done day kx rx s)
-        go (some x) none e f true s true v = absurd (none_done day ky ry v)
-        go (some x) (some y) e f true s true v = both-taken off x y e f (letters x y e f)
+        go None q e f true s true v = absurd (none_done day kx rx s)
+        go (Some x) None e f true s true v = absurd (none_done day ky ry v)
+        go (Some x) (Some y) e f true s true v = both-taken off x y e f (letters x y e f)
 
     told-stays : (o q : Option Line) → lines_in b i ≡ o → lines_in b j ≡ q → done (number_for day q ky ry) ≡ true
         → map quiet (told_on (step_by day off o i kx rx b) (letter_of q) (messages_of ky)) ≡ map quiet (told_on b (letter_of q) (messages_of ky))
@@ -90,9 +90,9 @@ module _ (n : ℕ) (b : List ℕ) (sd : Sound n b) (i j : ℕ) (d : i ≡ j → 
         go : (o q : Option Line) → lines_in b i ≡ o → lines_in b j ≡ q → (t : Bool) → done (number_for day o kx rx) ≡ t → done (number_for day q ky ry) ≡ true
             → map quiet (told_on (cond t (settle_on i kx off o (messages_on (letter_of o) (messages_of kx) b)) b) (letter_of q) (messages_of ky)) ≡ map quiet (told_on b (letter_of q) (messages_of ky))
         go o q e f false s v = refl
-        go none q e f true s v = absurd (none_done day kx rx s)
-        go (some x) none e f true s v = absurd (none_done day ky ry v)
-        go (some x) (some y) e f true s v = told-taken off x y e f (letters x y e f)
+        go None q e f true s v = absurd (none_done day kx rx s)
+        go (Some x) None e f true s v = absurd (none_done day ky ry v)
+        go (Some x) (Some y) e f true s v = told-taken off x y e f (letters x y e f)
 
     answers_stay : (o q : Option Line) → lines_in b i ≡ o → lines_in b j ≡ q
         → without_flags (answer_by day q ky ry (told_on (step_by day off o i kx rx b) (letter_of q) (messages_of ky))) ≡ without_flags (answer_by day q ky ry (told_on b (letter_of q) (messages_of ky)))

@@ -4,7 +4,7 @@ use Prim.Native.Nat.{ℕ, ◌+◌, ◌<◌, ◌≤◌}
 use mathlib.Core.Path.{◌≡◌, refl, sym, ap, ◌∙◌}
 use mathlib.Core.Bool.{Bool, true, false, ◌||◌, cond}
 use mathlib.Core.List.{List, [], ◌∷◌, map}
-use mathlib.Core.Option.{Option, some}
+use Rattle.std.specs.Prelude.{Option, Some, None}
 use mathlib.Core.Logic.{◌⊎◌, inl, inr}
 use native.Mathlib.Omega.{arith}
 use lib.Dec.{eqb, ltb}
@@ -13,8 +13,6 @@ use borrow.Author.Tests.{ltb-true, ltb-false}
 use Rattle.field.specs.Field.{be, part, field, splice, be_bytes}
 use Rattle.field.proofs.Laws.{length-be_bytes, field-part, field-part-0, splice-part, splice-inside}
 use Rattle.lists.specs.Lists.{upper}
-use Rattle.lists.specs.declared.Found.{Found}
-use Rattle.lists.specs.declared.Found.TheVariants.{At, Nothing}
 use Rattle.lists.proofs.Tests.{clash}
 use Rattle.allowance.specs.Allowance.{allowance_length, charges_from, charged_to, charged_bytes}
 use Rattle.message.specs.Message.{symbol_of, code_of, partly_taken, Part, round_part, odd_part, maker_part, finra_part, status_part, parts_of}
@@ -74,18 +72,18 @@ module _ (n : ℕ) (w : List ℕ → List ℕ) (l : Local (book_length n) behind
     place_kept s = place-by b (w b) s count_kept (λ k l. ap (λ (p : List ℕ). page_symbol p) (page-kept k)) (ap (λ (p : List ℕ). field p (hints_at + bucket_of s) 1) (page-kept 0))
 
     hits-kept : (r : Part) (k : ℕ) → hits r (w b) k ≡ hits r b k
-    hits-kept (round_part s l q) k = ap (λ (z : Found). hit_by z k) (place_kept s)
-    hits-kept (odd_part s l o) k = ap (λ (z : Found). hit_by z k) (place_kept s)
-    hits-kept (maker_part s m q) k = ap (λ (z : Found). hit_by z k) (place_kept s)
+    hits-kept (round_part s l q) k = ap (λ (z : Option ℕ). hit_by z k) (place_kept s)
+    hits-kept (odd_part s l o) k = ap (λ (z : Option ℕ). hit_by z k) (place_kept s)
+    hits-kept (maker_part s m q) k = ap (λ (z : Option ℕ). hit_by z k) (place_kept s)
     hits-kept (finra_part c) k = refl
-    hits-kept (status_part s x) k = ap (λ (z : Found). hit_by z k) (place_kept s)
+    hits-kept (status_part s x) k = ap (λ (z : Option ℕ). hit_by z k) (place_kept s)
 
     code-kept : (l : ℕ) (m : List ℕ) → code_on l m (w b) ≡ code_on l m b
     code-kept l m = ap (λ (r : Option Reading). code_of (known_of r) l m) (ap (reading_at (w b)) (place_kept (symbol_of m)) ∙ go (page_place b (symbol_of m)))
       where
-        go : (o : Found) → reading_at (w b) o ≡ reading_at b o
-        go (At k) = ap (λ (p : List ℕ). some (reading_of p)) (page-kept k)
-        go Nothing = refl
+        go : (o : Option ℕ) → reading_at (w b) o ≡ reading_at b o
+        go (Some k) = ap (λ (p : List ℕ). Some (reading_of p)) (page-kept k)
+        go None = refl
 
   part-after : (b : List ℕ) → Sound n b → (r : Part) → Shaped r → part_on r (w b) ≡ w (part_on r b)
   part-after b sd r e =

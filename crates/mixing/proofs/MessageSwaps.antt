@@ -5,7 +5,7 @@ use mathlib.Core.Path.{◌≡◌, refl, sym, ap, ◌∙◌}
 use mathlib.Core.Bool.{true}
 use mathlib.Core.List.{List, [], ◌∷◌, map}
 use Rattle.lists.specs.Lists.{upper}
-use Rattle.lists.specs.declared.Found.{Found}
+use Rattle.std.specs.Prelude.{Option}
 use Rattle.message.specs.Message.{symbol_of, partly_taken, Part, parts_of}
 use Rattle.update.specs.Parts.{reading_of, known_by, known_of}
 use Rattle.told.specs.declared.Told.{Told}
@@ -57,7 +57,7 @@ sent-on l m b = sent (Primary b l) (known_of (reading_for b (symbol_of m))) l m 
   where
     one : (known_of (reading_for b (symbol_of m))).primary ≡ l → Primary b l (symbol_of m)
     one e k f =
-        sym (ap (λ (r : Found). (known_of (reading_at b r)).primary) f) ∙ e
+        sym (ap (λ (r : Option ℕ). (known_of (reading_at b r)).primary) f) ∙ e
 
 pub message-sound : (n l : ℕ) → upper l ≡ true → (m b : List ℕ) → Sound n b → Sound n (message_on l m b)
 message-sound n l u m b sd = kept-sound b (message_on l m b) (message-kept n l u m b sd) n sd

@@ -4,7 +4,7 @@ use Prim.Native.Nat.{ℕ, ◌<◌}
 use mathlib.Core.Path.{◌≡◌, refl, sym, ap, ◌∙◌}
 use mathlib.Core.Bool.{Bool, true, false, cond}
 use mathlib.Core.List.{List}
-use mathlib.Core.Option.{Option, none, some}
+use Rattle.std.specs.Prelude.{Option, None, Some}
 use lib.Dec.{eqb, lit<}
 use Rattle.lists.proofs.Tests.{clash, Cut, equal, apart, cut}
 use Rattle.text.specs.Form.{letter_good}
@@ -22,11 +22,11 @@ use Rattle.mixing.specs.Mixing.{OneLineEach}
 
 pub fresh-one : (n : ℕ) → OneLineEach (fresh_bytes n)
 unfolding rest_in
-fresh-one n i j x y e f l = clash (let z : none ≡ some x = sym (ap (λ (r : Rest). r.lines i) (fresh-rest n)) ∙ e in cc)
+fresh-one n i j x y e f l = clash (let z : None ≡ Some x = sym (ap (λ (r : Rest). r.lines i) (fresh-rest n)) ∙ e in cc)
 
 -- no line has the letter
 abbrev pub NoLine : List ℕ → ℕ → Type 0
-NoLine b l = (j : ℕ) (y : Line) → lines_in b j ≡ some y → y.letter ≡ l → ⊥
+NoLine b l = (j : ℕ) (y : Line) → lines_in b j ≡ Some y → y.letter ≡ l → ⊥
 
 module _ (b : List ℕ) (o : OneLineEach b) (i l : ℕ) (z : NoLine b l) where
   abbrev new : Line
@@ -35,13 +35,13 @@ module _ (b : List ℕ) (o : OneLineEach b) (i l : ℕ) (z : NoLine b l) where
   lined-one : (n : ℕ) (sd : Sound n b) (h : i < line_count) → letter_good l ≡ true → OneLineEach (lined n b sd i h new)
   lined-one n sd h g j k x y e f m = go (cut j i) (cut k i) (sym (ap (λ (t : ℕ → Option Line). t j) lines) ∙ e) (sym (ap (λ (t : ℕ → Option Line). t k) lines) ∙ f)
     where
-      lines : lines_in (lined n b sd i h new) ≡ (λ j. cond (eqb j i) (some new) (lines_in b j))
+      lines : lines_in (lined n b sd i h new) ≡ (λ j. cond (eqb j i) (Some new) (lines_in b j))
       lines = lined-lines n b sd i h new (record { good = g; expected = lit< tt; count = lit< tt })
 
-      letter : (w : Line) → some new ≡ some w → w.letter ≡ l
-      letter w p = sym (ap (λ (t : Option Line). elim t [ none ↦ 0 | some r ↦ r.letter ]) p)
+      letter : (w : Line) → Some new ≡ Some w → w.letter ≡ l
+      letter w p = sym (ap (λ (t : Option Line). elim t [ None ↦ 0 | Some r ↦ r.letter ]) p)
 
-      go : Cut j i → Cut k i → cond (eqb j i) (some new) (lines_in b j) ≡ some x → cond (eqb k i) (some new) (lines_in b k) ≡ some y → j ≡ k
+      go : Cut j i → Cut k i → cond (eqb j i) (Some new) (lines_in b j) ≡ Some x → cond (eqb k i) (Some new) (lines_in b k) ≡ Some y → j ≡ k
       go (equal s p) (equal t q) e f = p ∙ sym q
       go (equal s p) (apart t q) e f = absurd (z k y (rw t at f) (sym m ∙ letter x (rw s at e)))
       go (apart s p) (equal t q) e f = absurd (z j x (rw s at e) (m ∙ letter y (rw t at f)))

@@ -11,8 +11,7 @@ use borrow.Author.Tests.{eqb-true}
 use Rattle.field.specs.Field.{part}
 use Rattle.field.proofs.Laws.{part_join, part-all}
 use Rattle.lists.specs.Lists.{upper}
-use Rattle.lists.specs.declared.Found.{Found}
-use Rattle.lists.specs.declared.Found.TheVariants.{At, Nothing}
+use Rattle.std.specs.Prelude.{Some, None, Option}
 use Rattle.lists.proofs.Tests.{clash, Cut, equal, apart, cut}
 use Rattle.message.specs.Message.{symbol_of, Part, round_part, odd_part, maker_part, finra_part, status_part}
 use Rattle.message.proofs.SpokenLaws.{Shaped}
@@ -54,9 +53,9 @@ module _ (n : ℕ) (b c : List ℕ) (opening : part b 0 opening_length ≡ part 
 
 -- ---- a part on a book, page by page
 
-abbrev pub hit_by : Found → ℕ → Bool
-hit_by (At j) k = eqb j k
-hit_by Nothing k = false
+abbrev pub hit_by : Option ℕ → ℕ → Bool
+hit_by (Some j) k = eqb j k
+hit_by None k = false
 
 -- whether it changes page k
 abbrev pub hits : Part → List ℕ → ℕ → Bool
@@ -74,13 +73,13 @@ module _ (n : ℕ) (b : List ℕ) (sd : Sound n b) where
       → page_at (on_page s h b) k ≡ cond (hit_by (page_place b s) k) (h (page_at b k)) (page_at b k)
   on-after s h keeps k = go (page_place b s) refl
     where
-      one : (j : ℕ) → page_place b s ≡ At j → Cut j k → page_at (on_page s h b) k ≡ cond (eqb j k) (h (page_at b k)) (page_at b k)
-      one j e (equal t z) = rw t (on_same n b sd s h keeps k (e ∙ ap At z))
+      one : (j : ℕ) → page_place b s ≡ Some j → Cut j k → page_at (on_page s h b) k ≡ cond (eqb j k) (h (page_at b k)) (page_at b k)
+      one j e (equal t z) = rw t (on_same n b sd s h keeps k (e ∙ ap Some z))
       one j e (apart t z) = rw t (on-other n b sd s h keeps k (λ y. z (at_same j k (sym e ∙ y))))
 
-      go : (r : Found) → page_place b s ≡ r → page_at (on_page s h b) k ≡ cond (hit_by r k) (h (page_at b k)) (page_at b k)
-      go (At j) e = one j e (cut j k)
-      go Nothing e = on-other n b sd s h keeps k (λ y. nowhere k (sym e ∙ y))
+      go : (r : Option ℕ) → page_place b s ≡ r → page_at (on_page s h b) k ≡ cond (hit_by r k) (h (page_at b k)) (page_at b k)
+      go (Some j) e = one j e (cut j k)
+      go None e = on-other n b sd s h keeps k (λ y. nowhere k (sym e ∙ y))
 
 pub part_sound : (n : ℕ) (b : List ℕ) → Sound n b → (r : Part) → Shaped r → Sound n (part_on r b)
 part_sound n b sd r z = kept-sound b (part_on r b) (part-kept n r b sd z) n sd
@@ -119,9 +118,9 @@ sent-at b l k (maker_part s m q) x h = x
 sent-at b l k (finra_part c) x h = x
 sent-at b l k (status_part s y) x h = go (page_place b s) refl h
   where
-    go : (f : Found) → page_place b s ≡ f → hit_by f k ≡ true → page_primary (page_at b k) ≡ l
-    go (At j) e t = x k (e ∙ ap At (eqb-true j k t))
-    go Nothing e t = clash (sym t)
+    go : (f : Option ℕ) → page_place b s ≡ f → hit_by f k ≡ true → page_primary (page_at b k) ≡ l
+    go (Some j) e t = x k (e ∙ ap Some (eqb-true j k t))
+    go None e t = clash (sym t)
 
 module _ (n : ℕ) (b : List ℕ) (sd : Sound n b) (l : ℕ) (u : upper l ≡ true) (r : Part) (x : SentOn b l r) where
   pub sent-sound : Sound n (part_on r b)
@@ -146,11 +145,11 @@ module _ (n : ℕ) (b : List ℕ) (sd : Sound n b) (l : ℕ) (u : upper l ≡ tr
       one j at m h i = head-after (λ p. part p at m) (λ k h. head-part-stays l l u r (anywhere b l u r x) (page_at b k) (length-page n b sd k h) at m i) j h
 
   pub hits-stay : (t : Part) (k : ℕ) → hits t (part_on r b) k ≡ hits t b k
-  hits-stay (round_part s j q) k = ap (λ (z : Found). hit_by z k) (place-stays s)
-  hits-stay (odd_part s j o) k = ap (λ (z : Found). hit_by z k) (place-stays s)
-  hits-stay (maker_part s m q) k = ap (λ (z : Found). hit_by z k) (place-stays s)
+  hits-stay (round_part s j q) k = ap (λ (z : Option ℕ). hit_by z k) (place-stays s)
+  hits-stay (odd_part s j o) k = ap (λ (z : Option ℕ). hit_by z k) (place-stays s)
+  hits-stay (maker_part s m q) k = ap (λ (z : Option ℕ). hit_by z k) (place-stays s)
   hits-stay (finra_part c) k = refl
-  hits-stay (status_part s x) k = ap (λ (z : Found). hit_by z k) (place-stays s)
+  hits-stay (status_part s x) k = ap (λ (z : Option ℕ). hit_by z k) (place-stays s)
 
   -- what is sent to the book is sent to it afterwards
   pub still-sent : (j : ℕ) (t : Part) → SentOn b j t → SentOn (part_on r b) j t
@@ -158,7 +157,7 @@ module _ (n : ℕ) (b : List ℕ) (sd : Sound n b) (l : ℕ) (u : upper l ≡ tr
     where
       one : (s : ℕ) → Primary b j s → Primary (part_on r b) j s
       one s f k e =
-          let q : page_place b s ≡ At k = sym (place-stays s) ∙ e in
+          let q : page_place b s ≡ Some k = sym (place-stays s) ∙ e in
           primary-after k (omega (arith, (place-hit b s k q).0, sd.count)) ∙ f k q
 
   -- the code of a message of another letter stays
@@ -169,13 +168,13 @@ module _ (n : ℕ) (b : List ℕ) (sd : Sound n b) (l : ℕ) (u : upper l ≡ tr
       one k h true = page-code-stays l l u r (anywhere b l u r x) (page_at b k) (length-page n b sd k h) j v d m
       one k h false = refl
 
-      go : (o : Found) → page_place b (symbol_of m) ≡ o → code_on j m (part_on r b) ≡ code_on j m b
-      go (At k) e =
+      go : (o : Option ℕ) → page_place b (symbol_of m) ≡ o → code_on j m (part_on r b) ≡ code_on j m b
+      go (Some k) e =
           let h : k < n = omega (arith, (place-hit b (symbol_of m) k e).0, sd.count) in
           code_at j m (part_on r b) k (place-stays (symbol_of m) ∙ e)
           ∙ ap (page_code j m) (page-after n b sd r (shape b l u r x) k h) ∙ one k h (hits r b k)
           ∙ sym (code_at j m b k e)
-      go Nothing e = code-nowhere j m (part_on r b) (place-stays (symbol_of m) ∙ e) ∙ sym (code-nowhere j m b e)
+      go None e = code-nowhere j m (part_on r b) (place-stays (symbol_of m) ∙ e) ∙ sym (code-nowhere j m b e)
 
 -- one after the other, page by page
 twice : (n : ℕ) (b : List ℕ) → Sound n b → (l j : ℕ) → upper l ≡ true → upper j ≡ true → (r t : Part) → SentOn b l r → SentOn b j t → (k : ℕ) → k < n

@@ -4,7 +4,7 @@ use Prim.Native.Nat.{ℕ, ◌<◌}
 use mathlib.Core.Path.{◌≡◌, refl, sym, ap, ◌∙◌}
 use mathlib.Core.Bool.{Bool, true, false, not, ◌&&◌, cond}
 use mathlib.Core.List.{List}
-use mathlib.Core.Option.{Option, none, some}
+use Rattle.std.specs.Prelude.{Option, None, Some}
 use native.Mathlib.Omega.{arith}
 use lib.Dec.{eqb, ltb}
 use lib.ListN.{length}
@@ -37,10 +37,10 @@ number-used : (t day used : Bool) (k : List ℕ) (o : Option Line) → eqb (cond
 unfolding done
 number-used true day true k o = refl
 number-used true day false k o = refl
-number-used false day true k none = refl
-number-used false day false k none = refl
-number-used false day true k (some r) = used-number r day k
-number-used false day false k (some r) = left-number r day k
+number-used false day true k None = refl
+number-used false day false k None = refl
+number-used false day true k (Some r) = used-number r day k
+number-used false day false k (Some r) = left-number r day k
 
 abbrev pub comes_on : List ℕ → ℕ → List ℕ → ℕ → Bool
 comes_on b i k room = done (number_for (rest_in b).day (lines_in b i) k room) && not (idle_block k)
@@ -66,8 +66,8 @@ module _ (n : ℕ) (b : List ℕ) (sd : Sound n b) (i : ℕ) (k : List ℕ) (roo
   comes-low c = go (lines_in b i) refl (and-true (done (number_for (rest_in b).day (lines_in b i) k room)) (not (idle_block k)) c).0
     where
       go : (o : Option Line) → lines_in b i ≡ o → done (number_for (rest_in b).day o k room) ≡ true → i < line_count
-      go none e d = absurd (none_done (rest_in b).day k room d)
-      go (some r) e d = (line-open b i r e).0
+      go None e d = absurd (none_done (rest_in b).day k room d)
+      go (Some r) e d = (line-open b i r e).0
 
 -- ---- the allowance after a block
 
@@ -93,7 +93,7 @@ settled-allowance n b sd y i h x false u =
     ∙ ap (λ (z : Allowance). charged z i) (lined-allowance b i h x)
 
 module _ (n : ℕ) (b : List ℕ) (sd : Sound n b) (y : Bytes b) (i : ℕ) (k : List ℕ) (room : ℕ) (p : Passes b i k room) where
-  mid-allowance : (r : Line) (e : lines_in b i ≡ some r) → allowance_on (messages_on r.letter (messages_of k) b) ≡ allowance_on b
+  mid-allowance : (r : Line) (e : lines_in b i ≡ Some r) → allowance_on (messages_on r.letter (messages_of k) b) ≡ allowance_on b
   mid-allowance r e = allowance-by b (messages_on r.letter (messages_of k) b) ((mid-kept n b sd i k r e).front allowance_at allowance_length (omega arith))
 
   left-on : (o : Option Line) → lines_in b i ≡ o → done (number_for (rest_in b).day o k room) ≡ true → idle_block k ≡ false → is_used_up (allowance_on b) i ≡ false
@@ -104,10 +104,10 @@ module _ (n : ℕ) (b : List ℕ) (sd : Sound n b) (y : Bytes b) (i : ℕ) (k : 
   step-allowance : (o : Option Line) → lines_in b i ≡ o → (t : Bool) → done (number_for (rest_in b).day o k room) ≡ t
       → allowance_on (cond t (advance_on i k o (messages_on (letter_of o) (messages_of k) b)) b) ≡ cond (t && not (idle_block k)) (charged (allowance_on b) i) (allowance_on b)
   step-allowance o e false f = refl
-  step-allowance none e true f = absurd (none_done (rest_in b).day k room f)
-  step-allowance (some r) e true f =
+  step-allowance None e true f = absurd (none_done (rest_in b).day k room f)
+  step-allowance (Some r) e true f =
       settled-allowance n (messages_on r.letter (messages_of k) b) (mid-sound n b sd i k r e) ((mid-kept n b sd i k r e).bytes y) i (low n b sd i k r e) (advanced r k) (idle_block k)
-      (λ g. ap (λ (z : Allowance). is_used_up z i) (mid-allowance r e) ∙ left-on (some r) e f g)
+      (λ g. ap (λ (z : Allowance). is_used_up z i) (mid-allowance r e) ∙ left-on (Some r) e f g)
       ∙ ap (λ (z : Allowance). cond (not (idle_block k)) (charged z i) z) (mid-allowance r e)
 
   allowance-after : allowance_on (after b i k room) ≡ cond (comes_on b i k room) (charged (allowance_on b) i) (allowance_on b)

@@ -4,7 +4,7 @@ use Prim.Native.Nat.{ℕ, ◌+◌, ◌≤◌, ◌<◌}
 use mathlib.Core.Path.{◌≡◌, refl, sym, ap, ◌∙◌}
 use mathlib.Core.Bool.{Bool, true, false, ◌||◌, cond}
 use mathlib.Core.List.{List, [], ◌∷◌, map}
-use mathlib.Core.Option.{Option, none, some}
+use Rattle.std.specs.Prelude.{Option, None, Some, Result, Ok, Err}
 use native.Mathlib.Omega.{arith}
 use lib.Dec.{eqb, ltb, lit≤}
 use lib.ListN.{length}
@@ -18,9 +18,7 @@ use Rattle.allowance.specs.Allowance.{is_used_up}
 use Rattle.block.specs.Block.{count_in, sequence_in, checked, idle_block, messages_of, answer_length}
 use Rattle.block.specs.Sequence.{arrival_of}
 use Rattle.block.specs.declared.Arrival.{Arrival}
-use Rattle.block.specs.declared.Arrival.TheVariants.{Taken, Duplicate}
-use Rattle.block.specs.declared.Checked.{Checked}
-use Rattle.block.specs.declared.Checked.TheVariants as checks
+use Rattle.numbers.specs.declared.Refusal.{Refusal}
 use Rattle.told.specs.declared.Told.{Told}
 use Rattle.told.specs.Told.{is_accepted, is_partly, is_rejected, quads, tally}
 use Rattle.opening.specs.declared.Line.{Line}
@@ -53,9 +51,9 @@ left-same : (r : Line) (day : Bool) (k : List ℕ) → (block_number r day true 
 unfolding block_number line_number
 left-same r day k = go (checked k)
   where
-    arrived : (a : Arrival) → (◌≡◌ {A = ℕ} (arrival_number_of true a) 86 → ⊥) → ◌≡◌ {A = ℕ} (arrival_number_of true a) (arrival_number_of false a)
-    arrived (Taken g n) p = absurd (p refl)
-    arrived Duplicate p = refl
+    arrived : (a : Option Arrival) → (◌≡◌ {A = ℕ} (arrival_number_of true a) 86 → ⊥) → ◌≡◌ {A = ℕ} (arrival_number_of true a) (arrival_number_of false a)
+    arrived (Some a) p = absurd (p refl)
+    arrived None p = refl
 
     line : (s t : Bool) → (◌≡◌ {A = ℕ} (cond s 0 (cond t (arrival_number_of true (arrival_of (sequence_in k) r.expected (count_in k))) 20)) 86 → ⊥)
         → ◌≡◌ {A = ℕ} (cond s 0 (cond t (arrival_number_of true (arrival_of (sequence_in k) r.expected (count_in k))) 20))
@@ -64,21 +62,21 @@ left-same r day k = go (checked k)
     line false true p = arrived (arrival_of (sequence_in k) r.expected (count_in k)) p
     line false false p = refl
 
-    go : (x : Checked) → (checked_number_of r day true k x ≡ 86 → ⊥) → checked_number_of r day true k x ≡ checked_number_of r day false k x
-    go (checks.Pass c) p = line (idle_block k) day p
-    go (checks.Refused n) p = refl
+    go : (x : Result ℕ Refusal) → (checked_number_of r day true k x ≡ 86 → ⊥) → checked_number_of r day true k x ≡ checked_number_of r day false k x
+    go (Ok c) p = line (idle_block k) day p
+    go (Err n) p = refl
 
 left-for : (t day used : Bool) (k : List ℕ) (o : Option Line) → (◌≡◌ {A = ℕ} (cond t 9 (on_line day used k o)) 86 → ⊥)
     → ◌≡◌ {A = ℕ} (cond t 9 (on_line day used k o)) (cond t 9 (on_line day false k o))
 left-for true day used k o p = refl
 left-for false day false k o p = refl
-left-for false day true k none p = refl
-left-for false day true k (some r) p = left-same r day k p
+left-for false day true k None p = refl
+left-for false day true k (Some r) p = left-same r day k p
 
 -- the line's record after a block, and its charge; off: no allowance is set
 abbrev pub settle_on : ℕ → List ℕ → Bool → Option Line → List ℕ → List ℕ
-settle_on i k off none b = b
-settle_on i k off (some r) b = settle_set i (advanced r k) (idle_block k || off) b
+settle_on i k off None b = b
+settle_on i k off (Some r) b = settle_set i (advanced r k) (idle_block k || off) b
 
 abbrev pub step_by : Bool → Bool → Option Line → ℕ → List ℕ → ℕ → List ℕ → List ℕ
 step_by day off o i k room b = cond (done (number_for day o k room)) (settle_on i k off o (messages_on (letter_of o) (messages_of k) b)) b
@@ -88,7 +86,7 @@ answer_by day o k room ts = cond (eqb (number_for day o k room) 9) (bare (number
 
 -- ---- its messages, on an open line
 
-module _ (n : ℕ) (b : List ℕ) (sd : Sound n b) (i : ℕ) (k : List ℕ) (r : Line) (e : lines_in b i ≡ some r) where
+module _ (n : ℕ) (b : List ℕ) (sd : Sound n b) (i : ℕ) (k : List ℕ) (r : Line) (e : lines_in b i ≡ Some r) where
   pub low : i < line_count
   low = (line-open b i r e).0
 
@@ -118,8 +116,8 @@ module _ (n : ℕ) (b : List ℕ) (sd : Sound n b) (i : ℕ) (k : List ℕ) (r :
 module _ (n : ℕ) (b : List ℕ) (sd : Sound n b) (i : ℕ) (k : List ℕ) where
   advance-is : (o : Option Line) → lines_in b i ≡ o
       → advance_on i k o (messages_on (letter_of o) (messages_of k) b) ≡ settle_on i k (unset b) o (messages_on (letter_of o) (messages_of k) b)
-  advance-is none e = refl
-  advance-is (some r) e =
+  advance-is None e = refl
+  advance-is (Some r) e =
       settled_is n i (low n b sd i k r e) (advanced r k) (idle_block k) (messages_on r.letter (messages_of k) b) (mid-sound n b sd i k r e).size
       ∙ ap (λ (t : Bool). settle_set i (advanced r k) (idle_block k || t) (messages_on r.letter (messages_of k) b)) (unset-mid n b sd i k r e)
 
@@ -143,7 +141,7 @@ module _ (n : ℕ) (b : List ℕ) (sd : Sound n b) (i : ℕ) (k : List ℕ) wher
         (ap (λ (z : ℕ). cond (eqb z 9) (bare z) (line_answer z k (told_on b (letter_of (lines_in b i)) (messages_of k)) (lines_in b i))) number_is)
 
 -- a line that is not open takes no block
-pub none_done : (day : Bool) (k : List ℕ) (room : ℕ) → done (number_for day none k room) ≡ true → ⊥
+pub none_done : (day : Bool) (k : List ℕ) (room : ℕ) → done (number_for day None k room) ≡ true → ⊥
 unfolding done
 none_done day k room = go (ltb room answer_length)
   where
@@ -181,8 +179,8 @@ report-quiet k gap r ts =
     }
 
 line_quiet : (k : ℕ) (b : List ℕ) (ts : List Told) (o : Option Line) → without_flags (line_answer k b ts o) ≡ line_answer k b (map quiet ts) o
-line_quiet k b ts none = refl
-line_quiet k b ts (some r) = go (done k)
+line_quiet k b ts None = refl
+line_quiet k b ts (Some r) = go (done k)
   where
     go : (t : Bool) → without_flags (cond t (report k (gap_told r b) (advanced r b) ts) (report k 0 r [])) ≡ cond t (report k (gap_told r b) (advanced r b) (map quiet ts)) (report k 0 r [])
     go true = report-quiet k (gap_told r b) (advanced r b) ts
@@ -202,8 +200,8 @@ module _ (day : Bool) (o : Option Line) (k : List ℕ) (room : ℕ) where
   unheard ts us v = ap (λ (z : Answer). cond (eqb (number_for day o k room) 9) (bare (number_for day o k room)) z) (line o)
     where
       line : (r : Option Line) → line_answer (number_for day o k room) k ts r ≡ line_answer (number_for day o k room) k us r
-      line none = refl
-      line (some r) = rw v
+      line None = refl
+      line (Some r) = rw v
 
 -- ---- what a block on line i leaves of the opening
 
@@ -212,22 +210,22 @@ module _ (n : ℕ) (b : List ℕ) (sd : Sound n b) (i : ℕ) (k : List ℕ) (day
   step-sound o e = go o e (done (number_for day o k room)) refl
     where
       go : (o : Option Line) → lines_in b i ≡ o → (t : Bool) → done (number_for day o k room) ≡ t → Sound n (cond t (settle_on i k off o (messages_on (letter_of o) (messages_of k) b)) b)
-      go none e true f = absurd (none_done day k room f)
-      go none e false f = sd
-      go (some r) e true f =
+      go None e true f = absurd (none_done day k room f)
+      go None e false f = sd
+      go (Some r) e true f =
           write-sound n (settle_set i (advanced r k) (idle_block k || off)) (settle-behind i (low n b sd i k r e) n (advanced r k) (idle_block k || off)) (messages_on r.letter (messages_of k) b)
           (mid-sound n b sd i k r e)
-      go (some r) e false f = sd
+      go (Some r) e false f = sd
 
   pub step-apart : (o : Option Line) → lines_in b i ≡ o → (at m : ℕ) → at + m ≤ opening_length → (i < line_count → Apart (own_of i) (within at m)) → part (step_by day off o i k room b) at m ≡ part b at m
   step-apart o e at m h d = go o e (done (number_for day o k room)) refl
     where
       go : (o : Option Line) → lines_in b i ≡ o → (t : Bool) → done (number_for day o k room) ≡ t
           → part (cond t (settle_on i k off o (messages_on (letter_of o) (messages_of k) b)) b) at m ≡ part b at m
-      go none e true f = absurd (none_done day k room f)
-      go none e false f = refl
-      go (some r) e true f = one_apart n b sd i k r e (idle_block k || off) at m h (d (low n b sd i k r e))
-      go (some r) e false f = refl
+      go None e true f = absurd (none_done day k room f)
+      go None e false f = refl
+      go (Some r) e true f = one_apart n b sd i k r e (idle_block k || off) at m h (d (low n b sd i k r e))
+      go (Some r) e false f = refl
 
   -- the day, whether an allowance is set, and the other lines
   pub day-stays : (o : Option Line) → lines_in b i ≡ o → (rest_in (step_by day off o i k room b)).day ≡ (rest_in b).day
@@ -242,7 +240,7 @@ module _ (n : ℕ) (b : List ℕ) (sd : Sound n b) (i : ℕ) (k : List ℕ) (day
   unfolding lines_in
   line_stays o e j d = go (ltb j line_count) refl
     where
-      go : (t : Bool) → ltb j line_count ≡ t → cond t (line_in (part (step_by day off o i k room b) (line_at j) line_length)) none ≡ cond t (line_in (part b (line_at j) line_length)) none
+      go : (t : Bool) → ltb j line_count ≡ t → cond t (line_in (part (step_by day off o i k room b) (line_at j) line_length)) None ≡ cond t (line_in (part b (line_at j) line_length)) None
       go true h = ap line_in (step-apart o e (line_at j) line_length (omega (arith, ltb-true j line_count h)) (λ q. line-apart i j (ltb-true j line_count h) d))
       go false h = refl
 
@@ -255,15 +253,15 @@ module _ (n : ℕ) (b : List ℕ) (sd : Sound n b) (i : ℕ) (k : List ℕ) (day
 
 -- ---- letters: "each letter has at most one line" stays true
 
-letter-of : (b : List ℕ) (i : ℕ) (r : Line) → lines_in b i ≡ some r → r.letter ≡ field b (line_at i) 1
+letter-of : (b : List ℕ) (i : ℕ) (r : Line) → lines_in b i ≡ Some r → r.letter ≡ field b (line_at i) 1
 unfolding lines_in line_in
 letter-of b i r e = go (ltb i line_count) (letter_good (field (part b (line_at i) line_length) 0 1)) e
   where
     go : (t u : Bool)
-        → cond t (cond u (some (record { letter = field (part b (line_at i) line_length) 0 1; expected = field (part b (line_at i) line_length) 1 4; count = field (part b (line_at i) line_length) 5 8 })) none) none
-        ≡ some r
+        → cond t (cond u (Some (record { letter = field (part b (line_at i) line_length) 0 1; expected = field (part b (line_at i) line_length) 1 4; count = field (part b (line_at i) line_length) 5 8 })) None) None
+        ≡ Some r
         → r.letter ≡ field b (line_at i) 1
-    go true true e = sym (ap (λ (o : Option Line). elim o [ none ↦ 0 | some y ↦ y.letter ]) e) ∙ field-part-0 b (line_at i) line_length 1 (lit≤ tt)
+    go true true e = sym (ap (λ (o : Option Line). elim o [ None ↦ 0 | Some y ↦ y.letter ]) e) ∙ field-part-0 b (line_at i) line_length 1 (lit≤ tt)
     go true false e = clash (cc)
     go false u e = clash (cc)
 
@@ -276,7 +274,7 @@ abbrev pub Alone : List ℕ → Type 0
 Alone b = (i j : ℕ) → i < line_count → j < line_count → letter_good (field b (line_at i) 1) ≡ true → field b (line_at i) 1 ≡ field b (line_at j) 1 → i ≡ j
 
 line-at : (b : List ℕ) (i : ℕ) → i < line_count → letter_good (field b (line_at i) 1) ≡ true
-    → lines_in b i ≡ some (record { letter = field (part b (line_at i) line_length) 0 1; expected = field (part b (line_at i) line_length) 1 4; count = field (part b (line_at i) line_length) 5 8 })
+    → lines_in b i ≡ Some (record { letter = field (part b (line_at i) line_length) 0 1; expected = field (part b (line_at i) line_length) 1 4; count = field (part b (line_at i) line_length) 5 8 })
 unfolding lines_in line_in
 line-at b i h l =
     let e : letter_good (field (part b (line_at i) line_length) 0 1) ≡ true = ap letter_good (field-part-0 b (line_at i) line_length 1 (lit≤ tt)) ∙ l in
@@ -287,7 +285,7 @@ alone_of b a i j h k l e =
     a i j _ _ (line-at b i h l) (line-at b j k (ap letter_good (sym e) ∙ l))
     (field-part-0 b (line_at i) line_length 1 (lit≤ tt) ∙ e ∙ sym (field-part-0 b (line_at j) line_length 1 (lit≤ tt)))
 
-pub alone-lines : (b : List ℕ) → Alone b → (i j : ℕ) → (i ≡ j → ⊥) → (x y : Line) → lines_in b i ≡ some x → lines_in b j ≡ some y → x.letter ≡ y.letter → ⊥
+pub alone-lines : (b : List ℕ) → Alone b → (i j : ℕ) → (i ≡ j → ⊥) → (x y : Line) → lines_in b i ≡ Some x → lines_in b j ≡ Some y → x.letter ≡ y.letter → ⊥
 alone-lines b a i j d x y e f l =
     let p = line-open b i x e in
     let q = line-open b j y f in
@@ -301,7 +299,7 @@ module _ (n : ℕ) (b : List ℕ) (sd : Sound n b) (i : ℕ) (k : List ℕ) (day
       charged c v true = refl
       charged c v false = field-before c (charge_at i) (be_bytes 1 (field c (charge_at i) 1 + 1)) (line_at i) 1 v (omega arith)
 
-      set : (r : Line) → lines_in b i ≡ some r → field (settle_set i (advanced r k) (idle_block k || off) (messages_on r.letter (messages_of k) b)) (line_at i) 1 ≡ field b (line_at i) 1
+      set : (r : Line) → lines_in b i ≡ Some r → field (settle_set i (advanced r k) (idle_block k || off) (messages_on r.letter (messages_of k) b)) (line_at i) 1 ≡ field b (line_at i) 1
       set r e =
           let a : Line = advanced r k in
           let m : List ℕ = messages_on r.letter (messages_of k) b in
@@ -316,10 +314,10 @@ module _ (n : ℕ) (b : List ℕ) (sd : Sound n b) (i : ℕ) (k : List ℕ) (day
 
       go : (o : Option Line) → lines_in b i ≡ o → (t : Bool) → done (number_for day o k room) ≡ t
           → field (cond t (settle_on i k off o (messages_on (letter_of o) (messages_of k) b)) b) (line_at i) 1 ≡ field b (line_at i) 1
-      go none e true f = absurd (none_done day k room f)
-      go none e false f = refl
-      go (some r) e true f = set r e
-      go (some r) e false f = refl
+      go None e true f = absurd (none_done day k room f)
+      go None e false f = refl
+      go (Some r) e true f = set r e
+      go (Some r) e false f = refl
 
   letters-stay : (o : Option Line) → lines_in b i ≡ o → (j : ℕ) → j < line_count → field (step_by day off o i k room b) (line_at j) 1 ≡ field b (line_at j) 1
   letters-stay o e j h = go (cut i j)

@@ -1,7 +1,6 @@
 -- Lines in any arrival order (document 02, T-09): blocks that are received, their mixings, and what each line is told.
 -- Assumes nothing.
-use Rattle.std.specs.Prelude.{ℕ, ◌≡◌, Bool, true, not, ◌&&◌, cond, List, [], ◌∷◌, map, eqb}
-use Rattle.std.proofs.Math.Option.{some}
+use Rattle.std.specs.Prelude.{ℕ, ◌≡◌, Bool, true, not, ◌&&◌, cond, List, [], ◌∷◌, map, eqb, Some}
 use Rattle.opening.specs.declared.Line.{Line}
 use Rattle.opening.specs.Opening.{lines_in}
 use Rattle.calls.specs.Call.{Call, take, Answer, answers, bytes_after}
@@ -30,7 +29,7 @@ Mixing f xs = (i : ℕ) → of_line i xs ≡ f i
 
 -- "each letter has at most one line"
 abbrev pub OneLineEach : List ℕ → Type 0
-OneLineEach b = (i j : ℕ) (x y : Line) → lines_in b i ≡ some x → lines_in b j ≡ some y → x.letter ≡ y.letter → i ≡ j
+OneLineEach b = (i j : ℕ) (x y : Line) → lines_in b i ≡ Some x → lines_in b j ≡ Some y → x.letter ≡ y.letter → i ≡ j
 
 -- ---- "Change flags may differ": an answer without them
 

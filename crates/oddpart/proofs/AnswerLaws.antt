@@ -4,7 +4,7 @@ use Prim.Native.Nat.{ℕ, zero, suc, ◌+◌, ◌*◌, ◌^◌, ◌≤◌, ◌<�
 use mathlib.Core.Path.{◌≡◌, refl, sym, ap, ◌∙◌}
 use mathlib.Core.Bool.{Bool, true, false, ◌&&◌, ◌||◌, cond}
 use mathlib.Core.List.{List, [], ◌∷◌, ◌++◌}
-use mathlib.Core.Option.{Option, none, some}
+use Rattle.std.specs.Prelude.{Option, None, Some}
 use native.Mathlib.Omega.{arith}
 use borrow.Author.Tests.{eqb-true}
 use lib.Dec.{eqb}
@@ -24,14 +24,14 @@ use Rattle.oddpart.proofs.PartLaws.{length-items}
 use Rattle.oddpart.proofs.OddLaws.{odd-priced}
 
 -- code 0: the part was taken, no item made a fifth level
-pub taken-some : (lot : ℕ) (v : Standing) (o : Odd) → odd_code lot v o ≡ 0 → odd_on o v ≡ some (or_else (odd_on o v) v)
+pub taken-some : (lot : ℕ) (v : Standing) (o : Odd) → odd_code lot v o ≡ 0 → odd_on o v ≡ Some (or_else (odd_on o v) v)
 unfolding odd_code
 taken-some lot v o e = go (odd_on o v) (eqb (odd_bad lot o) 0) refl e
   where
-    go : (x : Option Standing) (t : Bool) → eqb (odd_bad lot o) 0 ≡ t → cond t (fifth x) (odd_bad lot o) ≡ 0 → x ≡ some (or_else x v)
-    go (some w) t z e = refl
-    go none true z e = absurd (omega arith)
-    go none false z e = clash (sym (ap (λ (n : ℕ). eqb n 0) e) ∙ z)
+    go : (x : Option Standing) (t : Bool) → eqb (odd_bad lot o) 0 ≡ t → cond t (fifth x) (odd_bad lot o) ≡ 0 → x ≡ Some (or_else x v)
+    go (Some w) t z e = refl
+    go None true z e = absurd (omega arith)
+    go None false z e = clash (sym (ap (λ (n : ℕ). eqb n 0) e) ∙ z)
 
 -- ---- an idle part
 
@@ -41,7 +41,7 @@ no_items [] (y ∷ ys) e = absurd (omega arith)
 no_items (x ∷ xs) ys e = absurd (omega arith)
 
 -- it is accepted, and nothing is done
-pub odd-idle : (lot : ℕ) (v : Standing) (o : Odd) → idle_odd o ≡ true → (odd_code lot v o ≡ 0) × (odd_on o v ≡ some v)
+pub odd-idle : (lot : ℕ) (v : Standing) (o : Odd) → idle_odd o ≡ true → (odd_code lot v o ≡ 0) × (odd_on o v ≡ Some v)
 unfolding idle_odd odd_code odd_bad items_bad odd_on items_on clears cleared_by member
 odd-idle lot v o e =
     let (m, n) = and-true (eqb o.mark space) (eqb (length (o.bids ++ o.offers)) 0) e in

@@ -4,7 +4,7 @@ use Prim.Native.Nat.{ℕ}
 use mathlib.Core.Path.{◌≡◌, refl}
 use mathlib.Core.Bool.{◌&&◌, cond}
 use mathlib.Core.List.{List, [], ◌∷◌, ◌++◌}
-use mathlib.Core.Option.{Option, none, some}
+use Rattle.std.specs.Prelude.{Option, None, Some}
 use lib.Dec.{eqb}
 use Rattle.lists.specs.Lists.{member, or_else}
 use Rattle.field.specs.Field.{be, part, field}
@@ -31,7 +31,7 @@ pub record Outcome : Type 0 where
   pub offers : Option (List Level)
 
 abbrev written : Standing → Odd → Side → Option (List Level)
-written v o s = cond (eqb (odd_code 100 v o) 0 && touches o s) (some (side_levels s (or_else (odd_on o v) v))) none
+written v o s = cond (eqb (odd_code 100 v o) 0 && touches o s) (Some (side_levels s (or_else (odd_on o v) v))) None
 
 abbrev after : Standing → ℕ → ℕ → ℕ → List ℕ → Outcome
 after v mark bids offers s =
@@ -39,16 +39,16 @@ after v mark bids offers s =
     record { code = odd_code 100 v o; bids = written v o Bid; offers = written v o Offer }
 
 abbrev wrote_bids : List Level → Outcome
-wrote_bids ls = record { code = 0; bids = some ls; offers = none }
+wrote_bids ls = record { code = 0; bids = Some ls; offers = None }
 
 abbrev wrote_offers : List Level → Outcome
-wrote_offers ls = record { code = 0; bids = none; offers = some ls }
+wrote_offers ls = record { code = 0; bids = None; offers = Some ls }
 
 abbrev wrote_both : List Level → List Level → Outcome
-wrote_both bs os = record { code = 0; bids = some bs; offers = some os }
+wrote_both bs os = record { code = 0; bids = Some bs; offers = Some os }
 
 abbrev refused : ℕ → Outcome
-refused n = record { code = n; bids = none; offers = none }
+refused n = record { code = n; bids = None; offers = None }
 
 pub record Cases : Type 0 where
   pub p7-in : after no_levels 32 1 0 (item 7 99) ≡ wrote_bids (level 7 99 9 ∷ [])
@@ -78,7 +78,7 @@ pub record Cases : Type 0 where
   -- a mark alone writes the sides that it clears; X and items of one side write both; a space and no items write none
   pub cleared-offers : after four 83 0 0 [] ≡ wrote_offers []
   pub cleared_both : after four 88 0 1 (item 51 5) ≡ wrote_both [] (level 51 5 9 ∷ [])
-  pub idle : after four 32 0 0 [] ≡ record { code = 0; bids = none; offers = none }
+  pub idle : after four 32 0 0 [] ≡ record { code = 0; bids = None; offers = None }
 
 pub cases : Cases
 unfolding odd_code odd_bad odd_on items_bad items_on item_on without insert clears cleared_by touches item_at items_from odd_in member field part be

@@ -4,7 +4,7 @@ use Prim.Native.Nat.{ℕ, ◌≤◌}
 use mathlib.Core.Path.{◌≡◌, refl}
 use mathlib.Core.Bool.{false}
 use mathlib.Core.List.{List, [], ◌∷◌}
-use mathlib.Core.Option.{Option, none, some}
+use Rattle.std.specs.Prelude.{Option, None, Some, Result, Err}
 use native.Mathlib.Omega.{arith}
 use lib.Dec.{eqb}
 use lib.ListN.{length}
@@ -12,8 +12,9 @@ use Rattle.lists.specs.Lists.{bind_option}
 use Rattle.ranking.specs.declared.Side.{Side}
 use Rattle.quote.specs.declared.Level.{Level}
 use Rattle.levels.specs.declared.Item.{Item}
-use Rattle.levels.specs.declared.Changed.{Changed}
-use Rattle.levels.specs.declared.Judged.TheVariants.{Refused}
+use Rattle.levels.specs.declared.Levels.{Levels}
+use Rattle.numbers.specs.declared.Rejection.{Rejection}
+use Rattle.numbers.specs.declared.Rejection.TheVariants.{FifthLevel}
 use Rattle.levels.specs.Levels.{item_on, items_on, cleared_by}
 use Rattle.levels.specs.code.Cells.{cells_of, passed}
 use Rattle.levels.proofs.LevelLaws.{Ranked, item-short, item-ranked, cleared-elim}
@@ -26,9 +27,9 @@ Priced [] = Unit {0}
 Priced (i ∷ is) = (eqb i.price 0 ≡ false) × Priced is
 
 -- what a side gives: the cells of its levels, or 64
-abbrev pub Gives : Changed → Option (List Level) → Type 0
-Gives c none = c.judged ≡ Refused 64
-Gives c (some ms) = c ≡ passed (cells_of ms)
+abbrev pub Gives : Result Levels Rejection → Option (List Level) → Type 0
+Gives c None = c ≡ Err FifthLevel
+Gives c (Some ms) = c ≡ passed (cells_of ms)
 
 module _ (s : Side) (t : ℕ) where
   items-cells : (is : List Item) (ls : List Level) → Priced is → length ls ≤ 4 → Ranked s ls → Gives (with_items s t is (record { cells = cells_of ls })) (items_on s t is ls)
@@ -38,9 +39,9 @@ module _ (s : Side) (t : ℕ) where
     where
       go : (o : Option (List Level)) → item_on s t i ls ≡ o
           → ((ms : List Level) → length ms ≤ 4 → Ranked s ms → Gives (with_items s t is (record { cells = cells_of ms })) (items_on s t is ms))
-          → (let c = side_answer (record { cells = cells_of ls }) o in Gives (on_pass c.judged (with_items s t is c.levels) c) (bind_option o (items_on s t is)))
-      go none x down = refl
-      go (some ms) x down = down ms (item-short s t i ls ms x h) (item-ranked s t i ls ms x p.0 r)
+          → Gives (on_pass (side_answer o) (with_items s t is)) (bind_option o (items_on s t is))
+      go None x down = refl
+      go (Some ms) x down = down ms (item-short s t i ls ms x h) (item-ranked s t i ls ms x p.0 r)
 
   pub part-cells : (mark : ℕ) (is : List Item) (ls : List Level) → Priced is → length ls ≤ 4 → Ranked s ls → Gives (with_part s mark t is ls) (items_on s t is (cleared_by mark s ls))
   unfolding with_part start_of

@@ -1,38 +1,16 @@
 -- What the checks of an odd part say.
 -- Assumes nothing.
 use Prim.Native.Nat.{ℕ}
-use mathlib.Core.Path.{◌≡◌, refl, sym}
+use mathlib.Core.Path.{◌≡◌, refl}
 use mathlib.Core.Bool.{Bool, true, false, ◌&&◌, cond}
 use mathlib.Core.List.{List, [], ◌∷◌, ◌++◌}
 use native.Mathlib.Omega.{arith}
-use borrow.Author.Tests.{eqb-true}
 use lib.Dec.{eqb, leb}
 use lib.ListN.{length}
 use Rattle.lists.specs.Lists.{member}
 use Rattle.levels.specs.declared.Item.{Item}
-use Rattle.levels.specs.declared.Judged.TheVariants.{Pass, Refused}
 use Rattle.levels.specs.Levels.{Odd, items_bad, odd_bad, clear_marks}
-use Rattle.oddpart.specs.code.Part.{judged_by}
 use Rattle.oddpart.proofs.ItemsLaws.{Priced}
-
-pub pass-refused : {A : Type 0} (x : ℕ) → Pass ≡ Refused x → A
-pass-refused x e = absurd (let z : ◌≡◌ {A = ℕ} 0 1 = cc in omega arith)
-
-pub judged-pass : (n : ℕ) → judged_by n ≡ Pass → n ≡ 0
-unfolding judged_by
-judged-pass n e = go (eqb n 0) refl e
-  where
-    go : (t : Bool) → eqb n 0 ≡ t → cond t Pass (Refused n) ≡ Pass → n ≡ 0
-    go true z e = eqb-true n 0 z
-    go false z e = pass-refused n (sym e)
-
-pub judged-refused : (n x : ℕ) → judged_by n ≡ Refused x → (eqb n 0 ≡ false) × (judged_by n ≡ Refused n)
-unfolding judged_by
-judged-refused n x e = go (eqb n 0) refl e
-  where
-    go : (t : Bool) → eqb n 0 ≡ t → cond t Pass (Refused n) ≡ Refused x → (eqb n 0 ≡ false) × (cond t Pass (Refused n) ≡ Refused n)
-    go true z e = pass-refused x e
-    go false z e = (z, refl)
 
 -- no 62: every item has a price
 items-priced : (lot : ℕ) (is : List Item) → items_bad lot is ≡ 0 → Priced is

@@ -4,6 +4,7 @@ use Prim.Native.Nat.{ℕ, zero, suc, ◌+◌, ◌-◌, ◌≤◌, ◌<◌}
 use mathlib.Core.Path.{◌≡◌, refl, sym, ap, ◌∙◌}
 use mathlib.Core.Bool.{Bool, true, false, not, ◌&&◌, ◌||◌, cond}
 use mathlib.Core.List.{List, [], ◌∷◌, ◌++◌}
+use mathlib.Core.Logic.{◌⊎◌, inl, inr}
 use native.Mathlib.Omega.{arith}
 use native.Mathlib.Nat.{sub-zero, add-zero}
 use borrow.Author.Tests.{eq-eqb, ne_eqb, le-leb, lt-leb}
@@ -17,11 +18,11 @@ use Rattle.quote.specs.declared.Level.{Level}
 use Rattle.quote.specs.Quote.{no_level}
 use Rattle.levels.specs.declared.Levels.{Levels}
 use Rattle.levels.specs.declared.Item.{Item}
-use Rattle.levels.specs.declared.Changed.{Changed}
-use Rattle.levels.specs.declared.Judged.TheVariants.{Pass, Refused}
+use Rattle.numbers.specs.declared.Rejection.{Rejection}
+use Rattle.std.specs.Prelude.{Result, Ok, Err}
 use Rattle.levels.specs.Levels.{clears, cleared_by, named, touches, items_bad, odd_bad, item_at, items_from, odd_in, clear_marks}
 use Rattle.levels.specs.code.Cells.{padded_cells, cells_of, with_item}
-use Rattle.oddpart.specs.code.Part.{judged_by, on_pass, touched_by, start_of, with_items, with_part}
+use Rattle.oddpart.specs.code.Part.{on_pass, touched_by, start_of, with_items, with_part}
 
 -- ---- checks 62 and 63, item by item: what remains from item i on gives what the whole gives
 
@@ -34,23 +35,18 @@ module _ (lot n : ℕ) (s : List ℕ) (w : ℕ) where
     unfolding items_bad items_from
     step = rw (less_one n i h, ← a)
 
-    pub judge-price : it.price ≡ 0 → Refused 62 ≡ judged_by w
-    unfolding judged_by
+    pub judge-price : it.price ≡ 0 → 62 ≡ w
     judge-price e = rw (← inv, step, eq-eqb it.price 0 e)
 
-    pub judge-shares : (it.price ≡ 0 → ⊥) → lot ≤ it.shares → Refused 63 ≡ judged_by w
-    unfolding judged_by
+    pub judge-shares : (it.price ≡ 0 → ⊥) → lot ≤ it.shares → 63 ≡ w
     judge-shares e l = rw (← inv, step, ne_eqb it.price 0 e, le-leb lot it.shares l)
 
     pub judge-again : (it.price ≡ 0 → ⊥) → it.shares < lot → items_bad lot (items_from s (i + 1) (n - (i + 1))) ≡ w
     judge-again e l = sym (step ∙ rw (ne_eqb it.price 0 e, lt-leb lot it.shares l)) ∙ inv
 
-  pub judge-end : (i : ℕ) → n ≤ i → items_bad lot (items_from s i (n - i)) ≡ w → Pass ≡ judged_by w
-  unfolding judged_by items_bad items_from
-  judge-end i h inv =
-      let e : n - i ≡ 0 = omega arith in
-      let z : 0 ≡ w = rw e at inv in
-      rw (← z)
+  pub judge-end : (i : ℕ) → n ≤ i → items_bad lot (items_from s i (n - i)) ≡ w → 0 ≡ w
+  unfolding items_bad items_from
+  judge-end i h inv = let e : n - i ≡ 0 = omega arith in rw e at inv
 
 -- ---- the checks of a part, in their order
 
@@ -77,18 +73,14 @@ module _ (mark bids offers lot : ℕ) (s : List ℕ) where
   unfolding odd_bad odd_in counts
   bad-is = rw (length-items s 0 bids, length-items s bids offers, items-join s 0 bids bids offers (omega arith))
 
-  pub part-60 : member clear_marks mark ≡ false → Refused 60 ≡ judged_by (odd_bad lot (odd_in mark bids offers 0 s))
-  unfolding judged_by
+  pub part-60 : member clear_marks mark ≡ false → 60 ≡ odd_bad lot (odd_in mark bids offers 0 s)
   part-60 m = rw (bad-is, m)
 
   module _ (m : member clear_marks mark ≡ true) where
-    pub part-61-bids : 4 < bids → Refused 61 ≡ judged_by (odd_bad lot (odd_in mark bids offers 0 s))
-    unfolding judged_by counts
-    part-61-bids b = rw (bad-is, m, lt-leb bids 4 b)
-
-    pub part-61-offers : bids ≤ 4 → 4 < offers → Refused 61 ≡ judged_by (odd_bad lot (odd_in mark bids offers 0 s))
-    unfolding judged_by counts
-    part-61-offers b o = rw (bad-is, m, le-leb bids 4 b, lt-leb offers 4 o)
+    pub part-61 : (4 < bids) ⊎ ((bids ≤ 4) × (4 < offers)) → 61 ≡ odd_bad lot (odd_in mark bids offers 0 s)
+    unfolding counts
+    part-61 (inl b) = rw (bad-is, m, lt-leb bids 4 b)
+    part-61 (inr h) = rw (bad-is, m, le-leb bids 4 h.0, lt-leb offers 4 h.1)
 
     pub part-items : bids ≤ 4 → offers ≤ 4 → items_bad lot (items_from s 0 (bids + offers)) ≡ odd_bad lot (odd_in mark bids offers 0 s)
     unfolding counts
@@ -100,21 +92,21 @@ module _ (sd : Side) (t : ℕ) (s : List ℕ) (from n : ℕ) where
   pub items-start : (l : Levels) → with_items sd t (items_from s (from + 0) (n - 0)) l ≡ with_items sd t (items_from s from n) l
   items-start l = simp (sub-zero, add-zero)
 
-  module _ (w : Changed) (l : Levels) where
-    module _ (i : ℕ) (h : i < n) (inv : with_items sd t (items_from s (from + i) (n - i)) l ≡ w) (it : Item) (a : it ≡ item_at s (from + i)) (ch : Changed) (e : ch ≡ with_item sd t it l) where
-      items-step : with_items sd t (items_from s (from + i) (n - i)) l ≡ on_pass ch.judged (with_items sd t (items_from s (from + i + 1) (n - (i + 1))) ch.levels) ch
+  module _ (w : Result Levels Rejection) (l : Levels) where
+    module _ (i : ℕ) (h : i < n) (inv : with_items sd t (items_from s (from + i) (n - i)) l ≡ w) (it : Item) (a : it ≡ item_at s (from + i)) (ch : Result Levels Rejection) (e : ch ≡ with_item sd t it l) where
+      items-step : with_items sd t (items_from s (from + i) (n - i)) l ≡ on_pass ch (with_items sd t (items_from s (from + i + 1) (n - (i + 1))))
       unfolding with_items items_from
       items-step = rw (less_one n i h, ← a, ← e)
 
-      pub items_refused : (x : ℕ) → ch.judged ≡ Refused x → ch ≡ w
-      items_refused x r = sym (items-step ∙ rw r) ∙ inv
+      pub items-rejected : (x : Rejection) → ch ≡ Err x → Err x ≡ w
+      items-rejected x r = sym (items-step ∙ rw r) ∙ inv
 
-      pub items-again : ch.judged ≡ Pass → with_items sd t (items_from s (from + (i + 1)) (n - (i + 1))) ch.levels ≡ w
-      items-again r =
-          let k : from + (i + 1) ≡ from + i + 1 = omega arith in
-          rw k (sym (items-step ∙ rw r) ∙ inv)
+      pub items-again : (k : Levels) → ch ≡ Ok k → with_items sd t (items_from s (from + (i + 1)) (n - (i + 1))) k ≡ w
+      items-again k r =
+          let j : from + (i + 1) ≡ from + i + 1 = omega arith in
+          rw j (sym (items-step ∙ rw r) ∙ inv)
 
-    pub items-end : (i : ℕ) → n ≤ i → with_items sd t (items_from s (from + i) (n - i)) l ≡ w → record { judged = Pass; levels = l } ≡ w
+    pub items-end : (i : ℕ) → n ≤ i → with_items sd t (items_from s (from + i) (n - i)) l ≡ w → Ok l ≡ w
     unfolding with_items items_from
     items-end i h inv =
         let e : n - i ≡ 0 = omega arith in

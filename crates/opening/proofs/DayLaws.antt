@@ -2,7 +2,7 @@
 -- Assumes nothing.
 use Rattle.std.proofs.Common.{◌≡◌, ℕ, zero, suc, ◌+◌, ◌*◌, ◌≤◌, Bool, true, false, cond, eqb, ltb, List, [], ◌∷◌, ◌++◌, length, refl, ap, ◌∙◌, append_assoc, arith, lit<, length-append, ltb-true}
 use mathlib.Core.Path.{fun_ext}
-use mathlib.Core.Option.{none, some}
+use Rattle.std.specs.Prelude.{None, Some}
 use Rattle.field.specs.Field.{Bytes, be, part, field, splice, be_bytes}
 use Rattle.field.proofs.Laws.{bytes-be_bytes, bytes-append, bytes-part, bytes-splice, length_part, length-splice, part-before, part-behind, part-put}
 use Rattle.lists.specs.Lists.{map_option}
@@ -126,9 +126,9 @@ unfolding line_in restarted
 restarted-line r w = rw (letter-of r w) (go (letter_good (field r 0 1)))
   where
     go : (t : Bool)
-        → cond t (some (record { letter = field r 0 1; expected = field (again r w) 1 4; count = field (again r w) 5 8 })) none
-        ≡ map_option restarted_line (cond t (some (record { letter = field r 0 1; expected = field r 1 4; count = field r 5 8 })) none)
-    go true = λ i. some (record { letter = field r 0 1; expected = (tail_of r w 0 4 ∙ one-next) i; count = (tail_of r w 4 8 ∙ none-counted) i })
+        → cond t (Some (record { letter = field r 0 1; expected = field (again r w) 1 4; count = field (again r w) 5 8 })) None
+        ≡ map_option restarted_line (cond t (Some (record { letter = field r 0 1; expected = field r 1 4; count = field r 5 8 })) None)
+    go true = λ i. Some (record { letter = field r 0 1; expected = (tail_of r w 0 4 ∙ one-next) i; count = (tail_of r w 4 8 ∙ none-counted) i })
     go false = refl
 
 restart-each : (i k : ℕ) (b : List ℕ) → restart_lines i k b ≡ each_cell lines_at line_length restarted i k b
@@ -173,7 +173,7 @@ module _ (n : ℕ) (b : List ℕ) (sd : Sound n b) where
   unfolding lines_in
   relined-lines = fun_ext (λ i. go i (ltb i line_count) refl)
     where
-      go : (i : ℕ) (t : Bool) → ltb i line_count ≡ t → cond t (line_in (part relined (line_at i) line_length)) none ≡ map_option restarted_line (cond t (line_in (part b (line_at i) line_length)) none)
+      go : (i : ℕ) (t : Bool) → ltb i line_count ≡ t → cond t (line_in (part relined (line_at i) line_length)) None ≡ map_option restarted_line (cond t (line_in (part b (line_at i) line_length)) None)
       go i true e =
           ap line_in (all_lines.cell i (omega arith) (omega (arith, ltb-true i line_count e)))
           ∙ restarted-line (part b (line_at i) line_length) (length-cell b lines_at line_length line_count i re-room (ltb-true i line_count e))

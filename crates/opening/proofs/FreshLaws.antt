@@ -2,7 +2,7 @@
 -- Assumes nothing.
 use Rattle.std.proofs.Common.{◌≡◌, ℕ, zero, suc, ◌+◌, ◌*◌, ◌^◌, ◌<◌, ◌≤◌, Bool, true, false, cond, eqb, ltb, List, [], ◌∷◌, ◌++◌, length, replicate, sym, refl, ap, ◌∙◌, append_assoc, suc-mul, arith, lit<, length-append, ltb-true}
 use mathlib.Core.Path.{fun_ext}
-use mathlib.Core.Option.{none}
+use Rattle.std.specs.Prelude.{None}
 use lib.ListN.{length-replicate}
 use Rattle.field.specs.Field.{Bytes, be, part, field, be_bytes}
 use Rattle.field.proofs.Laws.{bytes-append}
@@ -121,15 +121,15 @@ module _ (n : ℕ) where
       (bytes-append (n ∷ 0 ∷ 0 ∷ be_bytes 4 opening_length) (replicate lines_length 0 ++ blank_pages n) (opening-bytes up)
       (bytes-append (replicate lines_length 0) (blank_pages n) (bytes-zeros lines_length) (bytes-pages n)))
 
-  no_line : line_in (replicate line_length 0) ≡ none
+  no_line : line_in (replicate line_length 0) ≡ None
   unfolding line_in field part
   no_line = refl
 
-  fresh_lines : lines_in (fresh_bytes n) ≡ (λ i. none)
+  fresh_lines : lines_in (fresh_bytes n) ≡ (λ i. None)
   unfolding lines_in
   fresh_lines = fun_ext (λ i. go i (ltb i line_count) refl)
     where
-      go : (i : ℕ) (t : Bool) → ltb i line_count ≡ t → cond t (line_in (part (fresh_bytes n) (line_at i) line_length)) none ≡ none
+      go : (i : ℕ) (t : Bool) → ltb i line_count ≡ t → cond t (line_in (part (fresh_bytes n) (line_at i) line_length)) None ≡ None
       go i true e = ap line_in (line-at i (ltb-true i line_count e)) ∙ no_line
       go i false e = refl
 
@@ -148,7 +148,7 @@ module _ (n : ℕ) where
   unfolding allowance_on
   fresh-allowance = ap allowance_in allowance-zeros ∙ zeros-none
 
-  pub fresh-rest : rest_in (fresh_bytes n) ≡ record { n = n; lines = λ i. none; day = false; allowance = no_allowance }
+  pub fresh-rest : rest_in (fresh_bytes n) ≡ record { n = n; lines = λ i. None; day = false; allowance = no_allowance }
   unfolding rest_in
   fresh-rest = λ k. record { n = fresh-symbols k; lines = fresh_lines k; day = eqb (fresh-day k) 1; allowance = fresh-allowance k }
 

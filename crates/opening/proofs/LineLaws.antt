@@ -2,7 +2,7 @@
 -- Assumes nothing.
 use Rattle.std.proofs.Common.{◌≡◌, ℕ, ◌+◌, ◌*◌, ◌^◌, ◌<◌, ◌≤◌, Bool, true, false, cond, not, eqb, ltb, List, ◌++◌, length, sym, refl, ap, ◌∙◌, arith, ltb-true, lt-ltb}
 use mathlib.Core.Path.{fun_ext}
-use mathlib.Core.Option.{Option, none, some}
+use Rattle.std.specs.Prelude.{Option, None, Some}
 use Rattle.field.specs.Field.{Bytes, be, part, field, splice, be_bytes}
 use Rattle.field.proofs.Laws.{be-be_bytes, bytes-be_bytes, bytes-append, bytes-splice, length-splice, part-before, part-behind}
 use Rattle.lists.specs.Lists.{upper}
@@ -36,27 +36,27 @@ bytes-line x =
     bytes-append (be_bytes 1 x.letter ++ be_bytes 4 x.expected) (be_bytes 8 x.count)
     (bytes-append (be_bytes 1 x.letter) (be_bytes 4 x.expected) (bytes-be_bytes 1 x.letter) (bytes-be_bytes 4 x.expected)) (bytes-be_bytes 8 x.count)
 
-pub line-back : (x : Line) → LineFits x → line_in (line_bytes x) ≡ some x
+pub line-back : (x : Line) → LineFits x → line_in (line_bytes x) ≡ Some x
 unfolding line_in line_bytes be_bytes field part
 line-back x f =
     let a : be (be_bytes 1 x.letter) ≡ x.letter = be-be_bytes 1 x.letter (omega (arith, (upper-low x.letter (line-upper x f.good)).1)) in
     let d : be (be_bytes 4 x.expected) ≡ x.expected = be-be_bytes 4 x.expected f.expected in
     let c : be (be_bytes 8 x.count) ≡ x.count = be-be_bytes 8 x.count f.count in
     let e : letter_good (be (be_bytes 1 x.letter)) ≡ true = rw a f.good in
-    let g : cond (letter_good (be (be_bytes 1 x.letter))) (some (record { letter = be (be_bytes 1 x.letter); expected = be (be_bytes 4 x.expected); count = be (be_bytes 8 x.count) })) none ≡ some x =
-    rw e (λ i. some (record { letter = a i; expected = d i; count = c i })) in
+    let g : cond (letter_good (be (be_bytes 1 x.letter))) (Some (record { letter = be (be_bytes 1 x.letter); expected = be (be_bytes 4 x.expected); count = be (be_bytes 8 x.count) })) None ≡ Some x =
+    rw e (λ i. Some (record { letter = a i; expected = d i; count = c i })) in
     g
 
 -- an open line is one of 64, and its letter is one
-pub line-open : (b : List ℕ) (i : ℕ) (x : Line) → lines_in b i ≡ some x → (i < line_count) × (letter_good x.letter ≡ true)
+pub line-open : (b : List ℕ) (i : ℕ) (x : Line) → lines_in b i ≡ Some x → (i < line_count) × (letter_good x.letter ≡ true)
 unfolding lines_in line_in
 line-open b i x e = go (ltb i line_count) refl (letter_good (field (part b (line_at i) line_length) 0 1)) refl e
   where
     go : (t : Bool) → ltb i line_count ≡ t → (u : Bool) → letter_good (field (part b (line_at i) line_length) 0 1) ≡ u
-        → cond t (cond u (some (record { letter = field (part b (line_at i) line_length) 0 1; expected = field (part b (line_at i) line_length) 1 4; count = field (part b (line_at i) line_length) 5 8 })) none) none ≡ some x
+        → cond t (cond u (Some (record { letter = field (part b (line_at i) line_length) 0 1; expected = field (part b (line_at i) line_length) 1 4; count = field (part b (line_at i) line_length) 5 8 })) None) None ≡ Some x
         → (i < line_count) × (letter_good x.letter ≡ true)
     go true h true g e =
-        let q : field (part b (line_at i) line_length) 0 1 ≡ x.letter = ap (λ (o : Option Line). elim o [ none ↦ 0 | some y ↦ y.letter ]) e in
+        let q : field (part b (line_at i) line_length) 0 1 ≡ x.letter = ap (λ (o : Option Line). elim o [ None ↦ 0 | Some y ↦ y.letter ]) e in
         (ltb-true i line_count h, sym (ap letter_good q) ∙ g)
     go true h false g e = clash (cc)
     go false h u g e = clash (cc)
@@ -85,17 +85,17 @@ module _ (n : ℕ) (b : List ℕ) (sd : Sound n b) (i : ℕ) (low : i < line_cou
   pub lined-pages : pages_in lined ≡ pages_in b
   lined-pages = pages-by b lined (count_by b lined lined-head) (λ k h. lined-page k)
 
-  pub lined-lines : LineFits x → lines_in lined ≡ (λ j. cond (eqb j i) (some x) (lines_in b j))
+  pub lined-lines : LineFits x → lines_in lined ≡ (λ j. cond (eqb j i) (Some x) (lines_in b j))
   unfolding lines_in
   lined-lines f = fun_ext (λ j. go j (cut j i) (ltb j line_count) refl)
     where
-      go : (j : ℕ) → Cut j i → (t : Bool) → ltb j line_count ≡ t → cond t (line_in (part lined (line_at j) line_length)) none ≡ cond (eqb j i) (some x) (cond t (line_in (part b (line_at j) line_length)) none)
+      go : (j : ℕ) → Cut j i → (t : Bool) → ltb j line_count ≡ t → cond t (line_in (part lined (line_at j) line_length)) None ≡ cond (eqb j i) (Some x) (cond t (line_in (part b (line_at j) line_length)) None)
       go j (equal y e) true h = rw (y, e) (ap line_in (cell_same b lines_at line_length line_count i (line_bytes x) line-room low (length-line x)) ∙ line-back x f)
       go j (equal y e) false h = clash (sym (let z : ltb j line_count ≡ true = rw e (lt-ltb i line_count low) in z) ∙ h)
       go j (apart y e) true h = rw y (ap line_in (cell_other b lines_at line_length line_count i (line_bytes x) line-room low (length-line x) j (λ z. e (sym z))))
       go j (apart y e) false h = rw y
 
-  pub lined-rest : LineFits x → rest_in lined ≡ record { n = (rest_in b).n; lines = λ j. cond (eqb j i) (some x) ((rest_in b).lines j); day = (rest_in b).day; allowance = (rest_in b).allowance }
+  pub lined-rest : LineFits x → rest_in lined ≡ record { n = (rest_in b).n; lines = λ j. cond (eqb j i) (Some x) ((rest_in b).lines j); day = (rest_in b).day; allowance = (rest_in b).allowance }
   unfolding rest_in symbols_of field
   lined-rest f =
       let s : be (part lined n_at 1) ≡ be (part b n_at 1) = ap be (lined-head n_at 1 (omega arith)) in

@@ -2,7 +2,7 @@
 -- Assumes nothing.
 use Rattle.std.proofs.Common.{◌≡◌, ℕ, ◌+◌, ◌<◌, ◌≤◌, Bool, true, false, cond, eqb, ltb, leb, List, [], ◌∷◌, length, sym, refl, ap, ◌∙◌, arith, ltb-true, eq-eqb, eqb-true, le-leb, leb-true}
 use mathlib.Core.Path.{fun_ext}
-use mathlib.Core.Option.{none}
+use Rattle.std.specs.Prelude.{None}
 use Rattle.field.specs.Field.{Bytes, be, part, field, splice}
 use Rattle.field.proofs.Laws.{part-behind, length_part, bytes-part}
 use Rattle.lists.specs.Lists.{same_list}
@@ -91,7 +91,7 @@ module _ (b b' : List ℕ) where
   unfolding lines_in
   lines-by h = fun_ext (λ i. go i (ltb i line_count) refl)
     where
-      go : (i : ℕ) (t : Bool) → ltb i line_count ≡ t → cond t (line_in (part b' (line_at i) line_length)) none ≡ cond t (line_in (part b (line_at i) line_length)) none
+      go : (i : ℕ) (t : Bool) → ltb i line_count ≡ t → cond t (line_in (part b' (line_at i) line_length)) None ≡ cond t (line_in (part b (line_at i) line_length)) None
       go i true e = ap line_in (h i (ltb-true i line_count e))
       go i false e = refl
 

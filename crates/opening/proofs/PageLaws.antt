@@ -5,8 +5,7 @@ use Rattle.field.specs.Field.{Bytes, part, splice}
 use Rattle.field.proofs.Laws.{bytes-splice}
 use Rattle.lists.specs.Lists.{range}
 use Rattle.lists.proofs.Ranges.{map_range}
-use Rattle.lists.specs.declared.Found.{Found}
-use Rattle.lists.specs.declared.Found.TheVariants.{At, Nothing}
+use Rattle.std.specs.Prelude.{Some, None, Option}
 use Rattle.lists.proofs.Searches.{Hit, first-hit, first-none}
 use Rattle.lists.proofs.Tests.{clash, and-true}
 use Rattle.update.specs.Parts.{Reading, reading_of}
@@ -48,16 +47,16 @@ module _ (b : List ℕ) (s : ℕ) where
   unfolding is_place
   is-place k e = let t = and-true (ltb k (count_of b)) (has k) e in (ltb-true k (count_of b) t.0, t.1)
 
-  first-at : (k : ℕ) → first_place b s ≡ At k → (k < count_of b) × (has k ≡ true)
+  first-at : (k : ℕ) → first_place b s ≡ Some k → (k < count_of b) × (has k ≡ true)
   unfolding first_place
   first-at k e = let h : Hit has 0 (count_of b) k = first-hit has 0 (count_of b) k e in (omega (arith, h.high), h.holds)
 
   -- the page that is found is counted and has the symbol
-  pub place-hit : (k : ℕ) → page_place b s ≡ At k → (k < count_of b) × (page_symbol (page_at b k) ≡ s)
+  pub place-hit : (k : ℕ) → page_place b s ≡ Some k → (k < count_of b) × (page_symbol (page_at b k) ≡ s)
   unfolding page_place
   place-hit k e = let h = go (is_place b s (hint_of b s)) refl e in (h.0, eqb-true (page_symbol (page_at b k)) s h.1)
     where
-      go : (t : Bool) → is_place b s (hint_of b s) ≡ t → cond t (At (hint_of b s)) (first_place b s) ≡ At k → (k < count_of b) × (has k ≡ true)
+      go : (t : Bool) → is_place b s (hint_of b s) ≡ t → cond t (Some (hint_of b s)) (first_place b s) ≡ Some k → (k < count_of b) × (has k ≡ true)
       go true p q = let z : hint_of b s ≡ k = cc in rw z at (is-place (hint_of b s) p)
       go false p q = first-at k q
 
@@ -66,9 +65,9 @@ module _ (b : List ℕ) (s : ℕ) where
   unfolding page_place first_place
   place_at = go (is_place b s (hint_of b s)) refl (first_place b s) refl
     where
-      go : (t : Bool) → is_place b s (hint_of b s) ≡ t → (r : Found) → first_place b s ≡ r → is_at (cond t (At (hint_of b s)) r) ≡ is_at r
-      go true p (At k) q = refl
-      go true p Nothing q = clash (sym (is-place (hint_of b s) p).1 ∙ first-none has (count_of b) 0 q (hint_of b s) (omega arith) (omega (arith, (is-place (hint_of b s) p).0)))
+      go : (t : Bool) → is_place b s (hint_of b s) ≡ t → (r : Option ℕ) → first_place b s ≡ r → is_at (cond t (Some (hint_of b s)) r) ≡ is_at r
+      go true p (Some k) q = refl
+      go true p None q = clash (sym (is-place (hint_of b s) p).1 ∙ first-none has (count_of b) 0 q (hint_of b s) (omega arith) (omega (arith, (is-place (hint_of b s) p).0)))
       go false p r q = refl
 
   -- where only one counted page has the symbol, it is the first
@@ -80,7 +79,7 @@ module _ (b : List ℕ) (s : ℕ) where
       before p j l true e = absurd (once j (hint_of b s) l (is-place (hint_of b s) p).0 e (is-place (hint_of b s) p).1)
       before p j l false e = e
 
-      go : (t : Bool) → is_place b s (hint_of b s) ≡ t → cond t (At (hint_of b s)) (first_place b s) ≡ first_place b s
+      go : (t : Bool) → is_place b s (hint_of b s) ≡ t → cond t (Some (hint_of b s)) (first_place b s) ≡ first_place b s
       go true p = sym (first-is has (count_of b) 0 (hint_of b s) (omega arith) (omega (arith, (is-place (hint_of b s) p).0)) (is-place (hint_of b s) p).1 (λ j l u. before p j u (has j) refl))
       go false p = refl
 
@@ -88,7 +87,7 @@ module _ (b : List ℕ) (s : ℕ) where
 pub place-by : (b b' : List ℕ) (s : ℕ) → count_of b' ≡ count_of b → ((j : ℕ) → j < count_of b → page_symbol (page_at b' j) ≡ page_symbol (page_at b j)) → hint_of b' s ≡ hint_of b s
     → page_place b' s ≡ page_place b s
 unfolding page_place first_place is_place
-place-by b b' s c h e = rw e (λ i. cond (at-hint (hint_of b s) i) (At (hint_of b s)) (first i))
+place-by b b' s c h e = rw e (λ i. cond (at-hint (hint_of b s) i) (Some (hint_of b s)) (first i))
   where
     first : first_place b' s ≡ first_place b s
     first = rw c (first-same (has b' s) (has b s) (count_of b) 0 (λ j l u. ap (λ (z : ℕ). eqb z s) (h j (omega arith))))
@@ -100,10 +99,10 @@ place-by b b' s c h e = rw e (λ i. cond (at-hint (hint_of b s) i) (At (hint_of 
         go true q = ap (λ (z : ℕ). eqb z s) (h k (ltb-true k (count_of b) q))
         go false q = refl
 
-pub at_same : (i j : ℕ) → At i ≡ At j → i ≡ j
+pub at_same : (i j : ℕ) → Some i ≡ Some j → i ≡ j
 at_same i j e = cc
 
-pub nowhere : {A : Type 0} (k : ℕ) → Nothing ≡ At k → A
+pub nowhere : {A : Type 0} (k : ℕ) → None ≡ Some k → A
 nowhere k e = clash (cc)
 
 -- ---- one page written
@@ -129,32 +128,32 @@ module _ (n : ℕ) (b : List ℕ) (sd : Sound n b) (k : ℕ) (below : k < n) (p 
 -- ---- a symbol's page changed
 
 module _ (n : ℕ) (b : List ℕ) (sd : Sound n b) (s : ℕ) (h : List ℕ → List ℕ) (keeps : (p : List ℕ) → length p ≡ page_length → Kept p (h p)) where
-  within : (k : ℕ) → page_place b s ≡ At k → k < n
+  within : (k : ℕ) → page_place b s ≡ Some k → k < n
   within k e = omega (arith, (place-hit b s k e).0, sd.count)
 
-  wide : (k : ℕ) → page_place b s ≡ At k → Kept (page_at b k) (h (page_at b k))
+  wide : (k : ℕ) → page_place b s ≡ Some k → Kept (page_at b k) (h (page_at b k))
   wide k e = keeps (page_at b k) (length-page n b sd k (within k e))
 
   pub on-kept : OpeningKept b (on_page s h b)
   unfolding on_page
   on-kept = go (page_place b s) refl
     where
-      go : (r : Found) → page_place b s ≡ r → OpeningKept b (on_place h b r)
-      go (At k) e = set-kept n b sd k (within k e) (h (page_at b k)) (wide k e).size (λ z. (wide k e).bytes (bytes-page b k z))
-      go Nothing e = opening-none b
+      go : (r : Option ℕ) → page_place b s ≡ r → OpeningKept b (on_place h b r)
+      go (Some k) e = set-kept n b sd k (within k e) (h (page_at b k)) (wide k e).size (λ z. (wide k e).bytes (bytes-page b k z))
+      go None e = opening-none b
 
-  pub on_same : (k : ℕ) → page_place b s ≡ At k → page_at (on_page s h b) k ≡ h (page_at b k)
+  pub on_same : (k : ℕ) → page_place b s ≡ Some k → page_at (on_page s h b) k ≡ h (page_at b k)
   unfolding on_page
   on_same k e = rw e (set_same n b sd k (within k e) (h (page_at b k)) (wide k e).size)
 
   -- no byte of another page changes
-  pub on-other : (j : ℕ) → (page_place b s ≡ At j → ⊥) → page_at (on_page s h b) j ≡ page_at b j
+  pub on-other : (j : ℕ) → (page_place b s ≡ Some j → ⊥) → page_at (on_page s h b) j ≡ page_at b j
   unfolding on_page
   on-other j d = go (page_place b s) refl
     where
-      go : (r : Found) → page_place b s ≡ r → page_at (on_place h b r) j ≡ page_at b j
-      go (At k) e = set_other n b sd k (within k e) (h (page_at b k)) (wide k e).size j (λ z. d (e ∙ ap At z))
-      go Nothing e = refl
+      go : (r : Option ℕ) → page_place b s ≡ r → page_at (on_place h b r) j ≡ page_at b j
+      go (Some k) e = set_other n b sd k (within k e) (h (page_at b k)) (wide k e).size j (λ z. d (e ∙ ap Some z))
+      go None e = refl
 
   -- where the symbol's page is the first that has it
   pub on-reads : page_place b s ≡ first_place b s → (g : Reading → Reading) → ((k : ℕ) → k < count_of b → reading_of (h (page_at b k)) ≡ g (reading_of (page_at b k)))
@@ -171,13 +170,13 @@ module _ (n : ℕ) (b : List ℕ) (sd : Sound n b) (s : ℕ) (h : List ℕ → L
       after : ℕ → List Reading
       after k = map (set_at k (g (f k)) f) (range (count_of b) 0)
 
-      go : (r : Found) → page_place b s ≡ r
+      go : (r : Option ℕ) → page_place b s ≡ r
           → map (λ k. reading_of (page_at (on_page s h b) k)) (range (count_of b) 0) ≡ found_by after none (page_place b s)
-      go (At k) e =
+      go (Some k) e =
           rw e
           (map-set f (λ j. reading_of (page_at (on_page s h b) j)) (count_of b) k (g (f k)) (ap reading_of (on_same k e) ∙ reads k (place-hit b s k e).0)
           (λ j l d. ap reading_of (on-other j (λ z. d (at_same k j (sym e ∙ z))))))
-      go Nothing e = rw e (map_range f (λ j. reading_of (page_at (on_page s h b) j)) (count_of b) 0 (λ j a l. ap reading_of (on-other j (λ z. nowhere j (sym e ∙ z)))))
+      go None e = rw e (map_range f (λ j. reading_of (page_at (on_page s h b) j)) (count_of b) 0 (λ j a l. ap reading_of (on-other j (λ z. nowhere j (sym e ∙ z)))))
 
 -- ---- every page changed
 

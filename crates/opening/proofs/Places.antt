@@ -3,7 +3,7 @@
 use Rattle.std.proofs.Common.{◌≡◌, ℕ, List, [], ◌∷◌, replicate, refl}
 use Rattle.field.specs.Field.{be, be_bytes, part, field, splice}
 use Rattle.lists.specs.Lists.{first_from}
-use Rattle.lists.specs.declared.Found.TheVariants.{At, Nothing}
+use Rattle.std.specs.Prelude.{Some, None}
 use Rattle.opening.specs.Opening.{count_of, page_at, first_place, bucket_of, hint_of, is_place, page_place, hinted}
 use Rattle.opening.specs.Layout.{count_at, page_start, book_length}
 
@@ -24,19 +24,19 @@ pub record Places : Type 0 where
   pub bucket-xyz : bucket_of (be xyz) ≡ 217
   pub written : field (hinted (be xyz) 7 (replicate (book_length 1) 0)) 1206 1 ≡ 7
   -- a right hint
-  pub right : page_place (book 2 abc xyz 1206 1) (be xyz) ≡ At 1
+  pub right : page_place (book 2 abc xyz 1206 1) (be xyz) ≡ Some 1
   -- a hint to a page with another symbol: the first that has it
-  pub another : page_place (book 2 abc xyz 1206 0) (be xyz) ≡ At 1
+  pub another : page_place (book 2 abc xyz 1206 0) (be xyz) ≡ Some 1
   -- a hint at and above the count: the same
-  pub at-the-count : page_place (book 1 xyz xyz 1206 1) (be xyz) ≡ At 0
-  pub above-the-count : page_place (book 2 abc xyz 1206 255) (be xyz) ≡ At 1
+  pub at-the-count : page_place (book 1 xyz xyz 1206 1) (be xyz) ≡ Some 0
+  pub above-the-count : page_place (book 2 abc xyz 1206 255) (be xyz) ≡ Some 1
   -- of two pages with one symbol the hinted one; by the hint of another bucket the first
-  pub the_second : page_place (book 2 xyz xyz 1206 1) (be xyz) ≡ At 1
-  pub the-first : page_place (book 2 xyz xyz 1206 0) (be xyz) ≡ At 0
-  pub another-bucket : page_place (book 2 xyz xyz 1208 1) (be xyz) ≡ At 0
+  pub the_second : page_place (book 2 xyz xyz 1206 1) (be xyz) ≡ Some 1
+  pub the-first : page_place (book 2 xyz xyz 1206 0) (be xyz) ≡ Some 0
+  pub another-bucket : page_place (book 2 xyz xyz 1208 1) (be xyz) ≡ Some 0
   -- a symbol on no counted page
-  pub not_listed : page_place (book 2 abc abc 1206 1) (be xyz) ≡ Nothing
-  pub none-counted : page_place (book 0 xyz xyz 1206 0) (be xyz) ≡ Nothing
+  pub not_listed : page_place (book 2 abc abc 1206 1) (be xyz) ≡ None
+  pub none-counted : page_place (book 0 xyz xyz 1206 0) (be xyz) ≡ None
 
 pub places : Places
 unfolding be be_bytes part field splice first_from count_of page_at first_place hint_of is_place page_place hinted

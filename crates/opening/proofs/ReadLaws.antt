@@ -1,21 +1,19 @@
 -- What the code reads of a book: whether it is sound, a page's symbol, a line.
 -- Assumes nothing.
-use Rattle.std.proofs.Common.{◌≡◌, ℕ, ◌+◌, ◌-◌, ◌*◌, ◌/◌, ◌%◌, ◌<◌, ◌≤◌, Bool, true, false, eqb, ltb, List, length, sym, refl, ap, ◌∙◌, arith, le-ltb, lt-ltb, eq-eqb, ne_eqb}
+use Rattle.std.proofs.Common.{◌≡◌, ℕ, ◌+◌, ◌-◌, ◌*◌, ◌/◌, ◌%◌, ◌<◌, ◌≤◌, Bool, true, false, ◌&&◌, eqb, ltb, List, length, sym, refl, ap, ◌∙◌, arith, le-ltb, lt-ltb, eq-eqb, ne_eqb}
 use Rattle.field.specs.Field.{Bytes, be, part, field, splice, be_bytes}
 use Rattle.field.proofs.Laws.{field-join, field_lt, field-part, field-part-0, be_bytes-field, part-all}
-use Rattle.lists.specs.Lists.{first_from}
-use Rattle.lists.specs.declared.Found.{Found}
-use Rattle.lists.specs.declared.Found.TheVariants.{At}
+use Rattle.lists.specs.Lists.{first_from, same_list}
+use Rattle.std.specs.Prelude.{Some, Option, None}
 use Rattle.lists.proofs.Searches.{first-start}
 use Rattle.lists.proofs.Tests.{Cut, equal, apart, cut}
 use Rattle.text.specs.Form.{letter_good, symbol_length}
 use Rattle.update.proofs.TableLaws.{cell-order}
-use Rattle.opening.specs.declared.LineState.TheVariants.{Open, Closed}
-use Rattle.opening.specs.Opening.{symbols_of, count_of, sound, line_in, lines_in, page_at, first_place, page_place, bucket_of, hint_of, is_place, hinted, opened}
-use Rattle.opening.proofs.OpeningLaws.{Sound, sound-is, sound-of}
+use Rattle.opening.specs.Opening.{symbols_of, count_of, sound, line_in, lines_in, page_at, first_place, page_place, bucket_of, hint_of, is_place, hinted}
+use Rattle.opening.proofs.OpeningLaws.{Sound, same-is, sound-of}
 use Rattle.opening.proofs.PageLaws.{place-hit}
 use Rattle.page.specs.Layout.{hints_at, hint_count, page_length, page_symbol}
-use Rattle.opening.specs.Layout.{n_at, count_at, day_at, first_page_at, line_length, opening_length, book_length, line_count, page_start, line_at, symbols_most, mark}
+use Rattle.opening.specs.Layout.{n_at, count_at, day_at, line_length, opening_length, book_length, line_count, page_start, line_at, symbols_most, mark}
 
 -- ---- a sound opening
 
@@ -35,31 +33,22 @@ unsound-by b h = go (sound b) refl
     go true e = absurd (h (sound-of b e))
     go false e = refl
 
-pub marked-number : (b : List ℕ) → Sound (symbols_of b) b → field b 0 8 ≡ 5860677713450388273
-unfolding field
-marked-number b s = ap be s.marked ∙ mark-number
+same-self : (a b : List ℕ) → a ≡ b → mark ≡ b → true ≡ same_list a b
+unfolding same_list
+same-self a b e m = rw (e, ← m) refl
 
--- the last check: the length
-pub sound-last : (b : List ℕ) (v n c d o : ℕ) → opening_length ≤ length b → Bytes b → v ≡ field b 0 8 → v ≡ 5860677713450388273 → n ≡ field b n_at 1 → 1 ≤ n → n ≤ symbols_most
-    → c ≡ field b count_at 1 → c ≤ n → d ≡ field b day_at 1 → d ≤ 1 → o ≡ field b first_page_at 4 → o ≡ opening_length → eqb (length b) (book_length n) ≡ sound b
-unfolding symbols_of count_of
-sound-last b v n c d o long y ve vm ne low up ce cl de dl oe om = go (cut (length b) (book_length n))
+mark-of : (b : List ℕ) → part b 0 n_at ≡ mark → field b 0 8 ≡ 5860677713450388273
+unfolding field
+mark-of b e = ap be e ∙ mark-number
+
+-- the mark, asked as one number
+pub marked-test : (b : List ℕ) → n_at ≤ length b → Bytes b → eqb (field b 0 8) 5860677713450388273 ≡ same_list (part b 0 n_at) mark
+marked-test b long y = go (cut (field b 0 8) 5860677713450388273) (same_list (part b 0 n_at) mark) refl
   where
-    go : Cut (length b) (book_length n) → eqb (length b) (book_length n) ≡ sound b
-    go (equal t e) =
-        t
-        ∙ sym (sound-is n b
-        (record {
-          size = e;
-          low = low;
-          up = up;
-          symbols = sym ne;
-          count = omega (arith, ce, cl);
-          marked = sym (be_bytes-field b 0 8 (omega arith) y) ∙ ap (be_bytes 8) (sym ve ∙ vm) ∙ mark-bytes;
-          first = sym oe ∙ om;
-          day = omega (arith, de, dl);
-        }))
-    go (apart t e) = t ∙ unsound-by b (λ s. e (omega (arith, s.size, ne)))
+    go : Cut (field b 0 8) 5860677713450388273 → (s : Bool) → same_list (part b 0 n_at) mark ≡ s → eqb (field b 0 8) 5860677713450388273 ≡ same_list (part b 0 n_at) mark
+    go (equal t e) s q = t ∙ same-self (part b 0 n_at) mark (sym (be_bytes-field b 0 8 long y) ∙ ap (be_bytes 8) e ∙ mark-bytes) refl
+    go (apart t d) true q = absurd (d (mark-of b (same-is (part b 0 n_at) mark q)))
+    go (apart t d) false q = t ∙ sym q
 
 -- what a sound book's length has room for
 pub opening-room : (b : List ℕ) → sound b ≡ true → opening_length ≤ length b
@@ -102,18 +91,19 @@ module _ (b : List ℕ) (at high middle low : ℕ) (room : at + symbol_length �
   one : field b (at + 10) 1 < 256
   one = field_lt b (at + 10) 1 (omega arith) y
 
-  pub other-high : (v : ℕ) → v ≡ field b at 8 → (v ≡ high → ⊥) → false ≡ eqb (field b at symbol_length) asked
-  other-high v e d = sym (ne_eqb (field b at symbol_length) asked (λ q. d (omega (arith, q, e, two, one, symbol-joined b at room))))
-
-  pub other-middle : (w : ℕ) → w ≡ field b (at + 8) 2 → (w ≡ middle → ⊥) → false ≡ eqb (field b at symbol_length) asked
-  other-middle w e d = sym (ne_eqb (field b at symbol_length) asked (λ q. d (omega (arith, q, e, two, one, symbol-joined b at room))))
-
-  pub symbol-last : (v w x : ℕ) → v ≡ field b at 8 → v ≡ high → w ≡ field b (at + 8) 2 → w ≡ middle → x ≡ field b (at + 10) 1 → eqb x low ≡ eqb (field b at symbol_length) asked
-  symbol-last v w x ve vh we wm xe = go (cut x low)
+  -- asked part by part
+  pub symbol-parts : eqb (field b at 8) high && eqb (field b (at + 8) 2) middle && eqb (field b (at + 10) 1) low ≡ eqb (field b at symbol_length) asked
+  symbol-parts = go (cut (field b at 8) high) (cut (field b (at + 8) 2) middle) (cut (field b (at + 10) 1) low)
     where
-      go : Cut x low → eqb x low ≡ eqb (field b at symbol_length) asked
-      go (equal t e) = t ∙ sym (eq-eqb (field b at symbol_length) asked (omega (arith, e, ve, vh, we, wm, xe, symbol-joined b at room)))
-      go (apart t d) = t ∙ sym (ne_eqb (field b at symbol_length) asked (λ q. d (omega (arith, q, xe, two, one, symbol-joined b at room))))
+      other : (field b at symbol_length ≡ asked → ⊥) → false ≡ eqb (field b at symbol_length) asked
+      other d = sym (ne_eqb (field b at symbol_length) asked d)
+
+      go : Cut (field b at 8) high → Cut (field b (at + 8) 2) middle → Cut (field b (at + 10) 1) low
+          → eqb (field b at 8) high && eqb (field b (at + 8) 2) middle && eqb (field b (at + 10) 1) low ≡ eqb (field b at symbol_length) asked
+      go (apart t d) u v = rw t (other (λ q. d (omega (arith, q, two, one, symbol-joined b at room))))
+      go (equal s e) (apart t d) v = rw (s, t) (other (λ q. d (omega (arith, q, two, one, symbol-joined b at room))))
+      go (equal r e) (equal s f) (apart t d) = rw (r, s, t) (other (λ q. d (omega (arith, q, two, one, symbol-joined b at room))))
+      go (equal r e) (equal s f) (equal t g) = rw (r, s, t) (sym (eq-eqb (field b at symbol_length) asked (omega (arith, e, f, g, symbol-joined b at room))))
 
 -- whether page k has the symbol
 pub page-symbol : (b : List ℕ) (k v n : ℕ) (t r : Bool) → v ≡ n → r ≡ eqb (field b (page_start k) symbol_length) n → r ≡ t → eqb (page_symbol (page_at b k)) v ≡ t
@@ -145,11 +135,11 @@ module _ (b : List ℕ) (v k : ℕ) where
   place-above c ce h = let l : ltb k (field b count_at 1) ≡ false = le-ltb k (field b count_at 1) (omega arith) in rw l
 
   module _ (v' : ℕ) (ve : v' ≡ v) (e : k ≡ hint_of b v) (r : Bool) (re : r ≡ is_place b v' k) where
-    pub hint_holds : r ≡ true → At k ≡ page_place b v
+    pub hint_holds : r ≡ true → Some k ≡ page_place b v
     unfolding page_place
     hint_holds t = rw (← e, ← ve, ← re, t)
 
-    pub hint_fails : (w : Found) → r ≡ false → w ≡ first_place b v' → w ≡ page_place b v
+    pub hint_fails : (w : Option ℕ) → r ≡ false → w ≡ first_place b v' → w ≡ page_place b v
     unfolding page_place
     hint_fails w t f = rw (← e, ← ve, ← re, t) f
 
@@ -173,14 +163,14 @@ pub pages-room : (b : List ℕ) (n : ℕ) → sound b ≡ true → n ≡ field b
 unfolding symbols_of
 pages-room b n e ne = let s : Sound (symbols_of b) b = sound-of b e in (omega (arith, s.up, ne), omega (arith, s.size, ne))
 
-pub found-room : (b : List ℕ) (v k : ℕ) (r : Found) → sound b ≡ true → r ≡ page_place b v → r ≡ At k → (page_start k + page_length ≤ length b) × (k < symbols_most)
+pub found-room : (b : List ℕ) (v k : ℕ) (r : Option ℕ) → sound b ≡ true → r ≡ page_place b v → r ≡ Some k → (page_start k + page_length ≤ length b) × (k < symbols_most)
 unfolding count_of
 found-room b v k r s e f = counted-room b (count_of b) k s refl (place-hit b v k (sym e ∙ f)).0
 
 -- ---- a line as it stands
 
 module _ (b : List ℕ) (i : ℕ) where
-  pub line-above : 63 < i → Closed ≡ opened (lines_in b i)
+  pub line-above : 63 < i → None ≡ lines_in b i
   unfolding lines_in
   line-above h = rw (le-ltb i line_count (omega arith))
 
@@ -188,11 +178,11 @@ module _ (b : List ℕ) (i : ℕ) where
     letter-is : field (part b (line_at i) line_length) 0 1 ≡ l
     letter-is = field-part-0 b (line_at i) line_length 1 (omega arith) ∙ sym le
 
-    pub line-closed : letter_good l ≡ false → Closed ≡ opened (lines_in b i)
+    pub line-closed : letter_good l ≡ false → None ≡ lines_in b i
     unfolding lines_in line_in
     line-closed g = rw (lt-ltb i line_count (omega arith), letter-is, g)
 
-    pub line-is : (e n : ℕ) → letter_good l ≡ true → e ≡ field b (line_at i + 1) 4 → n ≡ field b (line_at i + 5) 8 → Open (record { letter = l; expected = e; count = n }) ≡ opened (lines_in b i)
+    pub line-is : (e n : ℕ) → letter_good l ≡ true → e ≡ field b (line_at i + 1) 4 → n ≡ field b (line_at i + 5) 8 → Some (record { letter = l; expected = e; count = n }) ≡ lines_in b i
     unfolding lines_in line_in
     line-is e n g ee ne =
         let x : field (part b (line_at i) line_length) 1 4 ≡ e = field-part b (line_at i) line_length 1 4 (omega arith) ∙ sym ee in

@@ -1,16 +1,11 @@
 -- What the opening of a book says, the pages behind it, and what make and Start of Day leave.
 -- Assumes nothing.
-use Rattle.std.specs.Prelude.{ℕ, zero, suc, ◌+◌, ◌/◌, ◌%◌, ◌^◌, Bool, cond, ◌&&◌, List, [], ◌∷◌, ◌++◌, map, length, replicate, ◌==◌, nat_eq, nat_le, nat_lt}
-use Rattle.std.proofs.Math.Option.{Option, none, some}
+use Rattle.std.specs.Prelude.{ℕ, zero, suc, ◌+◌, ◌/◌, ◌%◌, ◌^◌, Bool, cond, ◌&&◌, List, [], ◌∷◌, ◌++◌, map, length, replicate, ◌==◌, nat_eq, nat_le, nat_lt, Option, None, Some}
 use Rattle.field.specs.Field.{part, field, splice, be_bytes}
 use Rattle.lists.specs.Lists.{range, first_from, same_list}
-use Rattle.lists.specs.declared.Found.{Found}
-use Rattle.lists.specs.declared.Found.TheVariants.{At, Nothing}
 use Rattle.text.specs.Form.{letter_good}
 use Rattle.update.specs.Parts.{Reading, reading_of, blank_page}
 use Rattle.opening.specs.declared.Line.{Line}
-use Rattle.opening.specs.declared.LineState.{LineState}
-use Rattle.opening.specs.declared.LineState.TheVariants.{Open, Closed}
 use Rattle.allowance.specs.Allowance.{Allowance, allowance_length, allowance_in}
 use Rattle.page.specs.Layout.{hints_at, hint_count, head_length, page_length, page_symbol}
 use Rattle.opening.specs.Layout.{n_at, count_at, day_at, first_page_at, line_length, line_count, lines_length, allowance_at, opening_length, book_length, page_start, line_at, symbols_most, mark}
@@ -34,13 +29,13 @@ sound b =
 
 -- a line whose letter byte is no letter is not open
 unfoldable pub line_in : List ℕ → Option Line
-line_in r = cond (letter_good (field r 0 1)) (some (record { letter = field r 0 1; expected = field r 1 4; count = field r 5 8 })) none
+line_in r = cond (letter_good (field r 0 1)) (Some (record { letter = field r 0 1; expected = field r 1 4; count = field r 5 8 })) None
 
 unfoldable pub line_bytes : Line → List ℕ
 line_bytes x = be_bytes 1 x.letter ++ be_bytes 4 x.expected ++ be_bytes 8 x.count
 
 unfoldable pub lines_in : List ℕ → ℕ → Option Line
-lines_in b i = cond (nat_lt i line_count) (line_in (part b (line_at i) line_length)) none
+lines_in b i = cond (nat_lt i line_count) (line_in (part b (line_at i) line_length)) None
 
 -- ---- the allowance of T-14
 
@@ -66,10 +61,6 @@ rest_in b = record { n = symbols_of b; lines = lines_in b; day = (field b day_at
 abbrev pub line_after : Line → ℕ → ℕ → Line
 line_after r next c = record { letter = r.letter; expected = next; count = (r.count + c) % 18446744073709551616 }
 
-abbrev pub opened : Option Line → LineState
-opened none = Closed
-opened (some x) = Open x
-
 -- ---- pages
 
 unfoldable pub page_at : List ℕ → ℕ → List ℕ
@@ -85,7 +76,7 @@ pages_in b = map (λ k. reading_of (page_at b k)) (range (count_of b) 0)
 -- ---- where a symbol's page is
 
 -- the first counted page of a symbol
-unfoldable pub first_place : List ℕ → ℕ → Found
+unfoldable pub first_place : List ℕ → ℕ → Option ℕ
 first_place b s = first_from (λ k. nat_eq (page_symbol (page_at b k)) s) 0 (count_of b)
 
 -- the bucket of a symbol: its first 8 bytes as one number, modulo the count of hints
@@ -101,16 +92,16 @@ unfoldable pub is_place : List ℕ → ℕ → ℕ → Bool
 is_place b s k = nat_lt k (count_of b) && page_symbol (page_at b k) == s
 
 -- the hinted page if it is counted and has the symbol, else the first counted page that has it
-unfoldable pub page_place : List ℕ → ℕ → Found
-page_place b s = cond (is_place b s (hint_of b s)) (At (hint_of b s)) (first_place b s)
+unfoldable pub page_place : List ℕ → ℕ → Option ℕ
+page_place b s = cond (is_place b s (hint_of b s)) (Some (hint_of b s)) (first_place b s)
 
 -- the book with page k as the hint for a symbol
 unfoldable pub hinted : ℕ → ℕ → List ℕ → List ℕ
 hinted s k b = splice b (page_start 0 + (hints_at + bucket_of s)) (be_bytes 1 k)
 
-abbrev pub reading_at : List ℕ → Found → Option Reading
-reading_at b (At k) = some (reading_of (page_at b k))
-reading_at b Nothing = none
+abbrev pub reading_at : List ℕ → Option ℕ → Option Reading
+reading_at b (Some k) = Some (reading_of (page_at b k))
+reading_at b None = None
 
 -- the reading of a symbol's page
 abbrev pub reading_for : List ℕ → ℕ → Option Reading
@@ -119,9 +110,9 @@ reading_for b s = reading_at b (page_place b s)
 -- ---- pages changed
 
 -- the book with a page changed
-abbrev pub on_place : (List ℕ → List ℕ) → List ℕ → Found → List ℕ
-on_place g b (At k) = set_page b k (g (page_at b k))
-on_place g b Nothing = b
+abbrev pub on_place : (List ℕ → List ℕ) → List ℕ → Option ℕ → List ℕ
+on_place g b (Some k) = set_page b k (g (page_at b k))
+on_place g b None = b
 
 unfoldable pub on_page : ℕ → (List ℕ → List ℕ) → List ℕ → List ℕ
 on_page s g b = on_place g b (page_place b s)

@@ -5,14 +5,13 @@ ghost use Rattle.std.specs.Prelude.{◌≡◌, ◌+◌, ◌*◌, ◌%◌, ◌<�
 ghost use Rattle.field.specs.Field.{be, field, part, splice};
 ghost use Rattle.block.specs.Sequence.{next_of};
 ghost use Rattle.update.specs.Parts.{emptied};
-ghost use Rattle.opening.specs.Opening.{line_bytes, opened, each_page, line_after, first_place, is_place, page_place, hinted, restart_lines, restarted, sound, lines_in, allowance_on, on_allowance};
+ghost use Rattle.opening.specs.Opening.{line_bytes, each_page, line_after, first_place, is_place, page_place, hinted, restart_lines, restarted, sound, lines_in, allowance_on, on_allowance};
 ghost use Rattle.allowance.specs.Allowance.{is_used_up, charged_to};
 ghost use Rattle.opening.specs.Layout.{opening_length, book_length, page_start, count_at, line_count, line_at, symbols_most, line_length};
 ghost use Rattle.page.specs.Layout.{hints_at, hint_count};
 ghost use Rattle.text.specs.Form.{symbol_length};
 
 use allowance::Allowance;
-use lists::Found;
 use page::Page;
 
 /// Where the book's bytes stand: an opening, then n pages. specs/Layout.antt says the same.
@@ -69,45 +68,25 @@ impl Line {
     pub const LAST: u32 = Line::LINES as u32 - 1;
 }
 
-/// A line as it stands in the book.
-#[derive(Clone, Copy)]
-pub enum LineState {
-    Open(Line),
-    Closed,
-}
-
 /// Whether mark, n, count, day flag, offset and length are a book's.
 pub fn is_sound(book: &[u8]) -> bool
     ensures { result ≡ sound book.now }
 {
-    let len = book.len();
-    if len < Book::OPENING_LEN {
-        return false;
-    }
-    if field::get64(book, 0) != Book::MARK {
-        return false;
+    if book.len() < Book::OPENING_LEN {
+        return false; // what is read below stands in the opening
     }
     let n = field::get8(book, Book::N) as usize;
-    if n < 1 {
-        return false;
-    }
-    if Book::SYMBOLS_MAX < n {
-        return false;
-    }
-    if n < field::get8(book, Book::COUNT) as usize {
-        return false;
-    }
-    if 1 < field::get8(book, Book::DAY) {
-        return false;
-    }
-    if field::get32(book, Book::FIRST_PAGE) != Book::OFFSET {
-        return false;
-    }
-    len == Book::OPENING_LEN + n * Book::PAGE_LEN
+    field::get64(book, 0) == Book::MARK
+        && 1 <= n
+        && n <= Book::SYMBOLS_MAX
+        && field::get8(book, Book::COUNT) as usize <= n
+        && field::get8(book, Book::DAY) <= 1
+        && field::get32(book, Book::FIRST_PAGE) == Book::OFFSET
+        && book.len() == Book::OPENING_LEN + n * Book::PAGE_LEN
 }
 
 /// The page of the symbol whose 11 bytes are lent: the hinted one if it is counted and has the symbol, else the first that has it.
-pub fn find(book: &[u8], symbol: &[u8]) -> Found
+pub fn find(book: &[u8], symbol: &[u8]) -> Option<usize>
     requires { (sound book.now ≡ true) × (length symbol.now ≡ symbol_length) }
     ensures { result ≡ page_place book.now (be symbol.now) }
 {
@@ -117,7 +96,7 @@ pub fn find(book: &[u8], symbol: &[u8]) -> Found
     let low = field::get8(symbol, 10);
     let k = field::get8(book, hint_at(high)) as usize;
     if is_place(book, count, k, high, middle, low) {
-        return Found::At(k);
+        return Some(k);
     }
     first(book, count, high, middle, low)
 }
@@ -127,16 +106,14 @@ fn is_place(book: &[u8], count: usize, k: usize, high: u64, middle: u16, low: u8
     requires { (sound book.now ≡ true) × (count ≡ field book.now count_at 1) }
     ensures { result ≡ is_place book.now (high * 16777216 + (middle * 256 + low)) k }
 {
-    if k < count {
-        return has_symbol(
+    k < count
+        && has_symbol(
             book,
             Book::OPENING_LEN + k * Book::PAGE_LEN,
             high,
             middle,
             low,
-        );
-    }
-    false
+        )
 }
 
 // Where the hint stands for symbols of these first 8 bytes: on the first page.
@@ -156,7 +133,7 @@ pub fn put_hint(book: &mut [u8], symbol: &[u8], k: u8)
 }
 
 // The first counted page with the symbol of these 8, 2 and 1 bytes.
-fn first(book: &[u8], count: usize, high: u64, middle: u16, low: u8) -> Found
+fn first(book: &[u8], count: usize, high: u64, middle: u16, low: u8) -> Option<usize>
     requires { (sound book.now ≡ true) × (count ≡ field book.now count_at 1) }
     ensures { result ≡ first_place book.now (high * 16777216 + (middle * 256 + low)) }
 {
@@ -168,10 +145,10 @@ fn first(book: &[u8], count: usize, high: u64, middle: u16, low: u8) -> Found
             middle,
             low,
         ) {
-            return Found::At(k);
+            return Some(k);
         }
     }
-    Found::Nothing
+    None
 }
 
 // Whether the 11 bytes at `at` are these 8, 2 and 1.
@@ -179,34 +156,31 @@ fn has_symbol(book: &[u8], at: usize, high: u64, middle: u16, low: u8) -> bool
     requires { at + symbol_length ≤ length book.now }
     ensures { result ≡ (field book.now at symbol_length == high * 16777216 + (middle * 256 + low)) }
 {
-    if field::get64(book, at) != high {
-        return false;
-    }
-    if field::get16(book, at + 8) != middle {
-        return false;
-    }
-    field::get8(book, at + 10) == low
+    field::get64(book, at) == high
+        && field::get16(book, at + 8) == middle
+        && field::get8(book, at + 10) == low
 }
 
-pub fn line_state(book: &[u8], line: u32) -> LineState
+/// A line as it stands in the book, if it is open.
+pub fn line_state(book: &[u8], line: u32) -> Option<Line>
     requires { sound book.now ≡ true }
-    ensures { result ≡ opened (lines_in book.now line) }
+    ensures { result ≡ lines_in book.now line }
 {
     if Line::LAST < line {
-        return LineState::Closed;
+        return None;
     }
     let at = Book::LINES + (line as usize) * Line::LEN;
     let letter = field::get8(book, at);
     if text::is_letter(letter) {
         let expected = field::get32(book, at + Line::EXPECTED);
         let count = field::get64(book, at + Line::COUNT);
-        return LineState::Open(Line {
+        return Some(Line {
             letter,
             expected,
             count,
         });
     }
-    LineState::Closed
+    None
 }
 
 pub fn put_line(book: &mut [u8], line: u32, x: Line)
@@ -224,9 +198,7 @@ pub fn is_used_up(book: &[u8], line: u32) -> bool
     requires { (opening_length ≤ length book.now) × (line < line_count) }
     ensures { result ≡ is_used_up (allowance_on book.now) line }
 {
-    let a = Book::ALLOWANCE;
-    let e = Book::OPENING_LEN;
-    allowance::is_used_up(&book[a..e], line as usize)
+    allowance::is_used_up(&book[Book::ALLOWANCE..Book::OPENING_LEN], line as usize)
 }
 
 /// Charges a block to its line, if an allowance is set.
@@ -234,9 +206,7 @@ pub fn charge(book: &mut [u8], line: u32)
     requires { (opening_length ≤ length book.old) × (line < line_count) }
     ensures { book.new ≡ on_allowance (charged_to line) book.old }
 {
-    let a = Book::ALLOWANCE;
-    let e = Book::OPENING_LEN;
-    allowance::charge(&mut book[a..e], line as usize);
+    allowance::charge(&mut book[Book::ALLOWANCE..Book::OPENING_LEN], line as usize);
 }
 
 // A block of c messages with that sequence number moves its line on, in place. Its proof is by hand, so this stays thin.

@@ -4,7 +4,7 @@ use Prim.Native.Nat.{ℕ, ◌+◌, ◌≤◌}
 use mathlib.Core.Path.{◌≡◌, refl, ap, ◌∙◌, fun_ext}
 use mathlib.Core.Bool.{Bool, true, false, cond}
 use mathlib.Core.List.{List, map}
-use mathlib.Core.Option.{none}
+use Rattle.std.specs.Prelude.{None}
 use native.Mathlib.Omega.{arith}
 use lib.ListN.{replicate}
 use Rattle.lists.specs.Lists.{member, range, upper}
@@ -28,7 +28,7 @@ pub no-levels-read : levels_in (replicate levels_length 0) ≡ no_levels
 unfolding levels_in side_in cells_in ranked level_in part low le
 no-levels-read = refl
 
-pub no-maker-read : maker_in (replicate cell_length 0) ≡ none
+pub no-maker-read : maker_in (replicate cell_length 0) ≡ None
 unfolding maker_in member field be part
 no-maker-read = refl
 
@@ -55,6 +55,6 @@ module _ (p : List ℕ) (z : (at w : ℕ) → slots_at ≤ at → at + w ≤ pag
           (no-levels-agreed (low p (first_key_at Bid l) key_length) (low p (first_key_at Offer l) key_length))
       go l false u = refl
 
-  pub blank-makers : makers_in p ≡ map (λ k. none) (range maker_count 0)
+  pub blank-makers : makers_in p ≡ map (λ k. None) (range maker_count 0)
   unfolding makers_in
-  blank-makers = map_range (λ k. none) (λ k. maker_in (part p (cell_at k) cell_length)) maker_count 0 (λ k a h. ap maker_in (z (cell_at k) cell_length (omega arith) (omega arith)) ∙ no-maker-read)
+  blank-makers = map_range (λ k. None) (λ k. maker_in (part p (cell_at k) cell_length)) maker_count 0 (λ k a h. ap maker_in (z (cell_at k) cell_length (omega arith) (omega arith)) ∙ no-maker-read)

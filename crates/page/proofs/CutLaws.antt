@@ -4,7 +4,7 @@ use Prim.Native.Nat.{ℕ, ◌+◌, ◌*◌, ◌-◌, ◌≤◌, ◌<◌}
 use mathlib.Core.Path.{◌≡◌, refl, ap, ◌∙◌, fun_ext}
 use mathlib.Core.Bool.{Bool, true, false, cond}
 use mathlib.Core.List.{List, map}
-use mathlib.Core.Option.{Option, none}
+use Rattle.std.specs.Prelude.{Option, None}
 use native.Mathlib.Omega.{arith}
 use lib.Dec.{ltb, eqb}
 use lib.ListN.{length, replicate}
@@ -110,11 +110,11 @@ module _ (p : List ℕ) (w : length p ≡ page_length) (l : ℕ) (lo : A ≤ l) 
       rw (le-ltb l D h)
       (ap (λ (g : ℕ → Option Maker). map g (range maker_count 0)) (fun_ext (λ k. ap maker_in (behind-cells (cell_at k) cell_length (omega arith)))))
 
-  pub cut-no-makers : l < D → makers_in (cut l p) ≡ map (λ k. none) (range maker_count 0)
+  pub cut-no-makers : l < D → makers_in (cut l p) ≡ map (λ k. None) (range maker_count 0)
   unfolding makers_in cut no_makers
   cut-no-makers h =
       rw (lt-ltb l D h)
-      (map_range (λ k. none) (λ k. maker_in (part (splice (none_behind l p) (cell_at 0) (replicate (maker_count * cell_length) 0)) (cell_at k) cell_length)) maker_count 0
+      (map_range (λ k. None) (λ k. maker_in (part (splice (none_behind l p) (cell_at 0) (replicate (maker_count * cell_length) 0)) (cell_at k) cell_length)) maker_count 0
       (λ k a z. ap maker_in (part-zeroed (none_behind l p) (cell_at 0) (maker_count * cell_length) (cell_at k) cell_length (omega (arith, behind-length)) (omega arith) (omega arith)) ∙ no-maker-read))
 
   -- a cut page is halted if the page is

@@ -1,7 +1,6 @@
 -- What a page says, whatever its bytes, and its entries worked out from its quotes.
 -- Assumes nothing.
-use Rattle.std.specs.Prelude.{ℕ, ◌+◌, Bool, cond, List, [], ◌∷◌, ◌++◌, map, eqb}
-use Rattle.std.proofs.Math.Option.{Option, none, some}
+use Rattle.std.specs.Prelude.{ℕ, ◌+◌, Bool, cond, List, [], ◌∷◌, ◌++◌, map, eqb, Option, None, Some}
 use Rattle.field.specs.Field.{part, field, splice, be_bytes}
 use Rattle.lists.specs.Lists.{member, collect, range, upper}
 use Rattle.field.specs.Low.{low, le_bytes}
@@ -64,7 +63,7 @@ with_side s l vs p = with_key (first_key_at s l) (first_key s vs) (splice p (slo
 
 -- a cell stands if its condition is L or R, else it is free
 unfoldable pub maker_in : List ℕ → Option Maker
-maker_in b = cond (member (L ∷ R ∷ []) (field b name_length 1)) (some (record { name = field b 0 name_length; quote = quote_in (part b name_length quote_length) })) none
+maker_in b = cond (member (L ∷ R ∷ []) (field b name_length 1)) (Some (record { name = field b 0 name_length; quote = quote_in (part b name_length quote_length) })) None
 
 unfoldable pub maker_bytes : Maker → List ℕ
 maker_bytes m = be_bytes name_length m.name ++ quote_bytes m.quote

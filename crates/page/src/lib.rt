@@ -116,10 +116,7 @@ pub fn cell_at(k: usize) -> usize
 pub fn stands(condition: u8) -> bool
     ensures { result ≡ member (ascii.L ∷ ascii.R ∷ []) condition }
 {
-    match condition {
-        b'L' | b'R' => true,
-        _ => false,
-    }
+    matches!(condition, b'L' | b'R')
 }
 
 /// Whether the symbol of a page is halted (T-10).

@@ -4,7 +4,7 @@ use Prim.Native.Nat.{ℕ, ◌+◌, ◌-◌, ◌%◌}
 use mathlib.Core.Path.{◌≡◌, refl}
 use mathlib.Core.Bool.{cond}
 use mathlib.Core.List.{List, [], ◌∷◌, map}
-use mathlib.Core.Option.{Option, none, some}
+use Rattle.std.specs.Prelude.{Option, None, Some}
 use lib.Dec.{eqb}
 use lib.ListN.{replicate}
 use Rattle.lists.specs.Lists.{member}
@@ -37,7 +37,7 @@ three = candidate 65 10000000 3 7 ∷ candidate 66 10000000 5 9 ∷ candidate 67
 
 -- every letter but S, one lot each: two letters at each price, the later letter first by its time
 abbrev all : ℕ → Option Candidate
-all l = cond (eqb l 83) none (some (candidate l (100 + (l + 1) % 2) 1 (200 - l)))
+all l = cond (eqb l 83) None (Some (candidate l (100 + (l + 1) % 2) 1 (200 - l)))
 
 -- ---- a page: A has 20 and 40, D's makers 21 and 39 for 2 and 3 lots and, under L, 30 and 30; N has 21 and 38 for 5, Z 21 and 38 for 4; D's slot and S's
 -- have 99 and 1 and are not read; C's condition admits neither side. The page keeps entries of nobody: zeros

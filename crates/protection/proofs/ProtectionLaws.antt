@@ -3,15 +3,13 @@
 use Prim.Native.Nat.{ℕ, zero, suc, ◌+◌, ◌-◌, ◌≤◌, ◌<◌}
 use mathlib.Core.Path.{◌≡◌, refl, sym, ap, ◌∙◌}
 use mathlib.Core.Bool.{Bool, true, false, cond}
-use mathlib.Core.List.{List, [], ◌∷◌}
-use mathlib.Core.Option.{Option, none, some}
+use mathlib.Core.List.{List}
+use Rattle.std.specs.Prelude.{Option, None, Some}
 use native.Mathlib.Omega.{arith}
 use native.Mathlib.Numerals.{add-one}
-use borrow.Author.Tests.{leb-true, le-leb, lt-leb, ltb-false}
+use borrow.Author.Tests.{leb-true, le-leb, ltb-false}
 use Rattle.field.specs.Ascii.{A, Z}
 use Rattle.lists.specs.Lists.{range, collect, first_from}
-use Rattle.lists.specs.declared.Found.{Found}
-use Rattle.lists.specs.declared.Found.TheVariants.{At, Nothing}
 use Rattle.lists.proofs.Tests.{clash}
 use Rattle.lists.proofs.Searches.{Hit, first-hit, first-before, first-none}
 use Rattle.ranking.specs.declared.Side.{Side}
@@ -40,13 +38,13 @@ module _ (s : Side) (p : ℕ) where
 
   -- the better of two
   yes-either : (a b : Option Candidate) → yes (either (better s) a b) ≡ cond (yes a) true (yes b)
-  yes-either none b = refl
-  yes-either (some x) none = go (reaches s p x.price)
+  yes-either None b = refl
+  yes-either (Some x) None = go (reaches s p x.price)
     where
       go : (t : Bool) → t ≡ cond t true false
       go true = refl
       go false = refl
-  yes-either (some x) (some y) = go (better s y x) refl (reaches s p x.price) refl (reaches s p y.price) refl
+  yes-either (Some x) (Some y) = go (better s y x) refl (reaches s p x.price) refl (reaches s p y.price) refl
     where
       go : (t : Bool) → better s y x ≡ t → (u : Bool) → reaches s p x.price ≡ u → (v : Bool) → reaches s p y.price ≡ v
           → reaches s p (cond {A = Candidate} t y x).price ≡ cond u true v
@@ -66,7 +64,7 @@ module _ (s : Side) (p : ℕ) where
       ∙ sym (ap yes (best-cons (better s) (c i) (collect c (range k (suc i)))) ∙ yes-either (c i) (best (better s) (collect c (range k (suc i))))))
     where
       go : (t : Bool) → (looked_at (first_from (λ l. yes (c l)) (suc i) k)).yes ≡ yes (best (better s) (collect c (range k (suc i))))
-          → (looked_at (cond t (At i) (first_from (λ l. yes (c l)) (suc i) k))).yes ≡ cond t true (yes (best (better s) (collect c (range k (suc i)))))
+          → (looked_at (cond t (Some i) (first_from (λ l. yes (c l)) (suc i) k))).yes ≡ cond t true (yes (best (better s) (collect c (range k (suc i)))))
       go true e = refl
       go false e = e
 
@@ -81,7 +79,7 @@ module _ (s : Side) (p : ℕ) where
   page-best b = protection-best (quotes_in b) (occupied (makers_in b))
 
   -- T-10: without a candidate it is no, all 26 looked at
-  pub none-protected : protection s p (λ l. none) ≡ record { yes = false; looked = letter_count }
+  pub none-protected : protection s p (λ l. None) ≡ record { yes = false; looked = letter_count }
   unfolding protection first_yes first_from
   none-protected = refl
 
@@ -90,7 +88,7 @@ module _ (s : Side) (p : ℕ) where
   unfolding trading_candidates published_entries unless_halted
   published-best b = go (halted_in b)
     where
-      go : (t : Bool) → (protection s p (cond t (λ s l. none) (page_candidates b) s)).yes ≡ yes ((cond {A = Entries} t no_best (page_entries b)).national s)
+      go : (t : Bool) → (protection s p (cond t (λ s l. None) (page_candidates b) s)).yes ≡ yes ((cond {A = Entries} t no_best (page_entries b)).national s)
       go true = ap (λ (r : Protection). r.yes) none-protected
       go false = page-best b
 
@@ -106,17 +104,17 @@ module _ (s : Side) (p : ℕ) where
     unfolding protection first_yes
     protection-first = go (first_from (λ l. yes (c l)) A letter_count) refl
       where
-        go : (f : Found) → first_from (λ l. yes (c l)) A letter_count ≡ f → First (looked_at f)
-        go (At l) e =
+        go : (f : Option ℕ) → first_from (λ l. yes (c l)) A letter_count ≡ f → First (looked_at f)
+        go (Some l) e =
             let h : Hit (λ l. yes (c l)) A letter_count l = first-hit (λ l. yes (c l)) A letter_count l e in
             found l h.low (omega (arith, h.high)) h.holds (first-before (λ l. yes (c l)) letter_count A l e)
-        go Nothing e = nowhere (λ j lo hi. first-none (λ l. yes (c l)) letter_count A e j lo (omega arith))
+        go None e = nowhere (λ j lo hi. first-none (λ l. yes (c l)) letter_count A e j lo (omega arith))
 
     -- a no looks at all letters
     pub no-looked : (protection s p c).yes ≡ false → (protection s p c).looked ≡ 26
     unfolding protection first_yes
     no-looked = go (first_from (λ l. yes (c l)) A letter_count)
       where
-        go : (f : Found) → (looked_at f).yes ≡ false → (looked_at f).looked ≡ 26
-        go (At l) e = clash e
-        go Nothing e = refl
+        go : (f : Option ℕ) → (looked_at f).yes ≡ false → (looked_at f).looked ≡ 26
+        go (Some l) e = clash e
+        go None e = refl

@@ -1,21 +1,19 @@
 -- The search's steps, as the code makes them: one law for each `return`, what a call returned being a variable with an equation.
 -- Assumes nothing.
-use Prim.Native.Nat.{ℕ, ◌+◌, ◌-◌, ◌≤◌, ◌<◌}
+use Prim.Native.Nat.{ℕ, zero, suc, ◌+◌, ◌-◌, ◌≤◌}
 use mathlib.Core.Path.{◌≡◌, refl, sym, ap, ◌∙◌}
 use mathlib.Core.Bool.{Bool, true, false, ◌&&◌, cond}
-use mathlib.Core.List.{List, [], ◌∷◌}
-use mathlib.Core.Option.{Option, none, some}
+use mathlib.Core.List.{List}
+use Rattle.std.specs.Prelude.{Option, None, Some, ◌||◌}
+use Rattle.std.specs.List.{list_any, range_with_len}
 use native.Mathlib.Omega.{arith}
 use lib.Dec.{eqb, ltb, leb}
-use lib.ListN.{length}
-use borrow.Author.Tests.{eq-eqb, ne_eqb, lt-ltb, le-ltb}
+use borrow.Author.Tests.{ne_eqb, lt-ltb, le-ltb}
 use Rattle.field.specs.Field.{Bytes, part, field}
 use Rattle.field.specs.Low.{low}
 use Rattle.field.specs.Ascii.{A, D, S, Z}
 use Rattle.lists.specs.Lists.{member, map_option, bind_option, first_from}
 use Rattle.lists.proofs.Tests.{Cut, equal, apart, cut}
-use Rattle.lists.specs.declared.Found.{Found}
-use Rattle.lists.specs.declared.Found.TheVariants.{At, Nothing}
 use Rattle.ranking.specs.declared.Side.{Side}
 use Rattle.ranking.specs.declared.Side.TheVariants.{Bid, Offer}
 use Rattle.ranking.specs.declared.Candidate.{Candidate}
@@ -33,7 +31,6 @@ use Rattle.walk.specs.code.Walk.{maker_at}
 use Rattle.walk.proofs.ReadLaws.{quote-side, quote-condition}
 use Rattle.walk.proofs.StepLaws.{maker-r, maker-other}
 use Rattle.walk.proofs.WalkLaws.{finra-is}
-use Rattle.protection.specs.declared.Protection.{Protection}
 use Rattle.protection.specs.Protection.{reaches, answers_yes, first_yes, looked_at, protection, page_candidates}
 use Rattle.protection.specs.code.Search.{level_yes, maker_yes, letter_yes}
 use Rattle.protection.proofs.ProtectionLaws.{yes-best}
@@ -73,7 +70,7 @@ module _ (s : Side) (x : ℕ) where
   quote-is n q = go (ltb 0 (side_of s q).price) (ltb 0 (side_of s q).size) (admits s q.condition) (reaches s x (side_of s q).price) refl
     where
       go : (u v t r : Bool) → reaches s x (side_of s q).price ≡ r
-          → answers_yes s x (cond (u && v && t) (some (level_candidate n q.condition (side_of s q))) none) ≡ ((r && (u && v)) && t)
+          → answers_yes s x (cond (u && v && t) (Some (level_candidate n q.condition (side_of s q))) None) ≡ ((r && (u && v)) && t)
       go true true true true e = e
       go true true true false e = e
       go true true false true e = refl
@@ -174,21 +171,29 @@ module _ (s : Side) (x : ℕ) (p : List ℕ) (k a o : ℕ) (ea : a ≡ cell_at k
 -- D under its own name has the price of its FINRA best
 as-d-yes : (s : Side) (x : ℕ) (o : Option Candidate) → answers_yes s x (map_option as_d o) ≡ answers_yes s x o
 unfolding as_d
-as-d-yes s x none = refl
-as-d-yes s x (some c) = refl
+as-d-yes s x None = refl
+as-d-yes s x (Some c) = refl
+
+-- any of a range is the first of it
+any-first : (f : ℕ → Bool) (k i : ℕ) → list_any f (range_with_len i k) ≡ (looked_at (first_from f i k)).yes
+unfolding first_from
+any-first f zero i = refl
+any-first f (suc k) i = go (f i) (any-first f k (i + 1))
+  where
+    go : (t : Bool) → list_any f (range_with_len (i + 1) k) ≡ (looked_at (first_from f (i + 1) k)).yes
+        → t || list_any f (range_with_len (i + 1) k) ≡ (looked_at (cond t (Some i) (first_from f (i + 1) k))).yes
+    go true e = refl
+    go false e = e
 
 module _ (s : Side) (x : ℕ) (p : List ℕ) where
-  d-found : Bytes p → (f : Found) → f ≡ first_from (maker_yes p s x) 0 maker_count → (looked_at f).yes ≡ letter_yes p s x D
+  d-found : Bytes p → (f : Option ℕ) → f ≡ first_from (maker_yes p s x) 0 maker_count → (looked_at f).yes ≡ letter_yes p s x D
   unfolding letter_yes page_candidates candidates letter_candidate maker_yes
   d-found b f e =
-      ap (λ (g : Found). (looked_at g).yes) e ∙ yes-best s x (maker_at p s) maker_count 0 ∙ ap (answers_yes s x) (finra-is p b s)
+      ap (λ (g : Option ℕ). (looked_at g).yes) e ∙ yes-best s x (maker_at p s) maker_count 0 ∙ ap (answers_yes s x) (finra-is p b s)
       ∙ sym (as-d-yes s x (finra_best (occupied (makers_in p)) s))
 
-  pub d-yes : Bytes p → (f : Found) (k : ℕ) → f ≡ first_from (maker_yes p s x) 0 maker_count → f ≡ At k → true ≡ letter_yes p s x D
-  d-yes b f k e h = sym (ap (λ (g : Found). (looked_at g).yes) h) ∙ d-found b f e
-
-  pub d-no : Bytes p → (f : Found) → f ≡ first_from (maker_yes p s x) 0 maker_count → f ≡ Nothing → false ≡ letter_yes p s x D
-  d-no b f e h = sym (ap (λ (g : Found). (looked_at g).yes) h) ∙ d-found b f e
+  pub d-any : Bytes p → (r : Bool) → r ≡ list_any (maker_yes p s x) (range_with_len 0 maker_count) → r ≡ letter_yes p s x D
+  d-any b r e = e ∙ any-first (maker_yes p s x) maker_count 0 ∙ d-found b (first_from (maker_yes p s x) 0 maker_count) refl
 
   pub letter-d : (l : ℕ) (r : Bool) → l ≡ D → r ≡ letter_yes p s x D → r ≡ letter_yes p s x l
   letter-d l r e h = h ∙ ap (letter_yes p s x) (sym e)
@@ -203,10 +208,10 @@ module _ (s : Side) (x : ℕ) (p : List ℕ) where
 
   -- ---- the search
 
-  pub search-found : (l : ℕ) → At l ≡ first_from (letter_yes p s x) A letter_count → record { yes = true; looked = l + 1 - A } ≡ protection s x (page_candidates p s)
+  pub search-found : (l : ℕ) → Some l ≡ first_from (letter_yes p s x) A letter_count → record { yes = true; looked = l + 1 - A } ≡ protection s x (page_candidates p s)
   unfolding protection first_yes letter_yes
   search-found l e = ap looked_at e
 
-  pub search-none : Nothing ≡ first_from (letter_yes p s x) A letter_count → record { yes = false; looked = letter_count } ≡ protection s x (page_candidates p s)
+  pub search-none : None ≡ first_from (letter_yes p s x) A letter_count → record { yes = false; looked = letter_count } ≡ protection s x (page_candidates p s)
   unfolding protection first_yes letter_yes
   search-none e = ap looked_at e

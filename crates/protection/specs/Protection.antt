@@ -1,11 +1,8 @@
 -- Is a price protected? (document 02, T-06): the letters are looked at from A, and the first whose national candidate reaches the price answers yes.
 -- Assumes nothing.
-use Rattle.std.specs.Prelude.{ℕ, ◌+◌, ◌-◌, Bool, true, false, List, leb}
-use Rattle.std.proofs.Math.Option.{Option, none, some}
+use Rattle.std.specs.Prelude.{ℕ, ◌+◌, ◌-◌, Bool, true, false, List, leb, Option, None, Some}
 use Rattle.field.specs.Ascii.{A}
 use Rattle.lists.specs.Lists.{first_from}
-use Rattle.lists.specs.declared.Found.{Found}
-use Rattle.lists.specs.declared.Found.TheVariants.{At, Nothing}
 use Rattle.ranking.specs.declared.Side.{Side}
 use Rattle.ranking.specs.declared.Side.TheVariants.{Bid, Offer}
 use Rattle.ranking.specs.declared.Candidate.{Candidate}
@@ -21,17 +18,17 @@ reaches Offer p x = leb x p
 
 -- a letter answers yes if it has a candidate and that one reaches the price
 abbrev pub answers_yes : Side → ℕ → Option Candidate → Bool
-answers_yes s p none = false
-answers_yes s p (some c) = reaches s p c.price
+answers_yes s p None = false
+answers_yes s p (Some c) = reaches s p c.price
 
 -- "Letters are looked at from A, and the search stops at the first that answers yes"
-unfoldable pub first_yes : Side → ℕ → (ℕ → Option Candidate) → Found
+unfoldable pub first_yes : Side → ℕ → (ℕ → Option Candidate) → Option ℕ
 first_yes s p c = first_from (λ l. answers_yes s p (c l)) A letter_count
 
 -- "how many letters were looked at: the position of that letter among A to Z, or 26 for no"
-abbrev pub looked_at : Found → Protection
-looked_at (At l) = record { yes = true; looked = l + 1 - A }
-looked_at Nothing = record { yes = false; looked = letter_count }
+abbrev pub looked_at : Option ℕ → Protection
+looked_at (Some l) = record { yes = true; looked = l + 1 - A }
+looked_at None = record { yes = false; looked = letter_count }
 
 unfoldable pub protection : Side → ℕ → (ℕ → Option Candidate) → Protection
 protection s p c = looked_at (first_yes s p c)

@@ -4,20 +4,18 @@
 ghost use Rattle.std.specs.Prelude.{◌≡◌, ◌+◌, ◌≤◌, ◌<◌, length};
 ghost use Rattle.field.specs.Field.{part};
 ghost use Rattle.field.specs.Ascii as ascii;
-ghost use Rattle.lists.specs.Lists.{first_from};
 ghost use Rattle.quote.specs.Quote.{level_in, candidate_of, level_length};
 ghost use Rattle.page.specs.Layout.{page_length, maker_count};
 ghost use Rattle.page.specs.Page.{quotes_in};
 ghost use Rattle.protection.specs.Protection.{reaches, answers_yes, page_candidates, page_trading, protection};
 ghost use Rattle.protection.specs.code.Search.{level_yes, maker_yes, letter_yes};
 
-use lists::Found;
 use page::{Cell, Letter, Page};
 use quote::Level;
 use ranking::Side;
 
 /// Whether a price is protected, and how many letters were looked at: the position of the letter that answered yes, or 26.
-#[derive(Clone, Copy)]
+#[derive(Clone, Copy, Debug, PartialEq, Eq)]
 pub struct Protection {
     pub yes: bool,
     pub looked: u8,
@@ -48,13 +46,10 @@ fn level_yes(page: &[u8], at: usize, side: Side, price: u64) -> bool
 {
     // price 8, size 4, time 8
     let shown = field::low64(page, at);
-    if reaches(side, price, shown) {
-        if shown == 0 {
-            return false;
-        }
-        return 0 < field::low32(page, at + 8);
+    if shown == 0 || !reaches(side, price, shown) {
+        return false;
     }
-    false
+    0 < field::low32(page, at + 8)
 }
 
 // Whether the side of a letter's quote counts and reaches the price. Its key is read last.
@@ -82,35 +77,15 @@ fn maker_yes(page: &[u8], k: usize, side: Side, price: u64) -> bool
     ensures { result ≡ maker_yes page.now side price k }
 {
     let quote = page::cell_at(k) + Cell::QUOTE;
-    if level_yes(page, quote + page::in_quote(side), side, price) {
-        return field::get8(page, quote) == b'R';
-    }
-    false
+    level_yes(page, quote + page::in_quote(side), side, price) && field::get8(page, quote) == b'R'
 }
 
-// The first maker cell that reaches the price. The FINRA best does exactly if one of the makers does.
-fn first_maker(page: &[u8], side: Side, price: u64) -> Found
-    requires { length page.now ≡ page_length }
-    ensures { result ≡ first_from (maker_yes page.now side price) 0 maker_count }
-{
-    for k in 0..Page::MAKERS {
-        if maker_yes(page, k, side, price) {
-            return Found::At(k);
-        }
-    }
-    Found::Nothing
-}
-
-// D answers by its FINRA best.
+// D answers by its FINRA best, which reaches the price exactly if one of the makers does.
 fn d_yes(page: &[u8], side: Side, price: u64) -> bool
     requires { length page.now ≡ page_length }
     ensures { result ≡ letter_yes page.now side price ascii.D }
 {
-    let found = first_maker(page, side, price);
-    match found {
-        Found::At(_) => true,
-        Found::Nothing => false,
-    }
+    (0..Page::MAKERS).any(|k| maker_yes(page, k, side, price))
 }
 
 // Whether a letter answers yes: D by its FINRA best, S, the processor, never, any other by its quote.
@@ -133,6 +108,7 @@ fn search(page: &[u8], side: Side, price: u64) -> Protection
     requires { length page.now ≡ page_length }
     ensures { result ≡ protection side price (page_candidates page.now side) }
 {
+    // which letter is found is the answer
     for letter in Letter::A..Letter::Z + 1 {
         if letter_yes(page, letter, side, price) {
             return Protection {

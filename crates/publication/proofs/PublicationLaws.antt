@@ -1,10 +1,10 @@
 -- The publication's bytes and flags, as the code makes them: one law for each `return`. Its length, and that its elements are bytes.
 -- Assumes nothing.
 use Prim.Native.Nat.{ℕ, ◌+◌, ◌*◌, ◌/◌, ◌%◌, ◌^◌, ◌<◌}
-use mathlib.Core.Path.{◌≡◌, refl, sym, ap, ◌∙◌}
+use mathlib.Core.Path.{◌≡◌, refl, ap, ◌∙◌}
 use mathlib.Core.Bool.{Bool, true, false, ◌&&◌, cond}
 use mathlib.Core.List.{List, [], ◌∷◌, ◌++◌}
-use mathlib.Core.Option.{Option, none, some}
+use Rattle.std.specs.Prelude.{Option, None, Some}
 use native.Mathlib.Omega.{arith}
 use lib.Dec.{eqb, lit<}
 use borrow.Author.Tests.{eq-eqb, ne_eqb}
@@ -43,7 +43,7 @@ module _ (c : Candidate) (n : ℕ) where
   unfolding priced
   named-as name r e er = er ∙ go (eqb c.price 0)
     where
-      go : (t : Bool) → entry_bytes (λ c. be_bytes 4 n) (cond t none (some c)) ≡ entry_bytes name (cond t none (some c))
+      go : (t : Bool) → entry_bytes (λ c. be_bytes 4 n) (cond t None (Some c)) ≡ entry_bytes name (cond t None (Some c))
       go true = refl
       go false = ap (λ (b : List ℕ). b ++ (be_bytes 8 c.price ++ be_bytes 4 c.size)) e
 
@@ -100,26 +100,19 @@ module _ (e : Entry) (f : EntryFits e) where
   unfolding bytes_of be_bytes field
   size_back = be-be_bytes 4 e.size f.size
 
-  module _ (p : List ℕ) (at bit n : ℕ) (en : n ≡ field p at 4) where
-    pub flag-name : (n ≡ e.name → ⊥) → bit ≡ cond (holds p at e) 0 bit
+  module _ (p : List ℕ) (at n : ℕ) (en : n ≡ field p at 4) where
+    pub other-name : (n ≡ e.name → ⊥) → false ≡ holds p at e
     unfolding holds
-    flag-name h = rw (← en, name_back, ne_eqb _ _ h)
+    other-name h = rw (← en, name_back, ne_eqb _ _ h)
 
     module _ (h : n ≡ e.name) (q : ℕ) (eq : q ≡ field p (at + 4) 8) where
-      pub flag-price : (q ≡ e.price → ⊥) → bit ≡ cond (holds p at e) 0 bit
+      pub other-price : (q ≡ e.price → ⊥) → false ≡ holds p at e
       unfolding holds
-      flag-price k = rw (← en, name_back, eq-eqb _ _ h, ← eq, price-back, ne_eqb _ _ k)
+      other-price k = rw (← en, name_back, eq-eqb _ _ h, ← eq, price-back, ne_eqb _ _ k)
 
-      module _ (k : q ≡ e.price) (z : ℕ) (ez : z ≡ field p (at + 12) 4) where
-        flag-last : cond (eqb z e.size) 0 bit ≡ cond (holds p at e) 0 bit
-        unfolding holds
-        flag-last = rw (← en, name_back, eq-eqb _ _ h, ← eq, price-back, eq-eqb _ _ k, ← ez, size_back)
-
-        pub flag-size : (z ≡ e.size → ⊥) → bit ≡ cond (holds p at e) 0 bit
-        flag-size m = ap (λ (t : Bool). cond t 0 bit) (sym (ne_eqb _ _ m)) ∙ flag-last
-
-        pub flag_same : z ≡ e.size → 0 ≡ cond (holds p at e) 0 bit
-        flag_same m = ap (λ (t : Bool). cond t 0 bit) (sym (eq-eqb _ _ m)) ∙ flag-last
+      pub by_size : q ≡ e.price → (z : ℕ) → z ≡ field p (at + 12) 4 → eqb z e.size ≡ holds p at e
+      unfolding holds
+      by_size k z ez = rw (← en, name_back, eq-eqb _ _ h, ← eq, price-back, eq-eqb _ _ k, ← ez, size_back)
 
 -- entry k of six
 module _ (p b : List ℕ) where
@@ -166,16 +159,16 @@ put_six x p a b c d e f ea eb ec ed ee ef =
 
 priced-back : (o : Option Candidate) → OrCounting o → priced (or_none o) ≡ o
 unfolding priced
-priced-back none k = refl
-priced-back (some c) k = rw (ne_eqb c.price 0 k.price)
+priced-back None k = refl
+priced-back (Some c) k = rw (ne_eqb c.price 0 k.price)
 
 reason-back : (r : Option Reason) → reason_of (decided_at r) ≡ r
 unfolding reason_of
-reason-back none = refl
-reason-back (some Price) = refl
-reason-back (some Size) = refl
-reason-back (some Time) = refl
-reason-back (some Name) = refl
+reason-back None = refl
+reason-back (Some Price) = refl
+reason-back (Some Size) = refl
+reason-back (Some Time) = refl
+reason-back (Some Name) = refl
 
 publication-back : (v : Entries) → SixCount v → publication (as_entries (bests_of v)) ≡ publication v
 unfolding publication as_entries bests_of

@@ -141,17 +141,23 @@ fn to_publish(e: BestEntries) -> Published
     }
 }
 
+// Whether e stands at `at`.
+fn stands(page: &[u8], at: usize, e: Entry) -> bool
+    requires { at + entry_length ≤ length page.now }
+    ensures { result ≡ holds page.now at e }
+{
+    field::get32(page, at) == e.name
+        && field::get64(page, at + Entry::PRICE) == e.price
+        && field::get32(page, at + Entry::SIZE) == e.size
+}
+
 // The flag of the entry at `at`: 0 if e stands there already, else `bit`.
 fn flag(page: &[u8], at: usize, e: Entry, bit: u8) -> u8
     requires { at + entry_length ≤ length page.now }
     ensures { (result ≡ cond (holds page.now at e) 0 bit) × (result ≤ bit) }
 {
-    if field::get32(page, at) == e.name {
-        if field::get64(page, at + Entry::PRICE) == e.price {
-            if field::get32(page, at + Entry::SIZE) == e.size {
-                return 0;
-            }
-        }
+    if stands(page, at, e) {
+        return 0;
     }
     bit
 }

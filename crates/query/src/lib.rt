@@ -1,179 +1,114 @@
 // The calls that read a book.
 #![tactic(auto)]
 
-ghost use Rattle.std.specs.Prelude.{◌≡◌, cond, ◌+◌, ◌≤◌, length};
-ghost use Rattle.field.specs.Field.{part, splice};
+ghost use Rattle.std.specs.Prelude.{◌≡◌, cond};
+ghost use Rattle.numbers.specs.Numbers.{answered, told_if_ok};
 ghost use Rattle.calls.specs.Buffers.{read_out, order_out};
-ghost use Rattle.calls.specs.Call.{call, protected, queried, asked_side, order_side};
-ghost use Rattle.entries.specs.Publication.{publication_length};
-ghost use Rattle.query.specs.code.Asked.{marked_of, asked_of, measured_of, ordered_of};
+ghost use Rattle.calls.specs.Call.{call, protected, queried};
+ghost use Rattle.query.specs.code.Asked.{marked_of, asked_of, measured_of, against_of};
 
-use calls::{Protected, Tried};
-use lists::Found;
+use numbers::Refusal;
 use opening::Book;
 use page::Page;
+use protection::Protection;
 use ranking::Side;
-use sweep::Steps;
+use sweep::{Steps, Swept};
 
 /// Reads a symbol's publication into the first 96 bytes of the buffer.
-pub fn read(book: &[u8], symbol: &[u8], publication: &mut [u8]) -> u8
-    ensures { record { number = result; publication = publication.new } ≡ read_out book.now symbol.now publication.old }
+pub fn read(book: &[u8], symbol: &[u8], publication: &mut [u8]) -> Result<(), Refusal>
+    ensures { record { number = answered result; publication = publication.new } ≡ read_out book.now symbol.now publication.old }
 {
-    if opening::is_sound(book) {
-        if publication.len() < Book::PUBLICATION_LEN {
-            return 9;
-        }
-        if text::is_symbol(symbol) {
-            let place = opening::find(book, symbol);
-            let Found::At(k) = place else {
-                return 10;
-            };
-            let at = Book::OPENING_LEN + k * Book::PAGE_LEN + Page::ENTRIES;
-            copy(book, at, publication);
-            return 0;
-        }
-        return 10;
+    if !opening::is_sound(book) {
+        return Err(Refusal::NoBook);
     }
-    1
+    if publication.len() < Book::PUBLICATION_LEN {
+        return Err(Refusal::BufferShort);
+    }
+    let k = calls::listed(book, symbol)?;
+    let at = Book::OPENING_LEN + k * Book::PAGE_LEN + Page::ENTRIES;
+    let end = at + Book::PUBLICATION_LEN;
+    writer::copy(publication, 0, &book[at..end]);
+    Ok(())
 }
 
-// Copies 96 bytes from `at`.
-fn copy(book: &[u8], at: usize, publication: &mut [u8])
-    requires { (at + publication_length ≤ length book.now) × (publication_length ≤ length publication.old) }
-    ensures { publication.new ≡ splice publication.old 0 (part book.now at publication_length) }
-{
-    for i in 0..12 {
-        field::put64(publication, 8 * i, field::get64(book, at + 8 * i));
-    }
-}
-
-/// What the checks of a query with a side mark give: which page its symbol has, or a refusal.
+/// What a query with a side mark asks of: the page of its symbol, and a side.
 #[derive(Clone, Copy)]
-pub enum Asked {
-    Page(usize),
-    Refused(u8),
+pub struct Asked {
+    pub page: usize,
+    pub side: Side,
 }
 
-// Check 74, for page k.
-fn marked(mark: u8, k: usize) -> Asked
-    ensures { result ≡ marked_of mark k }
+// B asks of the bids, S of the offers.
+fn marked(mark: u8) -> Option<Side>
+    ensures { result ≡ marked_of mark }
 {
     match mark {
-        b'B' | b'S' => Asked::Page(k),
-        _ => Asked::Refused(74),
+        b'B' => Some(Side::Bid),
+        b'S' => Some(Side::Offer),
+        _ => None,
     }
 }
 
 /// Checks 1, 10 and 74 of a query.
-pub fn judge(book: &[u8], symbol: &[u8], mark: u8) -> Asked
+pub fn judge(book: &[u8], symbol: &[u8], mark: u8) -> Result<Asked, Refusal>
     ensures { result ≡ asked_of book.now symbol.now mark }
 {
-    if opening::is_sound(book) {
-        if text::is_symbol(symbol) {
-            let place = opening::find(book, symbol);
-            let Found::At(k) = place else {
-                return Asked::Refused(10);
-            };
-            return marked(mark, k);
-        }
-        return Asked::Refused(10);
-    }
-    Asked::Refused(1)
-}
-
-// B asks of the bids, S of the offers.
-fn asked_side(mark: u8) -> Side
-    ensures { result ≡ asked_side mark }
-{
-    if mark == b'B' {
-        return Side::Bid;
-    }
-    Side::Offer
+    let page = calls::known(book, symbol)?;
+    let side = marked(mark).ok_or(Refusal::Side)?;
+    Ok(Asked { page, side })
 }
 
 /// Whether a national candidate of the symbol bids the price or more (mark B), or offers it or less (mark S), by the quotes of its page. No
 /// while the symbol is halted.
-pub fn is_protected(book: &[u8], symbol: &[u8], mark: u8, price: u64) -> Protected
-    ensures { record { bytes = book.now; answer = queried result.number (cond result.yes 1 0) result.looked } ≡ call book.now (protected symbol.now mark price) }
+pub fn is_protected(book: &[u8], symbol: &[u8], mark: u8, price: u64) -> Result<Protection, Refusal>
+    ensures { record { bytes = book.now; answer = queried (answered result) (told_if_ok result (λ t. cond t.yes 1 0)) (told_if_ok result (λ t. t.looked)) } ≡ call book.now (protected symbol.now mark price) }
 {
-    let asked = judge(book, symbol, mark);
-    match asked {
-        Asked::Refused(number) => Protected {
-            number,
-            yes: false,
-            looked: 0,
-        },
-        Asked::Page(k) => {
-            let a = Book::OPENING_LEN + k * Book::PAGE_LEN;
-            let e = a + Book::PAGE_LEN;
-            let found = protection::look(&book[a..e], asked_side(mark), price);
-            Protected {
-                number: 0,
-                yes: found.yes,
-                looked: found.looked,
-            }
-        }
-    }
+    let asked = judge(book, symbol, mark)?;
+    let a = Book::OPENING_LEN + asked.page * Book::PAGE_LEN;
+    let e = a + Book::PAGE_LEN;
+    Ok(protection::look(&book[a..e], asked.side, price))
 }
 
-// Checks 82 and 83, for page k.
-fn measured(lots: u32, room: usize, k: usize) -> Asked
-    ensures { result ≡ measured_of lots room k }
+// Checks 82 and 83.
+fn measure(lots: u32, room: usize) -> Result<(), Refusal>
+    ensures { answered result ≡ measured_of lots room }
 {
     if lots == 0 {
-        return Asked::Refused(82);
+        return Err(Refusal::Lots);
     }
     if 1_000_000 < lots {
-        return Asked::Refused(82);
+        return Err(Refusal::Lots);
     }
     if room < Steps::LEN {
-        return Asked::Refused(83);
+        return Err(Refusal::StepsShort);
     }
-    Asked::Page(k)
+    Ok(())
 }
 
-// Checks 1, 10, 74, 82 and 83 of an order.
-fn judge_order(book: &[u8], symbol: &[u8], mark: u8, lots: u32, room: usize) -> Asked
-    ensures { result ≡ ordered_of book.now symbol.now mark lots room }
+// An order takes from the other side: B buys at the offers, S sells at the bids.
+fn against(side: Side) -> Side
+    ensures { result ≡ against_of side }
 {
-    let asked = judge(book, symbol, mark);
-    match asked {
-        Asked::Refused(number) => Asked::Refused(number),
-        Asked::Page(k) => measured(lots, room, k),
+    match side {
+        Side::Bid => Side::Offer,
+        Side::Offer => Side::Bid,
     }
-}
-
-// B buys at the offers, S sells at the bids.
-fn order_side(mark: u8) -> Side
-    ensures { result ≡ order_side mark }
-{
-    if mark != b'B' {
-        return Side::Bid;
-    }
-    Side::Offer
 }
 
 /// Plays an order of so many round lots on the symbol's page, at the offers (mark B) or at the bids (mark S), and lists its steps. None
 /// while the symbol is halted.
-pub fn try_order(book: &[u8], symbol: &[u8], mark: u8, lots: u32, steps: &mut [u8]) -> Tried
-    ensures { record { number = result.number; found = result.steps; amount = result.unfilled; steps = steps.new } ≡ order_out book.now symbol.now mark lots steps.old }
+pub fn try_order(
+    book: &[u8],
+    symbol: &[u8],
+    mark: u8,
+    lots: u32,
+    steps: &mut [u8],
+) -> Result<Swept, Refusal>
+    ensures { record { number = answered result; found = told_if_ok result (λ s. s.steps); amount = told_if_ok result (λ s. s.unfilled); steps = steps.new } ≡ order_out book.now symbol.now mark lots steps.old }
 {
-    let asked = judge_order(book, symbol, mark, lots, steps.len());
-    match asked {
-        Asked::Refused(number) => Tried {
-            number,
-            steps: 0,
-            unfilled: 0,
-        },
-        Asked::Page(k) => {
-            let start = Book::OPENING_LEN + k * Book::PAGE_LEN;
-            let end = start + Book::PAGE_LEN;
-            let swept = sweep::play(&book[start..end], order_side(mark), lots, steps);
-            Tried {
-                number: 0,
-                steps: swept.steps,
-                unfilled: swept.unfilled,
-            }
-        }
-    }
+    let order = judge(book, symbol, mark)?;
+    measure(lots, steps.len())?;
+    let start = Book::OPENING_LEN + order.page * Book::PAGE_LEN;
+    let end = start + Book::PAGE_LEN;
+    Ok(sweep::play(&book[start..end], against(order.side), lots, steps))
 }

@@ -7,25 +7,11 @@ use mathlib.Core.Bool.{Bool, true, false, ◌&&◌, cond}
 use borrow.Author.Tests.{eq-eqb, ne_eqb, le-leb, lt-leb}
 use lib.Dec.{eqb, leb}
 use Rattle.field.specs.Field.{part, splice}
-use Rattle.ranking.specs.declared.Side.TheVariants.{Bid, Offer}
 use Rattle.quote.specs.declared.Level.{Level}
 use Rattle.quote.specs.declared.Quote.{Quote}
 use Rattle.quote.specs.Quote.{empty_quote, with_time, with_times, time_kept, quote_over, quote_in, quote_bytes, quote_length, LevelFits, QuoteFits}
 
 -- ---- what the code answers
-
-module _ (standing new : Level) where
-  pub time-stays : new.price ≡ standing.price → new.size ≤ standing.size → standing.time ≡ time_kept standing new
-  unfolding time_kept
-  time-stays e h = rw (eq-eqb new.price standing.price e, le-leb new.size standing.size h)
-
-  pub time-larger : new.price ≡ standing.price → standing.size < new.size → new.time ≡ time_kept standing new
-  unfolding time_kept
-  time-larger e h = rw (eq-eqb new.price standing.price e, lt-leb new.size standing.size h)
-
-  pub time-moved : (new.price ≡ standing.price → ⊥) → new.time ≡ time_kept standing new
-  unfolding time_kept
-  time-moved n = rw (ne_eqb new.price standing.price n)
 
 pub over-is : (standing new : Quote) (b o : Level) → b ≡ with_time (time_kept standing.bid new.bid) new.bid → o ≡ with_time (time_kept standing.offer new.offer) new.offer
     → record { condition = new.condition; bid = b; offer = o } ≡ quote_over standing new

@@ -1,7 +1,6 @@
 -- Quotes: which sides count, the times of a resent quote, and their bytes (document 01, "Messages"; document 02, T-02).
 -- Assumes nothing.
-use Rattle.std.specs.Prelude.{ℕ, ◌+◌, ◌^◌, ◌<◌, Bool, true, false, not, ◌&&◌, cond, List, [], ◌∷◌, ◌++◌, eqb, leb, ltb}
-use Rattle.std.proofs.Math.Option.{Option, none, some}
+use Rattle.std.specs.Prelude.{ℕ, ◌+◌, ◌^◌, ◌<◌, Bool, true, false, not, ◌&&◌, cond, List, [], ◌∷◌, ◌++◌, eqb, leb, ltb, Option, None, Some}
 use Rattle.field.specs.Field.{part, field, be_bytes}
 use Rattle.field.specs.Low.{low, le_bytes}
 use Rattle.field.specs.Ascii.{A, B, E, F, H, O, R, W}
@@ -78,7 +77,7 @@ level_candidate name condition l = record { name = name; price = l.price; size =
 
 -- the candidate that a quote is under a name, if that side counts
 unfoldable pub candidate_of : Side → ℕ → Quote → Option Candidate
-candidate_of s n q = cond (counts s q) (some (level_candidate n q.condition (side_of s q))) none
+candidate_of s n q = cond (counts s q) (Some (level_candidate n q.condition (side_of s q))) None
 
 -- ---- bytes: a level is price 8, size 4, time 8, their lowest byte first; a quote is condition 1, bid, offer
 

@@ -55,13 +55,11 @@ impl Level {
     fn time_over(self, standing: Level) -> u64
         ensures { result ≡ time_kept standing self }
     {
-        if self.price != standing.price {
-            return self.time;
+        if self.price == standing.price && self.size <= standing.size {
+            standing.time
+        } else {
+            self.time
         }
-        if self.size <= standing.size {
-            return standing.time;
-        }
-        self.time
     }
 
     // A new side over the one that stands.
@@ -69,9 +67,8 @@ impl Level {
         ensures { result ≡ with_time (time_kept standing self) self }
     {
         Level {
-            price: self.price,
-            size: self.size,
             time: self.time_over(standing),
+            ..self
         }
     }
 }
@@ -165,8 +162,5 @@ pub fn admits(side: Side, condition: u8) -> bool
 fn is_bid(side: Side) -> bool
     ensures { result ≡ is_bid side }
 {
-    match side {
-        Side::Bid => true,
-        Side::Offer => false,
-    }
+    matches!(side, Side::Bid)
 }

@@ -1,7 +1,7 @@
 -- The length of a book by the code's tests, and reports as numbers.
 -- Assumes nothing.
 use Prim.Native.Nat.{ℕ, ◌≤◌, ◌<◌}
-use mathlib.Core.Path.{◌≡◌, ap}
+use mathlib.Core.Path.{◌≡◌, ap, sym, ◌∙◌}
 use mathlib.Core.Bool.{Bool, cond}
 use mathlib.Core.List.{List, [], ◌∷◌}
 use borrow.Author.Tests.{le-leb, lt-leb}
@@ -9,7 +9,11 @@ use Rattle.block.specs.Written.{Out, written_out}
 use Rattle.calls.specs.Buffers.{TakenBlock, taken, FeedOut, feed_out, OrderOut, order_out, RunOut, run_out}
 use Rattle.calls.specs.Call.{Outcome, queried, run_told, fed, call, protected, convert_len, snapshot_len}
 use Rattle.quotebook.specs.Interface.{book_len, numbered, taken_numbers, query_numbers, protected_numbers, amount_numbers, length_numbers, run_numbers, converted_numbers, out_numbers, written_numbers, order_numbers, tried_numbers, SizeNumbers, size_numbers, feed_sized, feed_numbers, head_numbers, log_numbers, replayed_numbers, restored_numbers, QueryNumbers}
-use Rattle.logform.specs.Log.{head_of}
+use Rattle.std.specs.Prelude.{Result, Ok, Err}
+use Rattle.std.specs.Result.{result_unwrap_or}
+use Rattle.numbers.specs.declared.Refusal.{Refusal}
+use Rattle.numbers.specs.Numbers.{answered, told_if_ok}
+use Rattle.logform.specs.Log.{Told, told, head_of}
 use Rattle.logform.specs.declared.Head.{Head}
 use Rattle.logcalls.specs.Replayed.{Replayed, replayed}
 use Rattle.logcalls.specs.Restored.{restored}
@@ -61,9 +65,9 @@ pub order-told : (b s : List ℕ) (m w : ℕ) (steps : List ℕ) (o : OrderOut) 
 unfolding tried_numbers
 order-told b s m w steps o h = ap order_numbers h
 
-pub head-numbered : (log : List ℕ) (h : Head) → h ≡ head_of log → record { number = h.number; report = h.number ∷ h.n ∷ h.requests ∷ [] } ≡ head_numbers log
+pub head-numbered : (log : List ℕ) (h : Told) → h ≡ head_of log → record { number = h.number; report = h.number ∷ h.n ∷ h.requests ∷ [] } ≡ head_numbers log
 unfolding head_numbers
-head-numbered log h e = ap (λ (x : Head). record { number = x.number; report = x.number ∷ x.n ∷ x.requests ∷ [] }) e
+head-numbered log h e = ap (λ (x : Told). record { number = x.number; report = x.number ∷ x.n ∷ x.requests ∷ [] }) e
 
 pub replay-numbered : (b log : List ℕ) (from : ℕ) (out : List ℕ) (r : Replayed) → r ≡ replayed b log from out → log_numbers r ≡ replayed_numbers b log from out
 unfolding replayed_numbers
@@ -72,3 +76,18 @@ replay-numbered b log from out r e = ap log_numbers e
 pub restore-numbered : (b log out : List ℕ) (r : Replayed) → r ≡ restored b log out → log_numbers r ≡ restored_numbers b log out
 unfolding restored_numbers
 restore-numbered b log out r e = ap log_numbers e
+
+-- ---- a call's parts
+
+module _ {A : Type 0} (none : A) (r : Result A Refusal) (n : ℕ) (a : A) (number : n ≡ answered r) (value : a ≡ result_unwrap_or r none) where
+  pub part-told : (f : A → ℕ) → f none ≡ 0 → told_if_ok r f ≡ f a
+  part-told f z = go r value
+    where
+      go : (x : Result A Refusal) → a ≡ result_unwrap_or x none → told_if_ok x f ≡ f a
+      go (Ok v) e = ap f (sym e)
+      go (Err x) e = sym z ∙ ap f (sym e)
+
+-- the head of a log by its parts
+pub head-parts : (r : Result Head Refusal) (n : ℕ) (h : Head) → n ≡ answered r → h ≡ result_unwrap_or r (record { n = 0; requests = 0 }) → record { number = n; n = h.n; requests = h.requests } ≡ told r
+head-parts (Ok v) n h a b = λ j. record { number = a j; n = (b j).n; requests = (b j).requests }
+head-parts (Err v) n h a b = λ j. record { number = a j; n = (b j).n; requests = (b j).requests }

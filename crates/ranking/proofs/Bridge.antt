@@ -2,7 +2,7 @@
 -- Assumes nothing.
 use Rattle.std.proofs.Common.{◌≡◌, ℕ, zero, suc, ◌+◌, ◌-◌, ◌^◌, ◌<◌, ◌≤◌, Bool, true, false, cond, eqb, ltb, List, [], ◌∷◌, sym, refl, ap, ◌∙◌, add-one, arith, ltb-false, ltb-true, le-ltb, lt-ltb, ne_eqb}
 use mathlib.Core.Path.{fun_ext}
-use mathlib.Core.Option.{Option, none, some}
+use Rattle.std.specs.Prelude.{Option, None, Some}
 use borrow.Author.Tests.{eqb-false}
 use Rattle.lists.specs.Lists.{collect, range}
 use Rattle.ranking.specs.declared.Side.{Side}
@@ -57,49 +57,49 @@ pub record Counting (c : Candidate) : Type 0 where
   pub fits : c.price < 2 ^ 64
 
 abbrev pub OrCounting : Option Candidate → Type 0
-OrCounting none = Unit {0}
-OrCounting (some c) = Counting c
+OrCounting None = Unit {0}
+OrCounting (Some c) = Counting c
 
 pub live-counts : (c : Candidate) → c.price < 2 ^ 64 → OrCounting (live c)
 unfolding live
 live-counts c h = go (eqb c.price 0) refl (eqb c.size 0) refl
   where
-    go : (t : Bool) → eqb c.price 0 ≡ t → (u : Bool) → eqb c.size 0 ≡ u → OrCounting (cond t none (cond u none (some c)))
+    go : (t : Bool) → eqb c.price 0 ≡ t → (u : Bool) → eqb c.size 0 ≡ u → OrCounting (cond t None (cond u None (Some c)))
     go true e u f = tt
     go false e true f = tt
     go false e false f = record { price = eqb-false c.price 0 e; size = eqb-false c.size 0 f; fits = h }
 
 pub live_back : (o : Option Candidate) → OrCounting o → live (or_none o) ≡ o
 unfolding live
-live_back none k = refl
-live_back (some c) k = rw (ne_eqb c.price 0 k.price, ne_eqb c.size 0 k.size)
+live_back None k = refl
+live_back (Some c) k = rw (ne_eqb c.price 0 k.price, ne_eqb c.size 0 k.size)
 
 either-counts : (s : Side) (a b : Option Candidate) → OrCounting a → OrCounting b → OrCounting (either (better s) a b)
-either-counts s none b h k = k
-either-counts s (some x) none h k = h
-either-counts s (some x) (some y) h k = go (better s y x)
+either-counts s None b h k = k
+either-counts s (Some x) None h k = h
+either-counts s (Some x) (Some y) h k = go (better s y x)
   where
     go : (t : Bool) → Counting (cond t y x)
     go true = k
     go false = h
 
-choose-counting : (s : Side) (o : Option Candidate) (x : Candidate) → OrCounting o → Counting x → choose s (or_none o) x ≡ or_none (either (better s) o (some x))
-choose-counting s none x h k =
+choose-counting : (s : Side) (o : Option Candidate) (x : Candidate) → OrCounting o → Counting x → choose s (or_none o) x ≡ or_none (either (better s) o (Some x))
+choose-counting s None x h k =
     sym (choose-by s no_candidate x (record { ahead = true; by = Price }) k.price k.size first-ahead true refl)
   where
     first-ahead : record { ahead = true; by = Price } ≡ by_rank s x no_candidate
     first-ahead =
         rank-more s x no_candidate (ltb (rank_of s x.price) (rank_of s 0)) refl (ltb (rank_of s 0) (rank_of s x.price)) refl
         (rw (rank-zero s) (lt-ltb 0 (rank_of s x.price) (rank-some s x.price k.price k.fits)))
-choose-counting s (some c) x h k = choose-better s x c k.price h.price k.fits h.fits k.size
+choose-counting s (Some c) x h k = choose-better s x c k.price h.price k.fits h.fits k.size
 
 pub choose-either : (s : Side) (o : Option Candidate) (x : Candidate) → OrCounting o → x.price < 2 ^ 64 → choose s (or_none o) x ≡ or_none (either (better s) o (live x))
 choose-either s o x h k = choose-live s (or_none o) x ∙ go o h (live x) (live-counts x k)
   where
     go : (o : Option Candidate) → OrCounting o → (y : Option Candidate) → OrCounting y → choose s (or_none o) (or_none y) ≡ or_none (either (better s) o y)
-    go none h none k = sym (choose-none s no_candidate)
-    go (some c) h none k = sym (choose-none s c)
-    go o h (some y) k = choose-counting s o y h k
+    go None h None k = sym (choose-none s no_candidate)
+    go (Some c) h None k = sym (choose-none s c)
+    go o h (Some y) k = choose-counting s o y h k
 
 -- ---- the loop
 
@@ -109,8 +109,8 @@ module _ (s : Side) (c : ℕ → Candidate) (fits : (j : ℕ) → (c j).price < 
 
   best-with : (k i : ℕ) (o : Option Candidate) → OrCounting o → best_from s c i k (or_none o) ≡ or_none (either (better s) o (best (better s) (counting i k)))
   unfolding best_from
-  best-with zero i none h = refl
-  best-with zero i (some x) h = refl
+  best-with zero i None h = refl
+  best-with zero i (Some x) h = refl
   best-with (suc k) i o h =
       let n : OrCounting (either (better s) o (live (c i))) = either-counts s o (live (c i)) h (live-counts (c i) (fits i)) in
       ap (best_from s c (i + 1) k) (choose-either s o (c i) h (fits i))
@@ -122,11 +122,11 @@ module _ (s : Side) (c : ℕ → Candidate) (fits : (j : ℕ) → (c j).price < 
 
   -- the k candidates from the i-th on
   pub best-from : (i k : ℕ) → best_from s c i k no_candidate ≡ or_none (best (better s) (collect (λ j. live (c j)) (range k i)))
-  best-from i k = best-with k i none tt
+  best-from i k = best-with k i None tt
 
 pub fits_or : (o : Option Candidate) → OrCounting o → (or_none o).price < 2 ^ 64
-fits_or none k = omega arith
-fits_or (some c) k = k.fits
+fits_or None k = omega arith
+fits_or (Some c) k = k.fits
 
 -- the same of what is none or counts
 pub side-best : (s : Side) (f : ℕ → Option Candidate) → ((j : ℕ) → OrCounting (f j)) → (i k : ℕ)

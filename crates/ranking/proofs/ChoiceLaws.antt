@@ -1,7 +1,8 @@
 -- The choice as the code makes it: one law for each `return`, what a call returned being a variable with an equation. And loops over both sides.
 -- Assumes nothing.
-use Rattle.std.proofs.Common.{◌≡◌, ℕ, zero, suc, ◌+◌, ◌-◌, ◌%◌, ◌^◌, ◌<◌, ◌≤◌, Bool, true, false, cond, eqb, ltb, sym, refl, ap, ◌∙◌, le_of_lt, arith, ltb-false, ltb-true, le-ltb, lt-ltb, eq-eqb, ne_eqb, eqb-true}
-use mathlib.Core.Option.{none, some}
+use Rattle.std.proofs.Common.{◌≡◌, ℕ, zero, suc, ◌+◌, ◌-◌, ◌%◌, ◌^◌, ◌<◌, ◌≤◌, Bool, true, false, cond, eqb, ltb, sym, refl, ap, ◌∙◌, le_of_lt, arith, ltb-false, ltb-true, le-ltb, lt-ltb, eq-eqb, ne_eqb, eqb-true, max}
+use Rattle.std.proofs.Math.Nat.{max-eq_left, max-eq_right}
+use Rattle.std.specs.Prelude.{None, Some}
 use borrow.Author.Tests.{eqb-false}
 use Rattle.lists.proofs.Searches.{less_one}
 use Rattle.ranking.specs.declared.Side.{Side}
@@ -12,8 +13,9 @@ use Rattle.ranking.specs.declared.Reason.{Reason}
 use Rattle.ranking.specs.declared.Reason.TheVariants.{Price, Size, Time, Name}
 use Rattle.ranking.specs.declared.Compared.{Compared}
 use Rattle.ranking.specs.declared.Lead.{Lead}
+use Rattle.ranking.specs.Ranking.{decide}
 use Rattle.ranking.specs.Held.{no_candidate, or_none, lateness}
-use Rattle.ranking.specs.code.Choice.{rank_of, live, larger, by_rest, by_rank, beats, choose, best_from, beyond_of, lead_by, lead_with, lead_from, sides_from, step_sides}
+use Rattle.ranking.specs.code.Choice.{rank_of, live, larger, by_rest, by_rank, beats, choose, best_from, beyond_of, later, lead_by, lead_with, lead_from, sides_from, step_sides}
 
 -- ---- the comparison
 
@@ -29,6 +31,14 @@ larger-less r a b z h = rw (le-ltb b a (le_of_lt h), lt-ltb a b h)
 
 larger-tie : (r : Reason) (a b : ℕ) (z : Compared) → a ≤ b → b ≤ a → z ≡ larger r a b z
 larger-tie r a b z h k = rw (le-ltb b a h, le-ltb a b k)
+
+-- where they differ, one is larger
+larger-apart : (r : Reason) (a b : ℕ) (z : Compared) → (a ≡ b → ⊥) → by (ltb b a) r ≡ larger r a b z
+larger-apart r a b z n = go (ltb b a) refl
+  where
+    go : (t : Bool) → ltb b a ≡ t → by t r ≡ decide r t (ltb a b) z
+    go true e = refl
+    go false e = rw (lt-ltb a b (omega (arith, n, ltb-false b a e)))
 
 module _ (x b : Candidate) where
   abbrev by_size : Compared → Compared
@@ -48,7 +58,15 @@ module _ (x b : Candidate) where
   unfolding by_rest
   rest-smaller h = larger-less Size x.size b.size (by_time by_name) h
 
+  pub rest-size : (x.size ≡ b.size → ⊥) → by (ltb b.size x.size) Size ≡ by_rest x b
+  unfolding by_rest
+  rest-size n = larger-apart Size x.size b.size (by_time by_name) n
+
   module _ (h : x.size ≤ b.size) (k : b.size ≤ x.size) where
+    pub rest-time : (x.time ≡ b.time → ⊥) → by (ltb x.time b.time) Time ≡ by_rest x b
+    unfolding by_rest
+    rest-time n = larger-apart Time b.time x.time by_name (λ e. n (sym e)) ∙ larger-tie Size x.size b.size (by_time by_name) h k
+
     pub rest-earlier : x.time < b.time → by true Time ≡ by_rest x b
     unfolding by_rest
     rest-earlier l = larger-more Time b.time x.time by_name l ∙ larger-tie Size x.size b.size (by_time by_name) h k
@@ -105,6 +123,15 @@ module _ (s : Side) (x b : Candidate) where
       unfolding by_rank
       rank-tie r h k z = z ∙ larger-tie Price (rank_of s x.price) (rank_of s b.price) (by_rest x b) (ltb-false _ _ (sym f ∙ k)) (ltb-false _ _ (sym e ∙ h))
 
+module _ (s : Side) (x b : Candidate) (p q : ℕ) (e : p ≡ rank_of s x.price) (f : q ≡ rank_of s b.price) where
+  pub rank-apart : (p ≡ q → ⊥) → by (ltb q p) Price ≡ by_rank s x b
+  unfolding by_rank
+  rank-apart n = rw (← e, ← f) (larger-apart Price p q (by_rest x b) n)
+
+  pub rank-same : (r : Compared) → p ≡ q → r ≡ by_rest x b → r ≡ by_rank s x b
+  unfolding by_rank
+  rank-same r h z = rw (← e, ← f) (z ∙ larger-tie Price p q (by_rest x b) (omega (arith, h)) (omega (arith, h)))
+
 -- ---- the choice
 
 module _ (s : Side) (b x : Candidate) where
@@ -142,7 +169,7 @@ pub choose-live : (s : Side) (b x : Candidate) → choose s b x ≡ choose s b (
 unfolding live
 choose-live s b x = go (eqb x.price 0) refl (eqb x.size 0) refl
   where
-    go : (t : Bool) → eqb x.price 0 ≡ t → (u : Bool) → eqb x.size 0 ≡ u → choose s b x ≡ choose s b (or_none (cond t none (cond u none (some x))))
+    go : (t : Bool) → eqb x.price 0 ≡ t → (u : Bool) → eqb x.size 0 ≡ u → choose s b x ≡ choose s b (or_none (cond t None (cond u None (Some x))))
     go true e u f = sym (choose-priceless s b x (eqb-true x.price 0 e)) ∙ choose-none s b
     go false e true f = sym (choose-sizeless s b x (eqb-true x.size 0 f)) ∙ choose-none s b
     go false e false f = refl
@@ -175,19 +202,21 @@ module _ (s : Side) (l : Lead) (x : Candidate) where
     unfolding lead_with
     lead-compared c r n e h = rw (ne_eqb _ _ p, ne_eqb _ _ z, ne_eqb _ _ n, ← e) h
 
--- a new leader; a loser that is decided later than all before it; another
+-- a new leader; a loser
 pub lead-ahead : (c : Compared) (l : Lead) (x : Candidate) (d : ℕ) → d ≡ lateness c.by → c.ahead ≡ true → record { best = x; decided = d } ≡ lead_by c l x
 unfolding lead_by
 lead-ahead c l x d e h = rw (h, e)
 
-module _ (c : Compared) (l : Lead) (x : Candidate) (d : ℕ) (e : d ≡ lateness c.by) (h : c.ahead ≡ false) where
-  pub lead-later : l.decided < d → record { best = l.best; decided = d } ≡ lead_by c l x
-  unfolding lead_by
-  lead-later k = rw (h, ← e, lt-ltb l.decided d k)
+max-later : (a b : ℕ) → max a b ≡ later a b
+max-later a b = go (ltb a b) refl
+  where
+    go : (t : Bool) → ltb a b ≡ t → max a b ≡ cond t b a
+    go true e = max-eq_right (omega (arith, ltb-true a b e))
+    go false e = max-eq_left (omega (arith, ltb-false a b e))
 
-  pub lead-stays : d ≤ l.decided → l ≡ lead_by c l x
-  unfolding lead_by
-  lead-stays k = rw (h, ← e, le-ltb l.decided d k)
+pub lead-loses : (c : Compared) (l : Lead) (x : Candidate) (d m : ℕ) → d ≡ lateness c.by → c.ahead ≡ false → m ≡ max l.decided d → record { best = l.best; decided = m } ≡ lead_by c l x
+unfolding lead_by
+lead-loses c l x d m e h k = rw (h, k ∙ max-later l.decided d, e) refl
 
 pub lead-none : (s : Side) (l : Lead) → l ≡ lead_with s l no_candidate
 unfolding lead_with
@@ -204,13 +233,13 @@ lead-behind s l x t e h d = go (eqb x.price 0) refl (eqb x.size 0) refl
     go true p v q = lead-priceless s l x (eqb-true _ _ p)
     go false p true q = lead-sizeless s l x (eqb-true _ _ q)
     go false p false q =
-        lead-compared s l x (eqb-false _ _ p) (eqb-false _ _ q) (by false Price) l stands (rank-behind s x l.best t e h) (lead-stays (by false Price) l x 1 refl refl (omega (arith, d)))
+        lead-compared s l x (eqb-false _ _ p) (eqb-false _ _ q) (by false Price) l stands (rank-behind s x l.best t e h) (lead-loses (by false Price) l x 1 l.decided refl refl (sym (max-eq_left (omega (arith, d)))))
 
 pub lead-live : (s : Side) (l : Lead) (x : Candidate) → lead_with s l x ≡ lead_with s l (or_none (live x))
 unfolding live
 lead-live s l x = go (eqb x.price 0) refl (eqb x.size 0) refl
   where
-    go : (t : Bool) → eqb x.price 0 ≡ t → (u : Bool) → eqb x.size 0 ≡ u → lead_with s l x ≡ lead_with s l (or_none (cond t none (cond u none (some x))))
+    go : (t : Bool) → eqb x.price 0 ≡ t → (u : Bool) → eqb x.size 0 ≡ u → lead_with s l x ≡ lead_with s l (or_none (cond t None (cond u None (Some x))))
     go true e u f = sym (lead-priceless s l x (eqb-true x.price 0 e)) ∙ lead-none s l
     go false e true f = sym (lead-sizeless s l x (eqb-true x.size 0 f)) ∙ lead-none s l
     go false e false f = refl
@@ -252,14 +281,14 @@ module _ (s : Side) (c d : ℕ → Candidate) (i m n : ℕ) where
 -- ---- loops over both sides: what remains gives what the whole gives
 
 module _ (c : Side → ℕ → Candidate) (n : ℕ) where
-  sides-step : (i : ℕ) (t : Sides) → i < n → sides_from c i (n - i) t ≡ sides_from c (i + 1) (n - (i + 1)) (step_sides c i t)
+  sides-step : (i : ℕ) (t : Sides Candidate) → i < n → sides_from c i (n - i) t ≡ sides_from c (i + 1) (n - (i + 1)) (step_sides c i t)
   unfolding best_from sides_from step_sides
   sides-step i t h = rw (less_one n i h)
 
-  pub sides-again : (w : Sides) (i : ℕ) (t u : Sides) → i < n → sides_from c i (n - i) t ≡ w → u ≡ step_sides c i t → sides_from c (i + 1) (n - (i + 1)) u ≡ w
+  pub sides-again : (w : Sides Candidate) (i : ℕ) (t u : Sides Candidate) → i < n → sides_from c i (n - i) t ≡ w → u ≡ step_sides c i t → sides_from c (i + 1) (n - (i + 1)) u ≡ w
   sides-again w i t u h inv e = rw e (sym (sides-step i t h) ∙ inv)
 
-  pub sides-end : (w : Sides) (i : ℕ) (t : Sides) → n ≤ i → sides_from c i (n - i) t ≡ w → t ≡ w
+  pub sides-end : (w : Sides Candidate) (i : ℕ) (t : Sides Candidate) → n ≤ i → sides_from c i (n - i) t ≡ w → t ≡ w
   unfolding best_from sides_from
   sides-end w i t h inv =
       let e : n - i ≡ 0 = omega arith in

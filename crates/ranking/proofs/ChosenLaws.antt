@@ -1,7 +1,7 @@
 -- A walk may look at some of the candidates only: when the leader, what put it ahead, and the best beyond a price are those of a walk over all.
 -- Assumes nothing.
 use Rattle.std.proofs.Common.{◌≡◌, ℕ, zero, suc, ◌+◌, ◌-◌, ◌<◌, ◌≤◌, Bool, true, false, cond, eqb, ltb, sym, refl, ap, ◌∙◌, arith, ltb-false, ltb-true, le-ltb, lt-ltb, eq-eqb, ne_eqb, eqb-true}
-use mathlib.Core.Option.{Option, none, some}
+use Rattle.std.specs.Prelude.{Option, None, Some}
 use borrow.Author.Tests.{eqb-false}
 use Rattle.lists.specs.Lists.{is_some}
 use Rattle.lists.proofs.Tests.{Cut, equal, apart, cut}
@@ -24,8 +24,8 @@ pub record Counts (x : Candidate) : Type 0 where
   pub size : x.size ≡ 0 → ⊥
 
 pub data Look (x : Candidate) : Type 0 where
-  counted : Counts x → live x ≡ some x → Look x
-  idle : (Counts x → ⊥) → live x ≡ none → Look x
+  counted : Counts x → live x ≡ Some x → Look x
+  idle : (Counts x → ⊥) → live x ≡ None → Look x
 
 pub look : (x : Candidate) → Look x
 unfolding live
@@ -36,24 +36,24 @@ look x = go (eqb x.price 0) refl (eqb x.size 0) refl
     go false e true f = idle (λ k. k.size (eqb-true x.size 0 f)) (rw (e, f))
     go false e false f = counted (record { price = eqb-false x.price 0 e; size = eqb-false x.size 0 f }) (rw (e, f))
 
-pub live-counts : (x : Candidate) → Counts x → live x ≡ some x
+pub live-counts : (x : Candidate) → Counts x → live x ≡ Some x
 live-counts x k = go (look x)
   where
-    go : Look x → live x ≡ some x
+    go : Look x → live x ≡ Some x
     go (counted q e) = e
     go (idle q e) = absurd (q k)
 
-pub live-idle : (x : Candidate) → (Counts x → ⊥) → live x ≡ none
+pub live-idle : (x : Candidate) → (Counts x → ⊥) → live x ≡ None
 live-idle x n = go (look x)
   where
-    go : Look x → live x ≡ none
+    go : Look x → live x ≡ None
     go (counted q e) = absurd (n q)
     go (idle q e) = e
 
-lead-idle : (s : Side) (l : Lead) (x : Candidate) → live x ≡ none → lead_with s l x ≡ l
+lead-idle : (s : Side) (l : Lead) (x : Candidate) → live x ≡ None → lead_with s l x ≡ l
 lead-idle s l x e = lead-live s l x ∙ ap (λ (o : Option Candidate). lead_with s l (or_none o)) e ∙ sym (lead-none s l)
 
-choose-idle : (s : Side) (b x : Candidate) → live x ≡ none → choose s b x ≡ b
+choose-idle : (s : Side) (b x : Candidate) → live x ≡ None → choose s b x ≡ b
 choose-idle s b x e = choose-live s b x ∙ ap (λ (o : Option Candidate). choose s b (or_none o)) e ∙ sym (choose-none s b)
 
 -- ---- any walk over a range
@@ -341,10 +341,10 @@ module _ (s : Side) (r : ℕ) (x : Candidate) (a l : Lead) (f : Bool) where
       along p q
       (ap (λ (a : Lead). lead_with s a x) z ∙ lead-loses s (beside l f) x k p (omega arith) ∙ (λ i. record { best = l.best; decided = later-again l.decided f i }))
 
-flag_same : (f u : Bool) (o : Option Candidate) → o ≡ none → cond f true u ≡ cond f true (cond (is_some o) true u)
+flag_same : (f u : Bool) (o : Option Candidate) → o ≡ None → cond f true u ≡ cond f true (cond (is_some o) true u)
 flag_same f u o e = rw e
 
-flag_up : (f u : Bool) (o : Option Candidate) (x : Candidate) → o ≡ some x → true ≡ cond f true (cond (is_some o) true u)
+flag_up : (f u : Bool) (o : Option Candidate) (x : Candidate) → o ≡ Some x → true ≡ cond f true (cond (is_some o) true u)
 flag_up f u o x e = rw e (go f)
   where
     go : (f : Bool) → true ≡ cond f true true
@@ -429,7 +429,7 @@ module _ (s : Side) (c : ℕ → Candidate) (m : ℕ → Bool) where
       go (m i) refl (look (c i)) (λ n d. first k (i + 1) l (λ j y z. names j (omega arith) (omega arith)) p n d) n d
     where
       -- passed over, as it is not the leader or does not count
-      skip : (z : ℕ) (a b : Bool) (o : Option Candidate) → a ≡ b → o ≡ none → a ≡ cond (eqb i z) b (cond (is_some o) true b)
+      skip : (z : ℕ) (a b : Bool) (o : Option Candidate) → a ≡ b → o ≡ None → a ≡ cond (eqb i z) b (cond (is_some o) true b)
       skip z a b o e f = rw (f, e) (by (eqb i z))
         where
           by : (t : Bool) → b ≡ cond t b b

@@ -2,7 +2,7 @@
 -- so far and what put it ahead are, at the end of a list, the best of the list and `why_ahead`.
 -- Assumes nothing.
 use Rattle.std.proofs.Common.{◌≡◌, ℕ, zero, suc, ◌+◌, ◌<◌, ◌≤◌, Bool, true, false, cond, eqb, ltb, List, [], ◌∷◌, ◌++◌, sym, refl, ap, ◌∙◌, inl, inr, append_assoc, append-nil, add-one, arith, ltb-false, le-ltb, eq-eqb, ne_eqb}
-use mathlib.Core.Option.{Option, none, some}
+use Rattle.std.specs.Prelude.{Option, None, Some}
 use Rattle.lists.specs.Lists.{map_option, cons_option, collect, range}
 use Rattle.lists.proofs.Tests.{clash}
 use Rattle.lists.proofs.Members.{In}
@@ -40,7 +40,7 @@ below-snoc n (x ∷ xs) y w k h = (w.0, below-snoc n xs y w.1 k h)
 
 -- ---- the others
 
-keep-other : (b c : Candidate) → (c.name ≡ b.name → ⊥) → cond (eqb c.name b.name) none (some c) ≡ some c
+keep-other : (b c : Candidate) → (c.name ≡ b.name → ⊥) → cond (eqb c.name b.name) None (Some c) ≡ Some c
 keep-other b c n = rw (ne_eqb c.name b.name n)
 
 others-append : (b : Candidate) (xs ys : List Candidate) → others b (xs ++ ys) ≡ others b xs ++ others b ys
@@ -48,7 +48,7 @@ others-append b [] ys = refl
 others-append b (x ∷ xs) ys = go (eqb x.name b.name) (others-append b xs ys)
   where
     go : (t : Bool) → others b (xs ++ ys) ≡ others b xs ++ others b ys
-        → cons_option (cond t none (some x)) (others b (xs ++ ys)) ≡ cons_option (cond t none (some x)) (others b xs) ++ others b ys
+        → cons_option (cond t None (Some x)) (others b (xs ++ ys)) ≡ cons_option (cond t None (Some x)) (others b xs) ++ others b ys
     go true e = e
     go false e = ap (λ (l : List Candidate). x ∷ l) e
 
@@ -70,13 +70,13 @@ others-in : (b : Candidate) (xs : List Candidate) (c : Candidate) → In c (othe
 others-in b [] c m = absurd m
 others-in b (x ∷ xs) c m = go (eqb x.name b.name) (others-in b xs c) m
   where
-    go : (t : Bool) → (In c (others b xs) → In c xs) → In c (cons_option (cond t none (some x)) (others b xs)) → In c (x ∷ xs)
+    go : (t : Bool) → (In c (others b xs) → In c xs) → In c (cons_option (cond t None (Some x)) (others b xs)) → In c (x ∷ xs)
     go true f m = inr (f m)
     go false f (inl e) = inl e
     go false f (inr m) = inr (f m)
 
 -- the best is a member, and no member is better
-best-some : (s : Side) (xs : List Candidate) (b : Candidate) → best (better s) xs ≡ some b → IsBest (better s) xs b
+best-some : (s : Side) (xs : List Candidate) (b : Candidate) → best (better s) xs ≡ Some b → IsBest (better s) xs b
 best-some s [] b e = clash (cc)
 best-some s (x ∷ xs) b e =
     let p : pick (better s) x (best (better s) xs) ≡ b = cc in
@@ -105,10 +105,10 @@ module _ (s : Side) where
   why b c = (compared s b c).by
 
   -- of the second best and y, both behind b, the better one is decided later
-  later_of : (b y : Candidate) → better s y b ≡ false → (o : Option Candidate) → ((z : Candidate) → o ≡ some z → better s z b ≡ false)
-      → later (decided_at (map_option (why b) o)) (lateness (why b y)) ≡ decided_at (map_option (why b) (either (better s) o (some y)))
-  later_of b y e none f = later-right 0 (lateness (why b y)) (some-late (why b y))
-  later_of b y e (some z) f = go (better s y z) refl
+  later_of : (b y : Candidate) → better s y b ≡ false → (o : Option Candidate) → ((z : Candidate) → o ≡ Some z → better s z b ≡ false)
+      → later (decided_at (map_option (why b) o)) (lateness (why b y)) ≡ decided_at (map_option (why b) (either (better s) o (Some y)))
+  later_of b y e None f = later-right 0 (lateness (why b y)) (some-late (why b y))
+  later_of b y e (Some z) f = go (better s y z) refl
     where
       go : (t : Bool) → better s y z ≡ t → later (lateness (why b z)) (lateness (why b y)) ≡ lateness (why b (cond t y z))
       go true h = later-right (lateness (why b z)) (lateness (why b y)) (closer-reason s b y z e ((better-weak s).asym y z h))
@@ -118,17 +118,17 @@ module _ (s : Side) where
   abbrev state : List Candidate → Lead
   state xs = lead_of (best (better s) xs) (why_ahead s xs)
 
-  state-by : (xs : List Candidate) (b : Candidate) (o : Option Candidate) → best (better s) xs ≡ some b → best (better s) (others b xs) ≡ o
+  state-by : (xs : List Candidate) (b : Candidate) (o : Option Candidate) → best (better s) xs ≡ Some b → best (better s) (others b xs) ≡ o
       → state xs ≡ record { best = b; decided = decided_at (map_option (why b) o) }
   unfolding why_ahead
   state-by xs b o e f = rw (e, f)
 
-  best-snoc : (xs : List Candidate) (y : Candidate) → best (better s) (xs ++ (y ∷ [])) ≡ either (better s) (best (better s) xs) (some y)
+  best-snoc : (xs : List Candidate) (y : Candidate) → best (better s) (xs ++ (y ∷ [])) ≡ either (better s) (best (better s) xs) (Some y)
   best-snoc xs y = best-append (better s) (better-weak s) xs (y ∷ [])
 
   lead_snoc : (xs : List Candidate) (y : Candidate) → Counting y → Below y.name xs → lead_with s (state xs) y ≡ state (xs ++ (y ∷ []))
   unfolding why_ahead better lead_by
-  lead_snoc [] y k w = sym (lead-alone s no_lead y k.price k.size refl) ∙ sym (state-by (y ∷ []) y none refl (ap (best (better s)) (others-self y)))
+  lead_snoc [] y k w = sym (lead-alone s no_lead y k.price k.size refl) ∙ sym (state-by (y ∷ []) y None refl (ap (best (better s)) (others-self y)))
   lead_snoc (x ∷ xs) y k w = sym (lead-compared s l y k.price k.size (compared s y b) (lead_by (compared s y b) l y) c.price (sym (rank-compared s y b k.price c.price k.fits c.fits)) refl) ∙ go (better s y b) refl
     where
       b : Candidate
@@ -146,22 +146,22 @@ module _ (s : Side) where
       other : y.name ≡ b.name → ⊥
       other e = omega (arith, (below_in y.name (x ∷ xs) w b top.member).1)
 
-      behind : (z : Candidate) → best (better s) (others b (x ∷ xs)) ≡ some z → better s z b ≡ false
+      behind : (z : Candidate) → best (better s) (others b (x ∷ xs)) ≡ Some z → better s z b ≡ false
       behind z e = top.top z (others-in b (x ∷ xs) z (best-some s (others b (x ∷ xs)) z e).member)
 
       go : (t : Bool) → better s y b ≡ t → lead_by (record { ahead = t; by = (compared s y b).by }) l y ≡ state (x ∷ xs ++ (y ∷ []))
       go true e =
-          sym (state-by (x ∷ xs ++ (y ∷ [])) y (some b) (best-snoc (x ∷ xs) y ∙ ap (λ (t : Bool). some (cond t y b)) e)
+          sym (state-by (x ∷ xs ++ (y ∷ [])) y (Some b) (best-snoc (x ∷ xs) y ∙ ap (λ (t : Bool). Some (cond t y b)) e)
           (ap (best (better s)) (others-append y (x ∷ xs) (y ∷ []) ∙ (λ i. others-all y (x ∷ xs) w i ++ others-self y i) ∙ append-nil (x ∷ xs))))
       go false e =
           (λ i. record { best = b; decided = later l.decided (lateness (same-reason s y b i)) })
           ∙ (λ i. record { best = b; decided = later_of b y e (best (better s) (others b (x ∷ xs))) behind i })
-          ∙ sym (state-by (x ∷ xs ++ (y ∷ [])) b (either (better s) (best (better s) (others b (x ∷ xs))) (some y)) (best-snoc (x ∷ xs) y ∙ ap (λ (t : Bool). some (cond t y b)) e)
+          ∙ sym (state-by (x ∷ xs ++ (y ∷ [])) b (either (better s) (best (better s) (others b (x ∷ xs))) (Some y)) (best-snoc (x ∷ xs) y ∙ ap (λ (t : Bool). Some (cond t y b)) e)
           (ap (best (better s)) (others-append b (x ∷ xs) (y ∷ []) ∙ ap (λ (ys : List Candidate). others b (x ∷ xs) ++ ys) (others-one b y other)) ∙ best-snoc (others b (x ∷ xs)) y))
 
   -- ---- the loop: candidates that count, each under the number of its place
 
-  module _ (f : ℕ → Option Candidate) (counts : (j : ℕ) → OrCounting (f j)) (named : (j : ℕ) (c : Candidate) → f j ≡ some c → c.name ≡ j) where
+  module _ (f : ℕ → Option Candidate) (counts : (j : ℕ) → OrCounting (f j)) (named : (j : ℕ) (c : Candidate) → f j ≡ Some c → c.name ≡ j) where
     lead-with : (k i : ℕ) (xs : List Candidate) → Below i xs → lead_from s (λ j. or_none (f j)) i k (state xs) ≡ state (xs ++ collect f (range k i))
     unfolding lead_from
     lead-with zero i xs w = ap state (sym (append-nil xs))
@@ -170,11 +170,11 @@ module _ (s : Side) where
         go : (o : Option Candidate) → f i ≡ o → OrCounting o
             → ((ys : List Candidate) → Below (i + 1) ys → lead_from s (λ j. or_none (f j)) (i + 1) k (state ys) ≡ state (ys ++ collect f (range k (i + 1))))
             → lead_from s (λ j. or_none (f j)) (i + 1) k (lead_with s (state xs) (or_none o)) ≡ state (xs ++ cons_option o (collect f (range k (suc i))))
-        go none e h rest =
+        go None e h rest =
             ap (lead_from s (λ j. or_none (f j)) (i + 1) k) (sym (lead-none s (state xs)))
             ∙ rest xs (below_up i (i + 1) xs (omega arith) w)
             ∙ ap (λ (j : ℕ). state (xs ++ collect f (range k j))) (add-one i)
-        go (some y) e h rest =
+        go (Some y) e h rest =
             let n : y.name ≡ i = named i y e in
             let v : Below y.name xs = rw n w in
             ap (lead_from s (λ j. or_none (f j)) (i + 1) k) (lead_snoc xs y h v)

@@ -1,7 +1,7 @@
 -- Orders made of steps, and the best of a list: it depends on the members only, and may be found in parts.
 -- Assumes nothing.
 use Rattle.std.proofs.Common.{◌≡◌, ℕ, ◌≤◌, Bool, true, false, cond, List, [], ◌∷◌, ◌++◌, sym, refl, ap, ◌∙◌, inl, inr, arith, ltb-false, ltb-true, le-ltb}
-use mathlib.Core.Option.{Option, none, some}
+use Rattle.std.specs.Prelude.{Option, None, Some}
 use Rattle.lists.specs.Lists.{bind_option, cons_option, collect}
 use Rattle.lists.proofs.Tests.{clash}
 use Rattle.lists.proofs.Members.{In}
@@ -202,16 +202,16 @@ pub record IsBest {A : Type 0} (R : A → A → Bool) (xs : List A) (c : A) : Ty
 
 -- the better of two that may be none; the first where neither is better
 abbrev pub either : {A : Type 0} → (A → A → Bool) → Option A → Option A → Option A
-either R none o = o
-either R (some x) o = some (pick R x o)
+either R None o = o
+either R (Some x) o = Some (pick R x o)
 
 pub best-cons : {A : Type 0} (R : A → A → Bool) (o : Option A) (xs : List A) → best R (cons_option o xs) ≡ either R o (best R xs)
-best-cons R none xs = refl
-best-cons R (some x) xs = refl
+best-cons R None xs = refl
+best-cons R (Some x) xs = refl
 
 -- those that pass a test
 abbrev pub keep : {A : Type 0} → (A → Bool) → A → Option A
-keep p a = cond (p a) (some a) none
+keep p a = cond (p a) (Some a) None
 
 module _ {A : Type 0} (R : A → A → Bool) (w : Weak R) where
   irrefl : (a : A) → R a a ≡ false
@@ -251,7 +251,7 @@ module _ {A : Type 0} (R : A → A → Bool) (w : Weak R) where
   same-best (x ∷ xs) (y ∷ ys) f g t =
       let b = best-is x xs in
       let c = best-is y ys in
-      ap some
+      ap Some
       (t (pick R x (best R xs)) (pick R y (best R ys))
       b.member
       (g (pick R y (best R ys)) c.member)
@@ -272,39 +272,39 @@ module _ {A : Type 0} (R : A → A → Bool) (w : Weak R) where
       go false e false f c g = rw (f, w.steps z y x e f)
 
   pub either-either : (a b c : Option A) → either R (either R a b) c ≡ either R a (either R b c)
-  either-either none b c = refl
-  either-either (some x) none c = refl
-  either-either (some x) (some y) none = refl
-  either-either (some x) (some y) (some z) = ap some (sym (pick-pick x y z))
+  either-either None b c = refl
+  either-either (Some x) None c = refl
+  either-either (Some x) (Some y) None = refl
+  either-either (Some x) (Some y) (Some z) = ap Some (sym (pick-pick x y z))
 
   pub best-append : (xs ys : List A) → best R (xs ++ ys) ≡ either R (best R xs) (best R ys)
   best-append [] ys = refl
-  best-append (x ∷ xs) ys = ap (either R (some x)) (best-append xs ys) ∙ sym (either-either (some x) (best R xs) (best R ys))
+  best-append (x ∷ xs) ys = ap (either R (Some x)) (best-append xs ys) ∙ sym (either-either (Some x) (best R xs) (best R ys))
 
   -- one that is better than each of some others stands for them
   abbrev pub Top : A → List A → Type 0
   Top x [] = Unit {0}
   Top x (y ∷ ys) = (R x y ≡ true) × Top x ys
 
-  pub best-top : (x : A) (xs ys : List A) → Top x xs → best R (x ∷ xs ++ ys) ≡ some (pick R x (best R ys))
+  pub best-top : (x : A) (xs ys : List A) → Top x xs → best R (x ∷ xs ++ ys) ≡ Some (pick R x (best R ys))
   best-top x [] ys t = refl
   best-top x (y ∷ xs) ys t =
-      ap (either R (some x)) (best-cons R (some y) (xs ++ ys))
-      ∙ sym (either-either (some x) (some y) (best R (xs ++ ys)))
-      ∙ ap (λ (o : Bool). either R (some (cond o y x)) (best R (xs ++ ys))) (w.asym x y t.0)
+      ap (either R (Some x)) (best-cons R (Some y) (xs ++ ys))
+      ∙ sym (either-either (Some x) (Some y) (best R (xs ++ ys)))
+      ∙ ap (λ (o : Bool). either R (Some (cond o y x)) (best R (xs ++ ys))) (w.asym x y t.0)
       ∙ best-top x xs ys t.1
 
   -- a test that whatever is as good passes too: made of each or of the best
   module _ (p : A → Bool) (up : (x y : A) → R y x ≡ false → p y ≡ true → p x ≡ true) where
-    keep-step : (x : A) (o : Option A) → either R (keep p x) (bind_option o (keep p)) ≡ bind_option (either R (some x) o) (keep p)
-    keep-step x none = go (p x)
+    keep-step : (x : A) (o : Option A) → either R (keep p x) (bind_option o (keep p)) ≡ bind_option (either R (Some x) o) (keep p)
+    keep-step x None = go (p x)
       where
-        go : (t : Bool) → either R (cond t (some x) none) none ≡ cond t (some x) none
+        go : (t : Bool) → either R (cond t (Some x) None) None ≡ cond t (Some x) None
         go true = refl
         go false = refl
-    keep-step x (some y) = go (p x) refl (p y) refl (R y x) refl
+    keep-step x (Some y) = go (p x) refl (p y) refl (R y x) refl
       where
-        go : (a : Bool) → p x ≡ a → (b : Bool) → p y ≡ b → (c : Bool) → R y x ≡ c → either R (cond a (some x) none) (cond b (some y) none) ≡ keep p (cond c y x)
+        go : (a : Bool) → p x ≡ a → (b : Bool) → p y ≡ b → (c : Bool) → R y x ≡ c → either R (cond a (Some x) None) (cond b (Some y) None) ≡ keep p (cond c y x)
         go true e true f true g = rw (g, f)
         go true e true f false g = rw (g, e)
         go true e false f true g = clash (sym (up y x (w.asym y x g) e) ∙ f)

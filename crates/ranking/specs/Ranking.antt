@@ -1,7 +1,6 @@
 -- Which of two candidates is better and what decided it, the best of a list and what put it ahead (document 01, "Best entries"; document 02, T-08).
 -- Assumes nothing.
-use Rattle.std.specs.Prelude.{ℕ, Bool, true, false, cond, List, [], ◌∷◌, ◌==◌, nat_lt}
-use Rattle.std.proofs.Math.Option.{Option, none, some}
+use Rattle.std.specs.Prelude.{ℕ, Bool, true, false, cond, List, [], ◌∷◌, ◌==◌, nat_lt, Option, None, Some}
 use Rattle.lists.specs.Lists.{map_option, bind_option, collect}
 use Rattle.ranking.specs.declared.Side.{Side}
 use Rattle.ranking.specs.declared.Side.TheVariants.{Bid, Offer}
@@ -80,17 +79,17 @@ better s a b = (compared s a b).ahead
 module _ {A : Type 0} (R : A → A → Bool) where
   -- the better of one and the best of the others
   abbrev pub pick : A → Option A → A
-  pick x none = x
-  pick x (some y) = cond (R y x) y x
+  pick x None = x
+  pick x (Some y) = cond (R y x) y x
 
   -- the best of a list, none if it is empty
   abbrev pub best : List A → Option A
-  best [] = none
-  best (x ∷ xs) = some (pick x (best xs))
+  best [] = None
+  best (x ∷ xs) = Some (pick x (best xs))
 
 -- the candidates of a list under another name than b
 abbrev pub others : Candidate → List Candidate → List Candidate
-others b xs = collect (λ c. cond (c.name == b.name) none (some c)) xs
+others b xs = collect (λ c. cond (c.name == b.name) None (Some c)) xs
 
 -- "the second best": the best of the others
 abbrev pub second : Side → List Candidate → Candidate → Option Candidate

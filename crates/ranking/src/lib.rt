@@ -2,11 +2,10 @@
 #![tactic(auto)]
 
 ghost use Rattle.std.specs.Prelude.{◌≡◌, nat_lt};
-ghost use Rattle.ranking.specs.Held.{lateness};
 ghost use Rattle.ranking.specs.code.Choice.{rank_of, by_rest, by_rank, choose, beyond_of, lead_by, lead_with};
 
 /// Bids or offers. Every definition, law and loop that serves both takes it as a parameter.
-#[derive(Clone, Copy)]
+#[derive(Clone, Copy, Debug, PartialEq, Eq)]
 pub enum Side {
     Bid,
     Offer,
@@ -15,7 +14,7 @@ pub enum Side {
 /// What is ranked: a counting side of a quote, or an odd-lot level, under a name (a letter, or the four bytes of a maker).
 /// Price 0 is none. The condition is carried along for the publication and is not ranked. It is wider than a byte, and the fields stand in this order,
 /// so that no seven bytes are left over: such a rest is copied through memory with every candidate.
-#[derive(Clone, Copy)]
+#[derive(Clone, Copy, Debug, PartialEq, Eq)]
 pub struct Candidate {
     pub name: u32,
     pub condition: u32,
@@ -34,31 +33,32 @@ impl Candidate {
     };
 }
 
-/// The best bid and the best offer so far.
-#[derive(Clone, Copy)]
-pub struct Sides {
-    pub bid: Candidate,
-    pub offer: Candidate,
+/// The same of both sides: candidates, the best so far of each, or leaders.
+#[derive(Clone, Copy, Debug, PartialEq, Eq)]
+pub struct Sides<T> {
+    pub bid: T,
+    pub offer: T,
 }
 
-impl Sides {
-    pub const NONE: Sides = Sides {
+impl Sides<Candidate> {
+    pub const NONE: Sides<Candidate> = Sides {
         bid: Candidate::NONE,
         offer: Candidate::NONE,
     };
 }
 
-/// Which of the four decided between two candidates.
-#[derive(Clone, Copy)]
+/// Which of the four decided between two candidates: its number tells how late.
+#[derive(Clone, Copy, Debug, PartialEq, Eq)]
 pub enum Reason {
-    Price,
+    Price = 1,
     Size,
     Time,
     Name,
 }
 
 /// The comparison of two candidates: whether the first is ahead, and by what.
-#[derive(Clone, Copy)]
+// Not an enum of Ahead and Behind: both fields hold either way, and who asks for one would take both variants apart.
+#[derive(Clone, Copy, Debug, PartialEq, Eq)]
 pub struct Compared {
     pub ahead: bool,
     pub by: Reason,
@@ -66,7 +66,8 @@ pub struct Compared {
 
 /// The best so far and what put it ahead: how late its comparison with the second best was decided, 1 by price, 2 by size, 3 by time, 4 by name.
 /// 0 if there is no second.
-#[derive(Clone, Copy)]
+// A number and no Option<Reason>: the latest counts, so that it is compared with every loser's, and none is before all.
+#[derive(Clone, Copy, Debug, PartialEq, Eq)]
 pub struct Lead {
     pub best: Candidate,
     pub decided: u32,
@@ -79,15 +80,8 @@ impl Lead {
     };
 }
 
-/// The leading bid and the leading offer so far.
-#[derive(Clone, Copy)]
-pub struct Leads {
-    pub bid: Lead,
-    pub offer: Lead,
-}
-
-impl Leads {
-    pub const NONE: Leads = Leads {
+impl Sides<Lead> {
+    pub const NONE: Sides<Lead> = Sides {
         bid: Lead::NONE,
         offer: Lead::NONE,
     };
@@ -114,27 +108,15 @@ pub fn is_behind(side: Side, price: u64, best: Candidate) -> bool
 fn by_rest(x: Candidate, best: Candidate) -> Compared
     ensures { result ≡ by_rest x best }
 {
-    if best.size < x.size {
+    if x.size != best.size {
         return Compared {
-            ahead: true,
+            ahead: best.size < x.size,
             by: Reason::Size,
         };
     }
-    if x.size < best.size {
+    if x.time != best.time {
         return Compared {
-            ahead: false,
-            by: Reason::Size,
-        };
-    }
-    if x.time < best.time {
-        return Compared {
-            ahead: true,
-            by: Reason::Time,
-        };
-    }
-    if best.time < x.time {
-        return Compared {
-            ahead: false,
+            ahead: x.time < best.time,
             by: Reason::Time,
         };
     }
@@ -148,15 +130,11 @@ fn by_rest(x: Candidate, best: Candidate) -> Compared
 pub fn compare(side: Side, x: Candidate, best: Candidate) -> Compared
     ensures { result ≡ by_rank side x best }
 {
-    if is_behind(side, x.price, best) {
+    let own = rank(side, x.price);
+    let other = rank(side, best.price);
+    if own != other {
         return Compared {
-            ahead: false,
-            by: Reason::Price,
-        };
-    }
-    if is_behind(side, best.price, x) {
-        return Compared {
-            ahead: true,
+            ahead: other < own,
             by: Reason::Price,
         };
     }
@@ -167,28 +145,10 @@ pub fn compare(side: Side, x: Candidate, best: Candidate) -> Compared
 pub fn choose(side: Side, best: Candidate, x: Candidate) -> Candidate
     ensures { result ≡ choose side best x }
 {
-    if x.price == 0 {
-        return best;
-    }
-    if x.size == 0 {
-        return best;
-    }
-    let compared = compare(side, x, best);
-    if compared.ahead {
+    if x.price != 0 && x.size != 0 && compare(side, x, best).ahead {
         return x;
     }
     best
-}
-
-fn lateness(by: Reason) -> u32
-    ensures { result ≡ lateness by }
-{
-    match by {
-        Reason::Price => 1,
-        Reason::Size => 2,
-        Reason::Time => 3,
-        Reason::Name => 4,
-    }
 }
 
 // x beside the leader. A new leader is ahead by its comparison with the old one; of the losers' comparisons the latest counts, so that no second best
@@ -196,36 +156,30 @@ fn lateness(by: Reason) -> u32
 fn lead_by(compared: Compared, lead: Lead, x: Candidate) -> Lead
     ensures { result ≡ lead_by compared lead x }
 {
-    let by = compared.by;
-    let decided = lateness(by);
+    let decided = compared.by as u32;
     if compared.ahead {
         return Lead { best: x, decided };
     }
-    let best = lead.best;
-    if lead.decided < decided {
-        return Lead { best, decided };
+    Lead {
+        best: lead.best,
+        decided: lead.decided.max(decided),
     }
-    lead
 }
 
 /// The leader so far and one candidate more, which counts only if its price and size are above zero.
 pub fn lead_with(side: Side, lead: Lead, next: Candidate) -> Lead
     ensures { result ≡ lead_with side lead next }
 {
-    if next.price == 0 {
+    if next.price == 0 || next.size == 0 {
         return lead;
     }
-    if next.size == 0 {
-        return lead;
-    }
-    let best = lead.best;
-    if best.price == 0 {
+    if lead.best.price == 0 {
         return Lead {
             best: next,
             decided: 0,
         };
     }
-    lead_by(compare(side, next, best), lead, next)
+    lead_by(compare(side, next, lead.best), lead, next)
 }
 
 /// x, if it is priced above the national bid or below the national offer, or there is none; else none.

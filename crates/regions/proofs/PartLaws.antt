@@ -4,15 +4,13 @@ use Prim.Native.Nat.{ℕ, zero, suc, ◌+◌, ◌*◌, ◌≤◌, ◌<◌}
 use mathlib.Core.Path.{◌≡◌, refl, sym, ap, subst}
 use mathlib.Core.Bool.{Bool, true, false, not, cond}
 use mathlib.Core.List.{List}
-use mathlib.Core.Option.{Option}
+use Rattle.std.specs.Prelude.{Option, Some, None}
 use native.Mathlib.Omega.{arith}
 use lib.ListN.{length}
 use Rattle.field.specs.Field.{part, splice, be_bytes}
 use Rattle.field.specs.Ascii.{D}
 use Rattle.field.proofs.Laws.{length_part, length-be_bytes}
 use Rattle.lists.specs.Lists.{upper, is_some}
-use Rattle.lists.specs.declared.Found.{Found}
-use Rattle.lists.specs.declared.Found.TheVariants.{At, Nothing}
 use Rattle.lists.proofs.Tests.{upper-low}
 use Rattle.quote.specs.declared.Quote.{Quote}
 use Rattle.quote.specs.declared.Level.{Level}
@@ -226,9 +224,9 @@ module _ (m : ℕ) (q : Quote) where
   free_local : Local page_length cells (λ p. put_at p (free_place p) (cell_for m q))
   free_local = local-choose page_length cells (λ r p. put_at p r (cell_for m q)) free_place free-read (λ p. go p (free_place p) refl)
     where
-      go : (p : List ℕ) (r : Found) → free_place p ≡ r → Local page_length cells (λ x. put_at x r (cell_for m q))
-      go p (At k) e = put_local k (free-hit p k e).0
-      go p Nothing e = local-none page_length cells
+      go : (p : List ℕ) (r : Option ℕ) → free_place p ≡ r → Local page_length cells (λ x. put_at x r (cell_for m q))
+      go p (Some k) e = put_local k (free-hit p k e).0
+      go p None e = local-none page_length cells
 
   new-local : (t : Bool) → Local page_length cells (λ p. cond t p (put_at p (free_place p) (cell_for m q)))
   new-local true = local-none page_length cells
@@ -238,9 +236,9 @@ module _ (m : ℕ) (q : Quote) where
   unfolding put_maker
   put-maker-local = local-choose page_length cells (λ r p. put_maker_by m q p r) (λ p. maker_place p m) place_read (λ p. go p (maker_place p m) refl)
     where
-      go : (p : List ℕ) (r : Found) → maker_place p m ≡ r → Local page_length cells (λ x. put_maker_by m q x r)
-      go p (At k) e = put_local k (maker-hit p m k e).0
-      go p Nothing e = new-local (empty_quote q)
+      go : (p : List ℕ) (r : Option ℕ) → maker_place p m ≡ r → Local page_length cells (λ x. put_maker_by m q x r)
+      go p (Some k) e = put_local k (maker-hit p m k e).0
+      go p None e = new-local (empty_quote q)
 
 maker-local : (s m : ℕ) (q : Quote) → Local page_length cells (writes (maker_part s m q))
 maker-local s m q =

@@ -3,8 +3,8 @@
 use Prim.Native.Nat.{ℕ, ◌+◌, ◌-◌, ◌≤◌, ◌<◌}
 use mathlib.Core.Path.{◌≡◌, refl, ap, sym, ◌∙◌}
 use mathlib.Core.Bool.{Bool, true, false, cond}
-use mathlib.Core.List.{List, []}
-use mathlib.Core.Option.{Option, none, some}
+use mathlib.Core.List.{List}
+use Rattle.std.specs.Prelude.{Option, None, Some}
 use native.Mathlib.Omega.{arith}
 use lib.Dec.{ltb}
 use lib.ListN.{length, take, drop, length-drop}
@@ -15,7 +15,7 @@ use Rattle.field.specs.Field.{part, splice}
 use Rattle.field.proofs.Laws.{lent_back, splice-inside, splice-part, length-splice}
 use Rattle.lists.specs.Lists.{is_some}
 use Rattle.lists.proofs.Tests.{clash}
-use Rattle.logform.specs.Log.{check_length, entry_at, arguments_of}
+use Rattle.logform.specs.Log.{check_length, entry_at}
 use Rattle.logform.specs.declared.Place.{Place}
 use Rattle.logform.specs.declared.Entry.{Entry}
 use Rattle.logform.specs.declared.Entry.TheVariants.{End, Cut, Damaged, Record}
@@ -23,17 +23,12 @@ use Rattle.calls.specs.Call.{Call, call}
 use Rattle.logcalls.specs.Answers.{answer_bytes, answer_most}
 use Rattle.logcalls.specs.Kinds.{call_of}
 use Rattle.logcalls.specs.Replayed.{Ran, ran_call, Next, stops, calls, next_by, next_in, next_at, Stepped, stopped, went, stepped_by, stepped, fitting, replayed_by, replayed}
-use Rattle.logcalls.proofs.ReplayLaws.{next-inside, past_end, left-all, remaining, remaining-stops, remaining-full, remaining-goes}
-use Rattle.replay.specs.declared.Stepped as declared
+use Rattle.logcalls.proofs.ReplayLaws.{next-inside, left-all, remaining, remaining-stops, remaining-full, remaining-goes}
 use Rattle.logcalls.proofs.RanLaws.{filled-inside}
 
 -- ---- a step
 
 module _ (b log : List ℕ) (at : ℕ) (out : List ℕ) where
-  pub stops_as : (r : declared.Stepped) (n : ℕ) → r ≡ record { going = false; number = n; place = at; len = 0 } → stopped n at b out ≡ stepped b log at out
-      → record { going = r.going; number = r.number; place = r.place; length = r.len; bytes = b; output = out } ≡ stepped b log at out
-  stops_as r n e s = ap (λ (z : declared.Stepped). record { going = z.going; number = z.number; place = z.place; length = z.len; bytes = b; output = out }) e ∙ s
-
   module _ (x : Entry) (e : x ≡ entry_at log at) where
     entry-steps : (y : Entry) → x ≡ y → stepped_by b at out (next_in log y) ≡ stepped b log at out
     unfolding stepped next_at
@@ -57,15 +52,15 @@ module _ (b log : List ℕ) (at : ℕ) (out : List ℕ) where
       step-no-call f = go (call_of p.kind (take (p.stop - p.start) (drop p.start log))) refl f
         where
           go : (o : Option Call) → call_of p.kind (take (p.stop - p.start) (drop p.start log)) ≡ o → is_some o ≡ false → stopped 92 at b out ≡ stepped b log at out
-          go none k g = called none k
-          go (some c) k g = clash g
+          go None k g = called None k
+          go (Some c) k g = clash g
 
       pub step-full : is_some (call_of p.kind (take (p.stop - p.start) (drop p.start log))) ≡ true → length out < answer_most → stopped 93 at b out ≡ stepped b log at out
       step-full f s = go (call_of p.kind (take (p.stop - p.start) (drop p.start log))) refl f
         where
           go : (o : Option Call) → call_of p.kind (take (p.stop - p.start) (drop p.start log)) ≡ o → is_some o ≡ true → stopped 93 at b out ≡ stepped b log at out
-          go none k g = clash (sym g)
-          go (some c) k g = rw (lt-ltb (length out) answer_most s) at (called (some c) k)
+          go None k g = clash (sym g)
+          go (Some c) k g = rw (lt-ltb (length out) answer_most s) at (called (Some c) k)
 
       pub step-goes : (known : Bool) (n : ℕ) (b₁ o₁ : List ℕ) → is_some (call_of p.kind (take (p.stop - p.start) (drop p.start log))) ≡ true → answer_most ≤ length out
           → ◌≡◌ {A = Ran} (record { known = known; length = n; bytes = b₁; output = o₁ }) (ran_call b out (call_of p.kind (take (p.stop - p.start) (drop p.start log))))
@@ -75,8 +70,8 @@ module _ (b log : List ℕ) (at : ℕ) (out : List ℕ) where
           go : (o : Option Call) → call_of p.kind (take (p.stop - p.start) (drop p.start log)) ≡ o → is_some o ≡ true
               → ◌≡◌ {A = Ran} (record { known = known; length = n; bytes = b₁; output = o₁ }) (ran_call b out o)
               → record { going = true; number = 0; place = p.stop + check_length; length = n; bytes = b₁; output = o₁ } ≡ stepped b log at out
-          go none k g q = clash (sym g)
-          go (some c) k g q = ap (went (p.stop + check_length)) q ∙ (rw (le-ltb (length out) answer_most s) at (called (some c) k))
+          go None k g q = clash (sym g)
+          go (Some c) k g q = ap (went (p.stop + check_length)) q ∙ (rw (le-ltb (length out) answer_most s) at (called (Some c) k))
 
 -- ---- the loop
 
@@ -100,10 +95,6 @@ replaying-start b log from out =
 module _ (b₀ log : List ℕ) (from : ℕ) (out₀ : List ℕ) (b out : List ℕ) (at w e : ℕ) (g : Replaying b₀ log from out₀ b out at w) (ends : e ≡ length out₀) where
   lent-size : length (take (e - w) (drop w out)) ≡ length out₀ - w
   lent-size = length-take-le (e - w) (drop w out) (omega (arith, length-drop w out, g.size, ends)) ∙ omega (arith, ends)
-
-  -- at the log's end
-  pub replayed-end : length log ≤ at → record { number = 0; place = at; written = w; bytes = b; output = out } ≡ replayed b₀ log from out₀
-  replayed-end h = remaining-stops log (length out₀) b at out w 0 (past_end log at h) ∙ g.rest
 
   module _ (going : Bool) (number place len : ℕ) (b₁ y : List ℕ)
       (s : ◌≡◌ {A = Stepped} (record { going = going; number = number; place = place; length = len; bytes = b₁; output = y }) (stepped b log at (take (e - w) (drop w out))))
@@ -136,7 +127,7 @@ module _ (b₀ log : List ℕ) (from : ℕ) (out₀ : List ℕ) (b out : List �
     replayed-stop f = go (next_at log at) refl s
       where
         room : (c : Call) (next : ℕ) → next_at log at ≡ calls c next → (t : Bool) → ltb (length (take (e - w) (drop w out))) answer_most ≡ t
-            → ◌≡◌ {A = Stepped} (record { going = going; number = number; place = place; length = len; bytes = b₁; output = y }) (cond t (stopped 93 at b (take (e - w) (drop w out))) (went next (ran_call b (take (e - w) (drop w out)) (some c))))
+            → ◌≡◌ {A = Stepped} (record { going = going; number = number; place = place; length = len; bytes = b₁; output = y }) (cond t (stopped 93 at b (take (e - w) (drop w out))) (went next (ran_call b (take (e - w) (drop w out)) (Some c))))
             → record { number = number; place = at; written = w; bytes = b₁; output = put_mid w (e - w) out y } ≡ replayed b₀ log from out₀
         room c next k true h q =
             let short : length out₀ - w < answer_most = rw lent-size at (ltb-true (length (take (e - w) (drop w out))) answer_most h) in
@@ -159,7 +150,7 @@ module _ (b₀ log : List ℕ) (from : ℕ) (out₀ : List ℕ) (b out : List �
     replaying-goes kb f = go (next_at log at) refl s
       where
         went_on : (c : Call) (next : ℕ) → next_at log at ≡ calls c next → answer_most ≤ length out₀ - w
-            → ◌≡◌ {A = Stepped} (record { going = going; number = number; place = place; length = len; bytes = b₁; output = y }) (went next (ran_call b (take (e - w) (drop w out)) (some c))) → Went
+            → ◌≡◌ {A = Stepped} (record { going = going; number = number; place = place; length = len; bytes = b₁; output = y }) (went next (ran_call b (take (e - w) (drop w out)) (Some c))) → Went
         went_on c next k h q =
             let x : List ℕ = answer_bytes (call b c).answer in
             let m = next-inside log at c next k in
@@ -184,7 +175,7 @@ module _ (b₀ log : List ℕ) (from : ℕ) (out₀ : List ℕ) (b out : List �
             }
 
         room : (c : Call) (next : ℕ) → next_at log at ≡ calls c next → (t : Bool) → ltb (length (take (e - w) (drop w out))) answer_most ≡ t
-            → ◌≡◌ {A = Stepped} (record { going = going; number = number; place = place; length = len; bytes = b₁; output = y }) (cond t (stopped 93 at b (take (e - w) (drop w out))) (went next (ran_call b (take (e - w) (drop w out)) (some c))))
+            → ◌≡◌ {A = Stepped} (record { going = going; number = number; place = place; length = len; bytes = b₁; output = y }) (cond t (stopped 93 at b (take (e - w) (drop w out))) (went next (ran_call b (take (e - w) (drop w out)) (Some c))))
             → Went
         room c next k true h q = clash (sym f ∙ ap (λ (z : Stepped). z.going) q)
         room c next k false h q =

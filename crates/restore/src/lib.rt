@@ -2,16 +2,19 @@
 #![tactic(auto)]
 
 ghost use Rattle.std.specs.Prelude.{◌≡◌};
+ghost use Rattle.numbers.specs.Numbers.{answered};
 ghost use Rattle.logcalls.specs.Restored.{restored};
 
 use logform::Log;
+use numbers::Refusal;
 use replay::Replayed;
 
-fn none(number: u8) -> Replayed
-    ensures { result ≡ record { number = number; place = 0; written = 0 } }
+// Nothing was carried out.
+fn none(refusal: Refusal) -> Replayed
+    ensures { result ≡ record { ended = Err refusal; place = 0; written = 0 } }
 {
     Replayed {
-        number,
+        ended: Err(refusal),
         place: 0,
         written: 0,
     }
@@ -20,15 +23,14 @@ fn none(number: u8) -> Replayed
 /// Makes the lent memory a book for the symbols that the log's head tells, and carries out the log's calls as `replay` does. 90: the log has no
 /// head; 2: the memory is not that of such a book.
 pub fn restore(book: &mut [u8], log: &[u8], output: &mut [u8]) -> Replayed
-    ensures { record { number = result.number; place = result.place; written = result.written; bytes = book.new; output = output.new } ≡ restored book.old log.now output.old }
+    ensures { record { number = answered result.ended; place = result.place; written = result.written; bytes = book.new; output = output.new } ≡ restored book.old log.now output.old }
 {
-    let head = logform::read_head(log);
-    if head.number != 0 {
-        return none(head.number);
+    let head = match logform::read_head(log) {
+        Ok(head) => head,
+        Err(refusal) => return none(refusal),
+    };
+    match book::make(book, head.n as u32) {
+        Ok(()) => replay::replay(book, log, Log::HEAD, output),
+        Err(refusal) => none(refusal),
     }
-    let number = book::make(book, head.n as u32);
-    if number != 0 {
-        return none(number);
-    }
-    replay::replay(book, log, Log::HEAD, output)
 }

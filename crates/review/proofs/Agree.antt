@@ -4,7 +4,7 @@ use Prim.Native.Nat.{ℕ}
 use mathlib.Core.Path.{◌≡◌, refl, sym, ap, ap₂, ◌∙◌, fun_ext}
 use mathlib.Core.Bool.{Bool, true, false, cond}
 use mathlib.Core.List.{List, [], ◌∷◌}
-use mathlib.Core.Option.{Option, none, some}
+use Rattle.std.specs.Prelude.{Option, None, Some}
 use lib.Dec.{eqb}
 use lib.ListN.{length}
 use Rattle.lists.specs.Lists.{is_some}
@@ -79,8 +79,8 @@ pub record Core (h : List Part) (rs : List Reading) : Type 0 where
 -- ---- the reading of a symbol
 
 pub data ReadingOf (s : ℕ) (h : List Part) (rs : List Reading) : Type 0 where
-  missing : find_reading s rs ≡ none → is_listed s (listed_of rs) ≡ false → ReadingOf s h rs
-  found : (r : Reading) → find_reading s rs ≡ some r → is_listed s (listed_of rs) ≡ true → r.symbol ≡ s → Good h r → ReadingOf s h rs
+  missing : find_reading s rs ≡ None → is_listed s (listed_of rs) ≡ false → ReadingOf s h rs
+  found : (r : Reading) → find_reading s rs ≡ Some r → is_listed s (listed_of rs) ≡ true → r.symbol ≡ s → Good h r → ReadingOf s h rs
 
 pub reading-of : (s : ℕ) (h : List Part) (rs : List Reading) → AllGood h rs → ReadingOf s h rs
 unfolding listed_of find_reading is_listed
@@ -97,15 +97,15 @@ reading-of s h (r ∷ rs) g = go (cut r.symbol s) (reading-of s h rs g.1)
 -- round lot and primary letter
 module _ (f : Listed → ℕ) where
   abbrev listed_in : Option Reading → ℕ
-  listed_in none = 0
-  listed_in (some r) = f (listing r)
+  listed_in None = 0
+  listed_in (Some r) = f (listing r)
 
   find-listed : (s : ℕ) (rs : List Reading) → listed_with f s (listed_of rs) ≡ listed_in (find_reading s rs)
   unfolding listed_of find_reading listed_with
   find-listed s [] = refl
   find-listed s (r ∷ rs) = go (eqb r.symbol s) (find-listed s rs)
     where
-      go : (t : Bool) → listed_with f s (listed_of rs) ≡ listed_in (find_reading s rs) → cond t (f (listing r)) (listed_with f s (listed_of rs)) ≡ listed_in (cond t (some r) (find_reading s rs))
+      go : (t : Bool) → listed_with f s (listed_of rs) ≡ listed_in (find_reading s rs) → cond t (f (listing r)) (listed_with f s (listed_of rs)) ≡ listed_in (cond t (Some r) (find_reading s rs))
       go true e = refl
       go false e = e
 
@@ -116,8 +116,8 @@ pub lot-listed : (s : ℕ) (rs : List Reading) → lot_of s (listed_of rs) ≡ l
 lot-listed s rs = find-listed the_lot s rs ∙ go (find_reading s rs)
   where
     go : (o : Option Reading) → listed_in the_lot o ≡ lot_in o
-    go none = refl
-    go (some r) = refl
+    go None = refl
+    go (Some r) = refl
 
 abbrev the_primary : Listed → ℕ
 the_primary x = x.primary

@@ -4,10 +4,8 @@ use Prim.Native.Nat.{ℕ}
 use mathlib.Core.Path.{◌≡◌, refl, sym, ap, ◌∙◌}
 use mathlib.Core.Bool.{Bool, true, false, cond}
 use mathlib.Core.List.{List, []}
-use mathlib.Core.Option.{Option, none, some}
+use Rattle.std.specs.Prelude.{Option, None, Some}
 use Rattle.field.specs.Field.{Bytes}
-use Rattle.lists.specs.declared.Found.{Found}
-use Rattle.lists.specs.declared.Found.TheVariants.{At, Nothing}
 use Rattle.update.proofs.EntryLaws.{bytes-every}
 use Rattle.block.specs.Block.{messages_of}
 use Rattle.opening.specs.declared.Line.{Line}
@@ -36,8 +34,8 @@ taken-view n b h sd y c i k room z = rw (number_same n b sd (take i k room)) (go
   where
     go : (d : Bool) → done (number_of (rest_in b) (listed_of (pages_in b)) (take i k room)) ≡ d → (o : Option Line) → lines_in b i ≡ o
         → cond d (taken_of (messages_of k) (told_on b (letter_of o) (messages_of k))) [] ≡ cond d (taken_of (messages_of k) (told_r (listed_of (pages_in b)) h (letter_of o) (messages_of k))) []
-    go true d none e = absurd (take_done (rest_in b) (listed_of (pages_in b)) i k room d e)
-    go true d (some r) e = rw (told_line n b h sd y c i r k e z)
+    go true d None e = absurd (take_done (rest_in b) (listed_of (pages_in b)) i k room d e)
+    go true d (Some r) e = rw (told_line n b h sd y c i r k e z)
     go false d o e = refl
 
 -- a block changes no list of symbols
@@ -66,8 +64,8 @@ module _ (n : ℕ) (b : List ℕ) (v : Review) (a : Agrees n b v) (i : ℕ) (k :
   unfolding page_of
   agreed-frame s t = rw (place-stays s) (go (page_place b s) refl)
     where
-      go : (o : Found) → page_place b s ≡ o → bytes_at after o ≡ bytes_at b o
-      go (At j) e =
+      go : (o : Option ℕ) → page_place b s ≡ o → bytes_at after o ≡ bytes_at b o
+      go (Some j) e =
           let q : page_symbol (page_at b j) ≡ s = (place-hit b s j e).1 in
           block-frame b i k room j (ap (touched (taken_on b i k room)) q ∙ ap (λ (ms : List (List ℕ)). touched ms s) taken-same ∙ t)
-      go Nothing e = refl
+      go None e = refl

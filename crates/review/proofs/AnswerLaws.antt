@@ -4,7 +4,7 @@ use Prim.Native.Nat.{ℕ}
 use mathlib.Core.Path.{◌≡◌, refl, sym, ap, ◌∙◌, fun_ext}
 use mathlib.Core.Bool.{Bool, true, false, cond}
 use mathlib.Core.List.{List}
-use mathlib.Core.Option.{Option, none, some}
+use Rattle.std.specs.Prelude.{Option, None, Some}
 use lib.Dec.{eqb}
 use Rattle.field.specs.Field.{Bytes, be}
 use Rattle.lists.proofs.Tests.{clash}
@@ -74,7 +74,7 @@ module _ (n : ℕ) (b : List ℕ) (h : List (List ℕ)) (sd : Sound n b) (y : By
   lots-same : lot_on b ≡ (λ s. lot_of s ls)
   lots-same = fun_ext (λ s. ap lot_in (once-reading b c.once s) ∙ sym (lot-listed s (pages_in b)))
 
-  pub told_line : (i : ℕ) (r : Line) (x : List ℕ) → lines_in b i ≡ some r → Bytes x → told_on b r.letter (messages_of x) ≡ told_r ls h r.letter (messages_of x)
+  pub told_line : (i : ℕ) (r : Line) (x : List ℕ) → lines_in b i ≡ Some r → Bytes x → told_on b r.letter (messages_of x) ≡ told_r ls h r.letter (messages_of x)
   told_line i r x e z =
       told-done n r.letter (line-upper r (line-open b i r e).1) (messages_of x) b (messages-bytes x z) sd y c.once
       ∙ told_same r.letter ls (messages_of x) h (pages_in b) refl c
@@ -93,8 +93,8 @@ module _ (n : ℕ) (b : List ℕ) (h : List (List ℕ)) (sd : Sound n b) (y : By
       go : (o : Option Line) → lines_in b i ≡ o
           → cond (eqb (number_of (rest_in b) ls (take i x k)) 9) (bare (number_of (rest_in b) ls (take i x k))) (line_answer (number_of (rest_in b) ls (take i x k)) x (told_on b (letter_of o) (messages_of x)) o)
           ≡ cond (eqb (number_of (rest_in b) ls (take i x k)) 9) (bare (number_of (rest_in b) ls (take i x k))) (line_answer (number_of (rest_in b) ls (take i x k)) x (told_r ls h (letter_of o) (messages_of x)) o)
-      go none e = refl
-      go (some r) e = rw (told_line i r x e (bytes-every x z))
+      go None e = refl
+      go (Some r) e = rw (told_line i r x e (bytes-every x z))
   answer-same (read x k) z = go (done (number_of (rest_in b) ls (read x k))) refl
     where
       go : (t : Bool) → done (number_of (rest_in b) ls (read x k)) ≡ t

@@ -4,7 +4,7 @@ use Prim.Native.Nat.{ℕ, ◌+◌, ◌^◌, ◌%◌, ◌≤◌, ◌<◌}
 use mathlib.Core.Path.{◌≡◌, refl, sym, ap, ◌∙◌}
 use mathlib.Core.Bool.{Bool, true, false, cond}
 use mathlib.Core.List.{List, [], ◌∷◌, ◌++◌, map}
-use mathlib.Core.Option.{Option, none, some}
+use Rattle.std.specs.Prelude.{Option, None, Some}
 use native.Mathlib.Omega.{arith}
 use lib.Dec.{ltb, leb, eqb, lit<, lit≤}
 use lib.ListN.{length}
@@ -19,7 +19,6 @@ use Rattle.lists.proofs.Tests.{clash}
 use Rattle.text.specs.Form.{letter_good, symbol_length}
 use Rattle.block.specs.Block.{count_in, sequence_in, messages_of, idle_block}
 use Rattle.block.specs.Sequence.{gap_of, next_of, arrival_of}
-use Rattle.block.specs.declared.Arrival.TheVariants.{Taken, Duplicate}
 use Rattle.update.specs.Parts.{Reading, emptied}
 use Rattle.update.proofs.Model.{blank_reading, blanked}
 use Rattle.update.proofs.EntryLaws.{bytes-every}
@@ -68,12 +67,12 @@ view-is b v a = λ i. record { rest = a.rest i; symbols = a.listed i; history = 
 -- ---- lines
 
 -- what a line's bytes hold fits them
-line-fits : (n : ℕ) (b : List ℕ) → Sound n b → Bytes b → (i : ℕ) (x : Line) → lines_in b i ≡ some x → LineFits x
+line-fits : (n : ℕ) (b : List ℕ) → Sound n b → Bytes b → (i : ℕ) (x : Line) → lines_in b i ≡ Some x → LineFits x
 unfolding lines_in line_in
 line-fits n b sd y i x e = let g = line-open b i x e in go g.0 (ltb i line_count) (letter_good (field (part b (line_at i) line_length) 0 1)) e
   where
     go : i < line_count → (t u : Bool)
-        → cond t (cond u (some (record { letter = field (part b (line_at i) line_length) 0 1; expected = field (part b (line_at i) line_length) 1 4; count = field (part b (line_at i) line_length) 5 8 })) none) none ≡ some x
+        → cond t (cond u (Some (record { letter = field (part b (line_at i) line_length) 0 1; expected = field (part b (line_at i) line_length) 1 4; count = field (part b (line_at i) line_length) 5 8 })) None) None ≡ Some x
         → LineFits x
     go l true true q =
         let r : List ℕ = part b (line_at i) line_length in
@@ -92,7 +91,7 @@ next_fits : (e s k : ℕ) → e < 256 ^ 4 → next_by e (arrival_of s e k) < 256
 unfolding arrival_of next_of
 next_fits e s k f = go (leb (gap_of s e) 2147483647)
   where
-    go : (t : Bool) → next_by e (cond t (Taken (gap_of s e) ((s + k) % 4294967296)) Duplicate) < 256 ^ 4
+    go : (t : Bool) → next_by e (cond t (Some (record { gap = gap_of s e; next = ((s + k) % 4294967296) })) None) < 256 ^ 4
     go true = omega arith
     go false = f
 
@@ -203,8 +202,8 @@ module _ (n : ℕ) (b : List ℕ) (h : List (List ℕ)) (sd : Sound n b) (y : By
             symbols = ls;
             history = messages_r ls (letter_of o) (messages_of x) h;
           })
-      go none e = absurd (take_done (rest_in b) ls i x k d e)
-      go (some r) e =
+      go None e = absurd (take_done (rest_in b) ls i x k d e)
+      go (Some r) e =
           let b₁ : List ℕ = messages_on r.letter (messages_of x) b in
           let f : LineFits r = line-fits n b sd y i r e in
           let l : i < line_count = (line-open b i r e).0 in

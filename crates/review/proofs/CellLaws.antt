@@ -5,7 +5,7 @@ use mathlib.Core.Path.{◌≡◌, refl, sym, ap, ◌∙◌}
 use mathlib.Core.Bool.{Bool, true, false, cond}
 use mathlib.Core.Logic.{◌⊎◌, inl, inr}
 use mathlib.Core.List.{List, [], ◌∷◌}
-use mathlib.Core.Option.{Option, none, some}
+use Rattle.std.specs.Prelude.{Option, None, Some}
 use native.Mathlib.Omega.{arith}
 use lib.Dec.{eqb}
 use lib.ListN.{length, replicate, length-map}
@@ -23,82 +23,82 @@ use Rattle.update.proofs.Model.{as_maker, rewrite, allocate, standing, maker_put
 -- no two cells have one name
 abbrev pub Sole : List (Option Maker) → Type 0
 Sole [] = Unit {0}
-Sole (none ∷ cs) = Sole cs
-Sole (some x ∷ cs) = (find_maker x.name cs ≡ none) × Sole cs
+Sole (None ∷ cs) = Sole cs
+Sole (Some x ∷ cs) = (find_maker x.name cs ≡ None) × Sole cs
 
 -- what is found is a member, under that name
-pub find-in : (m : ℕ) (x : Maker) (cs : List (Option Maker)) → find_maker m cs ≡ some x → In x (occupied cs) × (x.name ≡ m)
+pub find-in : (m : ℕ) (x : Maker) (cs : List (Option Maker)) → find_maker m cs ≡ Some x → In x (occupied cs) × (x.name ≡ m)
 unfolding find_maker
 find-in m x [] e = clash (cc)
-find-in m x (none ∷ cs) e = find-in m x cs e
-find-in m x (some y ∷ cs) e = go (cut y.name m) (λ d. find-in m x cs d)
+find-in m x (None ∷ cs) e = find-in m x cs e
+find-in m x (Some y ∷ cs) e = go (cut y.name m) (λ d. find-in m x cs d)
   where
-    go : Cut y.name m → (find_maker m cs ≡ some x → In x (occupied cs) × (x.name ≡ m)) → In x (y ∷ occupied cs) × (x.name ≡ m)
+    go : Cut y.name m → (find_maker m cs ≡ Some x → In x (occupied cs) × (x.name ≡ m)) → In x (y ∷ occupied cs) × (x.name ≡ m)
     go (equal t p) down =
-        let q : y ≡ x = let z : ◌≡◌ {A = Option Maker} (cond (eqb y.name m) (some y) (find_maker m cs)) (some x) = e in cc in
+        let q : y ≡ x = let z : ◌≡◌ {A = Option Maker} (cond (eqb y.name m) (Some y) (find_maker m cs)) (Some x) = e in cc in
         (inl (sym q), ap (λ (k : Maker). k.name) (sym q) ∙ p)
     go (apart t p) down = let r = down (rw t at e) in (inr r.0, r.1)
 
 -- a member is found, if no two cells have one name
-pub in-find : (x : Maker) (cs : List (Option Maker)) → Sole cs → In x (occupied cs) → find_maker x.name cs ≡ some x
+pub in-find : (x : Maker) (cs : List (Option Maker)) → Sole cs → In x (occupied cs) → find_maker x.name cs ≡ Some x
 unfolding find_maker
 in-find x [] s m = absurd m
-in-find x (none ∷ cs) s m = in-find x cs s m
-in-find x (some y ∷ cs) s (inl p) = rw (eq-eqb y.name x.name (ap (λ (k : Maker). k.name) (sym p))) (ap some (sym p))
-in-find x (some y ∷ cs) s (inr m) = go (cut y.name x.name) (in-find x cs s.1 m)
+in-find x (None ∷ cs) s m = in-find x cs s m
+in-find x (Some y ∷ cs) s (inl p) = rw (eq-eqb y.name x.name (ap (λ (k : Maker). k.name) (sym p))) (ap Some (sym p))
+in-find x (Some y ∷ cs) s (inr m) = go (cut y.name x.name) (in-find x cs s.1 m)
   where
-    go : Cut y.name x.name → find_maker x.name cs ≡ some x → cond (eqb y.name x.name) (some y) (find_maker x.name cs) ≡ some x
-    go (equal t p) e = clash (let n : find_maker x.name cs ≡ none = ap (λ (k : ℕ). find_maker k cs) (sym p) ∙ s.0 in cc)
+    go : Cut y.name x.name → find_maker x.name cs ≡ Some x → cond (eqb y.name x.name) (Some y) (find_maker x.name cs) ≡ Some x
+    go (equal t p) e = clash (let n : find_maker x.name cs ≡ None = ap (λ (k : ℕ). find_maker k cs) (sym p) ∙ s.0 in cc)
     go (apart t p) e = rw t e
 
 -- a cell that is none or has the name m
 abbrev pub Fit : ℕ → Option Maker → Type 0
-Fit m none = Unit {0}
-Fit m (some y) = y.name ≡ m
+Fit m None = Unit {0}
+Fit m (Some y) = y.name ≡ m
 
 named_other : (m k : ℕ) (c : Option Maker) → Fit m c → (m ≡ k → ⊥) → named k c ≡ false
-named_other m k none f h = refl
-named_other m k (some y) f h = ne_eqb y.name k (λ p. h (sym f ∙ p))
+named_other m k None f h = refl
+named_other m k (Some y) f h = ne_eqb y.name k (λ p. h (sym f ∙ p))
 
 -- after a rewrite: the others
 pub rewrite-other : (m k : ℕ) (c : Option Maker) (cs : List (Option Maker)) → Fit m c → (m ≡ k → ⊥) → find_maker k (rewrite m c cs) ≡ find_maker k cs
 unfolding find_maker
 rewrite-other m k c [] f h = refl
-rewrite-other m k c (none ∷ cs) f h = rewrite-other m k c cs f h
-rewrite-other m k c (some x ∷ cs) f h = go (cut x.name m) (rewrite-other m k c cs f h)
+rewrite-other m k c (None ∷ cs) f h = rewrite-other m k c cs f h
+rewrite-other m k c (Some x ∷ cs) f h = go (cut x.name m) (rewrite-other m k c cs f h)
   where
-    go : Cut x.name m → find_maker k (rewrite m c cs) ≡ find_maker k cs → find_maker k (cond (eqb x.name m) (c ∷ cs) (some x ∷ rewrite m c cs)) ≡ cond (eqb x.name k) (some x) (find_maker k cs)
+    go : Cut x.name m → find_maker k (rewrite m c cs) ≡ find_maker k cs → find_maker k (cond (eqb x.name m) (c ∷ cs) (Some x ∷ rewrite m c cs)) ≡ cond (eqb x.name k) (Some x) (find_maker k cs)
     go (equal t p) e = rw (t, named_other m k c f h, ne_eqb x.name k (λ q. h (sym p ∙ q)))
     go (apart t p) e = rw (t, e)
 
 -- after a rewrite: the one rewritten
-found-there : (m : ℕ) (c : Option Maker) (cs : List (Option Maker)) → Fit m c → find_maker m cs ≡ none → cond (named m c) c (find_maker m cs) ≡ c
-found-there m none cs f e = e
-found-there m (some y) cs f e = rw (eq-eqb y.name m f)
+found-there : (m : ℕ) (c : Option Maker) (cs : List (Option Maker)) → Fit m c → find_maker m cs ≡ None → cond (named m c) c (find_maker m cs) ≡ c
+found-there m None cs f e = e
+found-there m (Some y) cs f e = rw (eq-eqb y.name m f)
 
 pub rewrite-same : (m : ℕ) (c : Option Maker) (cs : List (Option Maker)) → Fit m c → Sole cs → is_some (find_maker m cs) ≡ true → find_maker m (rewrite m c cs) ≡ c
 unfolding find_maker
 rewrite-same m c [] f s h = clash (sym h)
-rewrite-same m c (none ∷ cs) f s h = rewrite-same m c cs f s h
-rewrite-same m c (some x ∷ cs) f s h = go (cut x.name m) (rewrite-same m c cs f s.1) h
+rewrite-same m c (None ∷ cs) f s h = rewrite-same m c cs f s h
+rewrite-same m c (Some x ∷ cs) f s h = go (cut x.name m) (rewrite-same m c cs f s.1) h
   where
     go : Cut x.name m → (is_some (find_maker m cs) ≡ true → find_maker m (rewrite m c cs) ≡ c)
-        → is_some (cond (eqb x.name m) (some x) (find_maker m cs)) ≡ true
-        → find_maker m (cond (eqb x.name m) (c ∷ cs) (some x ∷ rewrite m c cs)) ≡ c
+        → is_some (cond (eqb x.name m) (Some x) (find_maker m cs)) ≡ true
+        → find_maker m (cond (eqb x.name m) (c ∷ cs) (Some x ∷ rewrite m c cs)) ≡ c
     go (equal t p) down h = rw t (found-there m c cs f (ap (λ (k : ℕ). find_maker k cs) (sym p) ∙ s.0))
     go (apart t p) down h = rw (t, t) (down (rw t at h))
 
 -- a rewrite keeps the names apart
-sole-cons : (m : ℕ) (c : Option Maker) (cs : List (Option Maker)) → Fit m c → find_maker m cs ≡ none → Sole cs → Sole (c ∷ cs)
-sole-cons m none cs f e s = s
-sole-cons m (some y) cs f e s = (ap (λ (k : ℕ). find_maker k cs) f ∙ e, s)
+sole-cons : (m : ℕ) (c : Option Maker) (cs : List (Option Maker)) → Fit m c → find_maker m cs ≡ None → Sole cs → Sole (c ∷ cs)
+sole-cons m None cs f e s = s
+sole-cons m (Some y) cs f e s = (ap (λ (k : ℕ). find_maker k cs) f ∙ e, s)
 
 pub rewrite-sole : (m : ℕ) (c : Option Maker) (cs : List (Option Maker)) → Fit m c → Sole cs → Sole (rewrite m c cs)
 rewrite-sole m c [] f s = tt
-rewrite-sole m c (none ∷ cs) f s = rewrite-sole m c cs f s
-rewrite-sole m c (some x ∷ cs) f s = go (cut x.name m) (rewrite-sole m c cs f s.1)
+rewrite-sole m c (None ∷ cs) f s = rewrite-sole m c cs f s
+rewrite-sole m c (Some x ∷ cs) f s = go (cut x.name m) (rewrite-sole m c cs f s.1)
   where
-    go : Cut x.name m → Sole (rewrite m c cs) → Sole (cond (eqb x.name m) (c ∷ cs) (some x ∷ rewrite m c cs))
+    go : Cut x.name m → Sole (rewrite m c cs) → Sole (cond (eqb x.name m) (c ∷ cs) (Some x ∷ rewrite m c cs))
     go (equal t p) r = rw t (sole-cons m c cs f (ap (λ (k : ℕ). find_maker k cs) (sym p) ∙ s.0) s.1)
     go (apart t p) r = rw t (rewrite-other m x.name c cs f (λ q. p (sym q)) ∙ s.0, r)
 
@@ -114,37 +114,37 @@ rewrite-length m c (x ∷ cs) = go (named m x) (rewrite-length m c cs)
 pub allocate-other : (y : Maker) (k : ℕ) (cs : List (Option Maker)) → (y.name ≡ k → ⊥) → find_maker k (allocate y cs) ≡ find_maker k cs
 unfolding find_maker
 allocate-other y k [] h = refl
-allocate-other y k (none ∷ cs) h = rw (ne_eqb y.name k h)
-allocate-other y k (some x ∷ cs) h = rw (allocate-other y k cs h)
+allocate-other y k (None ∷ cs) h = rw (ne_eqb y.name k h)
+allocate-other y k (Some x ∷ cs) h = rw (allocate-other y k cs h)
 
-pub allocate-same : (y : Maker) (cs : List (Option Maker)) → find_maker y.name cs ≡ none → length (occupied cs) < length cs → find_maker y.name (allocate y cs) ≡ some y
+pub allocate-same : (y : Maker) (cs : List (Option Maker)) → find_maker y.name cs ≡ None → length (occupied cs) < length cs → find_maker y.name (allocate y cs) ≡ Some y
 unfolding find_maker
 allocate-same y [] e h = absurd (omega arith)
-allocate-same y (none ∷ cs) e h = rw (eq-eqb y.name y.name refl)
-allocate-same y (some x ∷ cs) e h = go (cut x.name y.name) (allocate-same y cs) e
+allocate-same y (None ∷ cs) e h = rw (eq-eqb y.name y.name refl)
+allocate-same y (Some x ∷ cs) e h = go (cut x.name y.name) (allocate-same y cs) e
   where
-    go : Cut x.name y.name → (find_maker y.name cs ≡ none → length (occupied cs) < length cs → find_maker y.name (allocate y cs) ≡ some y)
-        → cond (eqb x.name y.name) (some x) (find_maker y.name cs) ≡ none
-        → cond (eqb x.name y.name) (some x) (find_maker y.name (allocate y cs)) ≡ some y
-    go (equal t p) down e = clash (let z : some x ≡ none = rw t at e in cc)
+    go : Cut x.name y.name → (find_maker y.name cs ≡ None → length (occupied cs) < length cs → find_maker y.name (allocate y cs) ≡ Some y)
+        → cond (eqb x.name y.name) (Some x) (find_maker y.name cs) ≡ None
+        → cond (eqb x.name y.name) (Some x) (find_maker y.name (allocate y cs)) ≡ Some y
+    go (equal t p) down e = clash (let z : Some x ≡ None = rw t at e in cc)
     go (apart t p) down e = rw t (down (rw t at e) (omega arith))
 
-pub allocate-sole : (y : Maker) (cs : List (Option Maker)) → find_maker y.name cs ≡ none → Sole cs → Sole (allocate y cs)
+pub allocate-sole : (y : Maker) (cs : List (Option Maker)) → find_maker y.name cs ≡ None → Sole cs → Sole (allocate y cs)
 unfolding find_maker
 allocate-sole y [] e s = tt
-allocate-sole y (none ∷ cs) e s = (e, s)
-allocate-sole y (some x ∷ cs) e s = go (cut x.name y.name) (allocate-sole y cs) e
+allocate-sole y (None ∷ cs) e s = (e, s)
+allocate-sole y (Some x ∷ cs) e s = go (cut x.name y.name) (allocate-sole y cs) e
   where
-    go : Cut x.name y.name → (find_maker y.name cs ≡ none → Sole cs → Sole (allocate y cs))
-        → cond (eqb x.name y.name) (some x) (find_maker y.name cs) ≡ none
-        → Sole (some x ∷ allocate y cs)
-    go (equal t p) down e = clash (let z : some x ≡ none = rw t at e in cc)
+    go : Cut x.name y.name → (find_maker y.name cs ≡ None → Sole cs → Sole (allocate y cs))
+        → cond (eqb x.name y.name) (Some x) (find_maker y.name cs) ≡ None
+        → Sole (Some x ∷ allocate y cs)
+    go (equal t p) down e = clash (let z : Some x ≡ None = rw t at e in cc)
     go (apart t p) down e = (allocate-other y x.name cs (λ q. p (sym q)) ∙ s.0, down (rw t at e) s.1)
 
 pub allocate-length : (y : Maker) (cs : List (Option Maker)) → length (allocate y cs) ≡ length cs
 allocate-length y [] = refl
-allocate-length y (none ∷ cs) = refl
-allocate-length y (some x ∷ cs) = ap suc (allocate-length y cs)
+allocate-length y (None ∷ cs) = refl
+allocate-length y (Some x ∷ cs) = ap suc (allocate-length y cs)
 
 -- ---- a maker's quote
 
@@ -156,15 +156,15 @@ pub room-same : (m : ℕ) (q v : Quote) (cs : List (Option Maker)) → empty_quo
 unfolding Room
 room-same m q v cs e r n = r (sym e ∙ n)
 
-not_some : {A : Type 0} (o : Option A) → is_some o ≡ false → o ≡ none
-not_some none e = refl
-not_some (some a) e = clash e
+not_some : {A : Type 0} (o : Option A) → is_some o ≡ false → o ≡ None
+not_some None e = refl
+not_some (Some a) e = clash e
 
 fit-standing : (m : ℕ) (q : Quote) → Fit m (standing m q)
 unfolding standing
 fit-standing m q = go (empty_quote q)
   where
-    go : (t : Bool) → Fit m (cond t none (some (as_maker m q)))
+    go : (t : Bool) → Fit m (cond t None (Some (as_maker m q)))
     go true = tt
     go false = refl
 
@@ -187,9 +187,9 @@ module _ (m : ℕ) (q : Quote) (cs : List (Option Maker)) where
       room e (inr h) = h
 
       go : (t : Bool) → is_some (find_maker m cs) ≡ t → (u : Bool) → empty_quote q ≡ u
-          → find_maker m (cond t (rewrite m (cond u none (some (as_maker m q))) cs) (cond u cs (allocate (as_maker m q) cs))) ≡ cond u none (some (as_maker m q))
-      go true e true f = rewrite-same m none cs tt s e
-      go true e false f = rewrite-same m (some (as_maker m q)) cs refl s e
+          → find_maker m (cond t (rewrite m (cond u None (Some (as_maker m q))) cs) (cond u cs (allocate (as_maker m q) cs))) ≡ cond u None (Some (as_maker m q))
+      go true e true f = rewrite-same m None cs tt s e
+      go true e false f = rewrite-same m (Some (as_maker m q)) cs refl s e
       go false e true f = not_some (find_maker m cs) e
       go false e false f = allocate-same (as_maker m q) cs (not_some (find_maker m cs) e) (room e (r f))
 
@@ -216,19 +216,19 @@ module _ (m : ℕ) (q : Quote) (cs : List (Option Maker)) where
 pub mark-find : (c k : ℕ) (cs : List (Option Maker)) → find_maker k (mark_all c cs) ≡ map_option (marked c) (find_maker k cs)
 unfolding mark_all find_maker
 mark-find c k [] = refl
-mark-find c k (none ∷ cs) = mark-find c k cs
-mark-find c k (some x ∷ cs) = go (eqb x.name k) (mark-find c k cs)
+mark-find c k (None ∷ cs) = mark-find c k cs
+mark-find c k (Some x ∷ cs) = go (eqb x.name k) (mark-find c k cs)
   where
     go : (t : Bool) → find_maker k (mark_all c cs) ≡ map_option (marked c) (find_maker k cs)
-        → cond t (some (marked c x)) (find_maker k (mark_all c cs)) ≡ map_option (marked c) (cond t (some x) (find_maker k cs))
+        → cond t (Some (marked c x)) (find_maker k (mark_all c cs)) ≡ map_option (marked c) (cond t (Some x) (find_maker k cs))
     go true e = refl
     go false e = e
 
 pub mark-sole : (c : ℕ) (cs : List (Option Maker)) → Sole cs → Sole (mark_all c cs)
 unfolding mark_all
 mark-sole c [] s = tt
-mark-sole c (none ∷ cs) s = mark-sole c cs s
-mark-sole c (some x ∷ cs) s = (mark-find c x.name cs ∙ ap (map_option (marked c)) s.0, mark-sole c cs s.1)
+mark-sole c (None ∷ cs) s = mark-sole c cs s
+mark-sole c (Some x ∷ cs) s = (mark-find c x.name cs ∙ ap (map_option (marked c)) s.0, mark-sole c cs s.1)
 
 pub mark-length : (c : ℕ) (cs : List (Option Maker)) → length (mark_all c cs) ≡ length cs
 unfolding mark_all
@@ -236,12 +236,12 @@ mark-length c cs = length-map cs (map_option (marked c))
 
 -- ---- empty cells
 
-pub empty-find : (k n : ℕ) → find_maker k (replicate n none) ≡ none
+pub empty-find : (k n : ℕ) → find_maker k (replicate n None) ≡ None
 unfolding find_maker
 empty-find k zero = refl
 empty-find k (suc n) = empty-find k n
 
-pub empty-sole : (n : ℕ) → Sole (replicate n none)
+pub empty-sole : (n : ℕ) → Sole (replicate n None)
 empty-sole zero = tt
 empty-sole (suc n) = empty-sole n
 
@@ -249,9 +249,9 @@ empty-sole (suc n) = empty-sole n
 
 pub occupied-distinct : (cs : List (Option Maker)) → Sole cs → Distinct (λ (x : Maker). x.name) (occupied cs)
 occupied-distinct [] s = tt
-occupied-distinct (none ∷ cs) s = occupied-distinct cs s
-occupied-distinct (some x ∷ cs) s = (
-  λ y m p. clash (let e : find_maker y.name cs ≡ some y = in-find y cs s.1 m in
-      let n : find_maker y.name cs ≡ none = ap (λ (k : ℕ). find_maker k cs) p ∙ s.0 in cc),
+occupied-distinct (None ∷ cs) s = occupied-distinct cs s
+occupied-distinct (Some x ∷ cs) s = (
+  λ y m p. clash (let e : find_maker y.name cs ≡ Some y = in-find y cs s.1 m in
+      let n : find_maker y.name cs ≡ None = ap (λ (k : ℕ). find_maker k cs) p ∙ s.0 in cc),
   occupied-distinct cs s.1,
 )

@@ -4,7 +4,7 @@ use Prim.Native.Nat.{ℕ, zero, suc}
 use mathlib.Core.Path.{◌≡◌, refl}
 use mathlib.Core.Bool.{not, ◌&&◌, cond}
 use mathlib.Core.List.{List, [], ◌∷◌}
-use mathlib.Core.Option.{Option, none, some}
+use Rattle.std.specs.Prelude.{Option, None, Some}
 use Rattle.field.specs.Field.{part}
 use Rattle.field.specs.Ascii.{A, D, S}
 use Rattle.lists.specs.Lists.{member, or_else, cons_option}
@@ -18,7 +18,7 @@ module _ (q r : ℕ → Quote) (e : (l : ℕ) → shown_of l (q l) ≡ shown_of 
   shown-same : (n l : ℕ) → shown_from q n l ≡ shown_from r n l
   unfolding is_shown
   shown-same zero l = refl
-  shown-same (suc n) l = λ i. cons_option (cond (not (member (D ∷ S ∷ []) l) && is_quoted (e l i).condition) (some (e l i)) none) (shown-same n (suc l) i)
+  shown-same (suc n) l = λ i. cons_option (cond (not (member (D ∷ S ∷ []) l) && is_quoted (e l i).condition) (Some (e l i)) None) (shown-same n (suc l) i)
 
   pub snapshot-same : (s b : List ℕ) → snapshot_of s b q ≡ snapshot_of s b r
   unfolding snapshot_of

@@ -4,7 +4,7 @@ use Prim.Native.Nat.{ℕ, ◌<◌}
 use mathlib.Core.Path.{◌≡◌, refl, sym, ap, ◌∙◌}
 use mathlib.Core.Bool.{Bool, true, false, cond}
 use mathlib.Core.List.{List, [], ◌∷◌}
-use mathlib.Core.Option.{Option, none, some}
+use Rattle.std.specs.Prelude.{Option, None, Some}
 use native.Mathlib.Omega.{arith}
 use lib.Dec.{eqb}
 use lib.ListN.{length}
@@ -151,8 +151,8 @@ sound-framed n b sd i k room j d = go (lines_in b i) refl
   where
     go : (o : Option Line) → lines_in b i ≡ o → touched (taken_of (messages_of k) (told_on b (letter_of o) (messages_of k))) (page_symbol (page_at b j)) ≡ false
         → page_at (advance_on i k o (messages_on (letter_of o) (messages_of k) b)) j ≡ page_at b j
-    go none e t = absurd (take_done (rest_in b) (listed_of (pages_in b)) i k room (rw (number_same n b sd (take i k room)) at d) e)
-    go (some r) e t =
+    go None e t = absurd (take_done (rest_in b) (listed_of (pages_in b)) i k room (rw (number_same n b sd (take i k room)) at d) e)
+    go (Some r) e t =
         let g = line-open b i r e in
         let u : upper r.letter ≡ true = line-upper r g.1 in
         let b₁ : List ℕ = messages_on r.letter (messages_of k) b in

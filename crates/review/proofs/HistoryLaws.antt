@@ -5,7 +5,7 @@ use mathlib.Core.Path.{◌≡◌, refl, sym, ap, ◌∙◌}
 use mathlib.Core.Bool.{Bool, true, false, ◌&&◌, cond}
 use mathlib.Core.Logic.{inl, inr}
 use mathlib.Core.List.{List, [], ◌∷◌}
-use mathlib.Core.Option.{Option, none, some}
+use Rattle.std.specs.Prelude.{Option, None, Some}
 use lib.Dec.{eqb}
 use lib.ListN.{length}
 use Rattle.lists.specs.Lists.{collect, cons_option, map_option, member}
@@ -32,7 +32,7 @@ newest-stands : (m : ℕ) (q : Quote) (qs : List Quote) → map_option (standing
 unfolding standing empty_quote with_times with_condition
 newest-stands m q qs = go (empty_quote q)
   where
-    go : (u : Bool) → map_option (standing_maker m (λ c. c)) (latest (cond u [] (q ∷ qs))) ≡ cond u none (some (as_maker m (with_times (run_time (q ∷ qs)) q)))
+    go : (u : Bool) → map_option (standing_maker m (λ c. c)) (latest (cond u [] (q ∷ qs))) ≡ cond u None (Some (as_maker m (with_times (run_time (q ∷ qs)) q)))
     go true = refl
     go false = refl
 
@@ -52,8 +52,8 @@ maker-maker t k q h s m = go (eqb t s && eqb k m)
 
 mark-standing : (m c : ℕ) (d : ℕ → ℕ) (o : Option Quote) → map_option (standing_maker m (λ _. c)) o ≡ map_option (marked c) (map_option (standing_maker m d) o)
 unfolding with_condition
-mark-standing m c d none = refl
-mark-standing m c d (some q) = refl
+mark-standing m c d None = refl
+mark-standing m c d (Some q) = refl
 
 pub maker-finra : (c : ℕ) (h : List Part) (s m : ℕ) → maker_of (finra_part c ∷ h) s m ≡ map_option (marked c) (maker_of h s m)
 unfolding maker_of maker_quotes condition_of
@@ -117,15 +117,15 @@ name-distinct n xs d = go (member xs n) refl
     go true e = d
     go false e = (λ y m p. clash (sym (in-member y xs m) ∙ ap (λ (k : ℕ). member xs k) p ∙ e), d)
 
-last-named : (h : List Part) (s m : ℕ) (q : Quote) → latest (maker_quotes h s m) ≡ some q → In m (names_of h s)
+last-named : (h : List Part) (s m : ℕ) (q : Quote) → latest (maker_quotes h s m) ≡ Some q → In m (names_of h s)
 unfolding maker_quotes names_of
 last-named [] s m q e = clash (cc)
 last-named (round_part t k r ∷ h) s m q e = last-named h s m q e
 last-named (odd_part t k o ∷ h) s m q e = last-named h s m q e
 last-named (maker_part t k r ∷ h) s m q e = go (eqb t s) (cut k m) (last-named h s m q) e
   where
-    go : (b : Bool) → Cut k m → (latest (maker_quotes h s m) ≡ some q → In m (names_of h s))
-        → latest (cond (b && eqb k m) (cond (empty_quote r) [] (r ∷ maker_quotes h s m)) (maker_quotes h s m)) ≡ some q
+    go : (b : Bool) → Cut k m → (latest (maker_quotes h s m) ≡ Some q → In m (names_of h s))
+        → latest (cond (b && eqb k m) (cond (empty_quote r) [] (r ∷ maker_quotes h s m)) (maker_quotes h s m)) ≡ Some q
         → In m (cond b (with_name k (names_of h s)) (names_of h s))
     go true (equal u p) down e = rw (sym p) (name_new k (names_of h s))
     go true (apart u p) down e = name-old k m (names_of h s) (down (rw u at e))
@@ -147,37 +147,37 @@ names-distinct (finra_part c ∷ h) s = names-distinct h s
 names-distinct (status_part t x ∷ h) s = names-distinct h s
 
 -- a maker that stands has its name, and its name is among the history's
-standing-name : (m : ℕ) (c : ℕ → ℕ) (o : Option Quote) (x : Maker) → map_option (standing_maker m c) o ≡ some x → (x.name ≡ m) × ((q : Quote) × (o ≡ some q))
-standing-name m c none x e = clash (cc)
-standing-name m c (some q) x e = (ap (λ (o : Option Maker). elim o [ none ↦ 0 | some y ↦ y.name ]) (sym e), (q, refl))
+standing-name : (m : ℕ) (c : ℕ → ℕ) (o : Option Quote) (x : Maker) → map_option (standing_maker m c) o ≡ Some x → (x.name ≡ m) × ((q : Quote) × (o ≡ Some q))
+standing-name m c None x e = clash (cc)
+standing-name m c (Some q) x e = (ap (λ (o : Option Maker). elim o [ None ↦ 0 | Some y ↦ y.name ]) (sym e), (q, refl))
 
-pub maker-name : (h : List Part) (s m : ℕ) (x : Maker) → maker_of h s m ≡ some x → x.name ≡ m
+pub maker-name : (h : List Part) (s m : ℕ) (x : Maker) → maker_of h s m ≡ Some x → x.name ≡ m
 unfolding maker_of
 maker-name h s m x e = (standing-name m (condition_of h s m) (latest (maker_quotes h s m)) x e).0
 
-maker-named : (h : List Part) (s m : ℕ) (x : Maker) → maker_of h s m ≡ some x → In m (names_of h s)
+maker-named : (h : List Part) (s m : ℕ) (x : Maker) → maker_of h s m ≡ Some x → In m (names_of h s)
 unfolding maker_of
 maker-named h s m x e = let r = (standing-name m (condition_of h s m) (latest (maker_quotes h s m)) x e).1 in last-named h s m r.0 r.1
 
-pub in-makers : (h : List Part) (s : ℕ) (x : Maker) → In x (makers_of h s) → maker_of h s x.name ≡ some x
+pub in-makers : (h : List Part) (s : ℕ) (x : Maker) → In x (makers_of h s) → maker_of h s x.name ≡ Some x
 unfolding makers_of
 in-makers h s x m =
     let r = in-collect (maker_of h s) x (names_of h s) m in
     ap (maker_of h s) (maker-name h s r.0 x r.2) ∙ r.2
 
-pub makers-in : (h : List Part) (s m : ℕ) (x : Maker) → maker_of h s m ≡ some x → In x (makers_of h s)
+pub makers-in : (h : List Part) (s m : ℕ) (x : Maker) → maker_of h s m ≡ Some x → In x (makers_of h s)
 unfolding makers_of
 makers-in h s m x e = collect-in (maker_of h s) m x (names_of h s) (maker-named h s m x e) e
 
 -- a collection over distinct names is distinct
-collect-distinct : (f : ℕ → Option Maker) → ((m : ℕ) (x : Maker) → f m ≡ some x → x.name ≡ m) → (xs : List ℕ)
+collect-distinct : (f : ℕ → Option Maker) → ((m : ℕ) (x : Maker) → f m ≡ Some x → x.name ≡ m) → (xs : List ℕ)
     → Distinct (λ (k : ℕ). k) xs → Distinct (λ (x : Maker). x.name) (collect f xs)
 collect-distinct f n [] d = tt
 collect-distinct f n (k ∷ ks) d = go (f k) refl (collect-distinct f n ks d.1)
   where
     go : (o : Option Maker) → f k ≡ o → Distinct (λ (x : Maker). x.name) (collect f ks) → Distinct (λ (x : Maker). x.name) (cons_option o (collect f ks))
-    go none e r = r
-    go (some x) e r =
+    go None e r = r
+    go (Some x) e r =
         (λ y m p. let s = in-collect f y ks m in d.0 s.0 s.1 (sym (n s.0 y s.2) ∙ p ∙ n k x e), r)
 
 pub makers-distinct : (h : List Part) (s : ℕ) → Distinct (λ (x : Maker). x.name) (makers_of h s)
@@ -198,8 +198,8 @@ module _ (h : List Part) (s : ℕ) (cs : List (Option Maker)) (sole : Sole cs) (
 
   one_name : (a b : Maker) → In a (occupied cs) → In b (occupied cs) → a.name ≡ b.name → a ≡ b
   one_name a b m n p =
-      let e : find_maker a.name cs ≡ some a = in-find a cs sole m in
-      let f : find_maker b.name cs ≡ some b = in-find b cs sole n in
+      let e : find_maker a.name cs ≡ Some a = in-find a cs sole m in
+      let f : find_maker b.name cs ≡ Some b = in-find b cs sole n in
       let g : find_maker a.name cs ≡ find_maker b.name cs = ap (λ (k : ℕ). find_maker k cs) p in
       cc
 

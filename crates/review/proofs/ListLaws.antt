@@ -4,7 +4,7 @@ use Prim.Native.Nat.{ℕ}
 use mathlib.Core.Path.{◌≡◌, refl, sym, ap, ◌∙◌}
 use mathlib.Core.Bool.{Bool, true, false, cond}
 use mathlib.Core.List.{List, [], ◌∷◌, ◌++◌, map}
-use mathlib.Core.Option.{Option, none}
+use Rattle.std.specs.Prelude.{Option, None}
 use lib.Dec.{eqb}
 use lib.ListN.{length-replicate}
 use borrow.Author.Tests.{ne_eqb}
@@ -29,7 +29,7 @@ blank-good s k p h q =
     record {
       quotes = λ l. sym (ap held (silent-rounds s l h q));
       sole = empty-sole maker_count;
-      size = length-replicate {A = Option Maker} maker_count none;
+      size = length-replicate {A = Option Maker} maker_count None;
       makers = λ m. empty-find m maker_count ∙ sym (silent-maker s m h q);
       levels = λ l. sym (silent-levels s l h q);
       halted = sym (silent-halted s h q);

@@ -4,7 +4,7 @@ use Prim.Native.Nat.{ℕ}
 use mathlib.Core.Path.{◌≡◌, refl}
 use mathlib.Core.Bool.{Bool, true, false, ◌&&◌, cond}
 use mathlib.Core.List.{List, [], ◌∷◌, ◌++◌}
-use mathlib.Core.Option.{Option, none, some}
+use Rattle.std.specs.Prelude.{Option, None, Some, Result, Ok, Err}
 use lib.Dec.{ltb, leb, eqb}
 use lib.ListN.{length}
 use Rattle.quote.specs.Quote.{empty_quote}
@@ -21,10 +21,10 @@ use Rattle.message.specs.Message.{quote_at, maker_name, round_lot_odd, odd_lot_o
 use Rattle.message.proofs.SpokenLaws.{Spoken, refused, idle, finra, round, odd, maker, status, spoken}
 use Rattle.block.specs.Block.{count_in, sequence_in, checksum_of, length_good, table_good, control_among, checked, idle_block, answer_length}
 use Rattle.block.specs.Sequence.{arrival_of}
-use Rattle.block.specs.declared.Checked.{Checked}
-use Rattle.block.specs.declared.Checked.TheVariants as checks
+use Rattle.numbers.specs.declared.Refusal.{Refusal}
+use Rattle.numbers.specs.Numbers as numbers
+use Rattle.numbers.specs.declared.Refusal.TheVariants as refusal
 use Rattle.block.specs.declared.Arrival.{Arrival}
-use Rattle.block.specs.declared.Arrival.TheVariants.{Taken, Duplicate}
 use Rattle.opening.specs.declared.Line.{Line}
 use Rattle.opening.specs.Opening.{sound, Rest, rest_in, pages_in}
 use Rattle.line.specs.Line.{arrival_number_of, line_number, checked_number_of, block_number, on_line}
@@ -65,8 +65,8 @@ unfolding odd_code odd_bad member
 odd-known lot v o = either (eqb (odd_bad lot o) 0) (fifth-known (odd_on o v)) bad
   where
     fifth-known : (w : Option Standing) → Among codes (fifth w)
-    fifth-known none = in-codes 64 refl
-    fifth-known (some w) = in-codes 0 refl
+    fifth-known None = in-codes 64 refl
+    fifth-known (Some w) = in-codes 0 refl
 
     bad : Among codes (odd_bad lot o)
     bad =
@@ -114,35 +114,35 @@ module _ (i : ℕ) (b : List ℕ) (room : ℕ) where
   abbrev InTake : ℕ → Type 0
   InTake k = Among (numbers_of (take i b room)) k
 
-  arrival-known : (used : Bool) (a : Arrival) → InTake (arrival_number_of used a)
+  arrival-known : (used : Bool) (a : Option Arrival) → InTake (arrival_number_of used a)
   unfolding member
-  arrival-known used (Taken gap next) = either used (among refl) (either (eqb gap 0) (among refl) (among refl))
-  arrival-known used Duplicate = among refl
+  arrival-known used (Some a) = either used (among refl) (either (eqb a.gap 0) (among refl) (among refl))
+  arrival-known used None = among refl
 
   line_known : (r : Line) (day used : Bool) → InTake (line_number r day used b)
   unfolding line_number member
   line_known r day used = either (idle_block b) (among refl) (either day (arrival-known used (arrival_of (sequence_in b) r.expected (count_in b))) (among refl))
 
   -- 30 to 34, each where its check refuses
-  check : (r : Line) (day used : Bool) (t : Bool) (x : Checked) (k : ℕ) → InTake k → InTake (checked_number_of r day used b x) → InTake (checked_number_of r day used b (cond t x (checks.Refused k)))
+  check : (r : Line) (day used : Bool) (t : Bool) (x : Result ℕ Refusal) (k : Refusal) → InTake (numbers.number_of k) → InTake (checked_number_of r day used b x) → InTake (checked_number_of r day used b (cond t x (Err k)))
   check r day used true x k a c = c
   check r day used false x k a c = a
 
   block-known : (r : Line) (day used : Bool) → InTake (block_number r day used b)
   unfolding block_number checked member
   block-known r day used =
-      check r day used (length_good b) _ 30 (among refl)
-      (check r day used (eqb (at b 0) 1) _ 31 (among refl)
-      (check r day used (eqb (checksum_of b) (field b 8 2)) _ 32 (among refl) (check r day used (table_good b) _ 33 (among refl) (alone (control_among b)))))
+      check r day used (length_good b) _ refusal.BlockLength (among refl)
+      (check r day used (eqb (at b 0) 1) _ refusal.Version (among refl)
+      (check r day used (eqb (checksum_of b) (field b 8 2)) _ refusal.Checksum (among refl) (check r day used (table_good b) _ refusal.Offsets (among refl) (alone (control_among b)))))
     where
-      alone : (t : Bool) → InTake (checked_number_of r day used b (cond t (checks.Refused 34) (checks.Pass (count_in b))))
+      alone : (t : Bool) → InTake (checked_number_of r day used b (cond t (Err refusal.ControlNotAlone) (Ok (count_in b))))
       alone true = among refl
       alone false = line_known r day used
 
   on-known : (day used : Bool) (o : Option Line) → InTake (on_line day used b o)
   unfolding member
-  on-known day used none = among refl
-  on-known day used (some r) = block-known r day used
+  on-known day used None = among refl
+  on-known day used (Some r) = block-known r day used
 
 -- a venue's block
 venue-among : (ns : List ℕ) (v : List ℕ) → Among ns 0 → Among ns 79 → Among ns 78 → Among ns (venue_number v)

@@ -4,7 +4,7 @@ use Prim.Native.Nat.{ℕ}
 use mathlib.Core.Path.{◌≡◌, refl, sym, ap, ◌∙◌}
 use mathlib.Core.Bool.{Bool, true, false, cond}
 use mathlib.Core.List.{List, [], ◌∷◌, map}
-use mathlib.Core.Option.{Option, none, some}
+use Rattle.std.specs.Prelude.{Option, None, Some}
 use lib.Dec.{eqb}
 use borrow.Author.Tests.{eq-eqb, ne_eqb}
 use Rattle.quote.proofs.OverLaws.{over-empty}
@@ -86,8 +86,8 @@ module _ (h : List Part) (r : Reading) (g : Good h r) where
 
       -- a quote is as empty over the one that stands as by itself
       same-empty : (o : Option Maker) → empty_quote (maker_over o q) ≡ empty_quote q
-      same-empty none = refl
-      same-empty (some x) = over-empty x.quote q
+      same-empty None = refl
+      same-empty (Some x) = over-empty x.quote q
 
       room-over : Room m q r.cells → Room m new r.cells
       room-over f = room-same m q new r.cells (same-empty (find_maker m r.cells)) f
@@ -187,14 +187,14 @@ module _ (p : Part) (s : ℕ) (h : List Part) (of : Of s p) where
       go (apart t q) down = (other-good p s h r of q g.0, down (rw t at e) g.1)
 
   on-good : (k : Reading → Reading) (rs : List Reading) → Apart (listed_of rs) → AllGood h rs
-      → ((r : Reading) → find_reading s rs ≡ some r → r.symbol ≡ s → Good h r → Good (p ∷ h) (k r))
+      → ((r : Reading) → find_reading s rs ≡ Some r → r.symbol ≡ s → Good h r → Good (p ∷ h) (k r))
       → AllGood (p ∷ h) (on_reading s k rs)
   unfolding listed_of find_reading is_listed
   on-good k [] a g this = tt
   on-good k (r ∷ rs) a g this = go (cut r.symbol s) (on-good k rs a.1 g.1)
     where
       go : Cut r.symbol s
-          → (((q : Reading) → find_reading s rs ≡ some q → q.symbol ≡ s → Good h q → Good (p ∷ h) (k q)) → AllGood (p ∷ h) (on_reading s k rs))
+          → (((q : Reading) → find_reading s rs ≡ Some q → q.symbol ≡ s → Good h q → Good (p ∷ h) (k q)) → AllGood (p ∷ h) (on_reading s k rs))
           → AllGood (p ∷ h) (cond (eqb r.symbol s) (k r ∷ rs) (r ∷ on_reading s k rs))
       go (equal t e) down = rw t (this r (rw t) e g.0, others-good rs (ap (λ (j : ℕ). is_listed j (listed_of rs)) (sym e) ∙ a.0) g.1)
       go (apart t e) down = rw t (other-good p s h r of e g.0, down (λ q w. this q (rw t w)))
@@ -230,8 +230,8 @@ part-listed (status_part s x) rs = on-listed s (status_reading x) rs (λ r. refl
 -- ---- one part
 
 abbrev pub cells_in : Option Reading → List (Option Maker)
-cells_in none = []
-cells_in (some r) = r.cells
+cells_in None = []
+cells_in (Some r) = r.cells
 
 -- a Q U has room
 abbrev pub RoomFor : Part → List Reading → Type 0

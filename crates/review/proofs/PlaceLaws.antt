@@ -11,8 +11,7 @@ use lib.Dec.{eqb}
 use lib.ListN.{length}
 use borrow.Author.Tests.{eq-eqb}
 use Rattle.lists.specs.Lists.{range, first_from}
-use Rattle.lists.specs.declared.Found.{Found}
-use Rattle.lists.specs.declared.Found.TheVariants.{At, Nothing}
+use Rattle.std.specs.Prelude.{Some, None, Option}
 use Rattle.lists.proofs.Tests.{clash}
 use Rattle.lists.proofs.Members.{In}
 use Rattle.update.specs.Parts.{Reading, reading_of}
@@ -27,15 +26,15 @@ use Rattle.review.proofs.Agree.{Apart}
 use Rattle.review.proofs.OnceLaws.{once-first}
 use Rattle.page.specs.Layout.{page_length}
 
-abbrev pub place_in : ℕ → ℕ → List Listed → Found
-place_in s i [] = Nothing
-place_in s i (x ∷ xs) = cond (eqb x.symbol s) (At i) (place_in s (suc i) xs)
+abbrev pub place_in : ℕ → ℕ → List Listed → Option ℕ
+place_in s i [] = None
+place_in s i (x ∷ xs) = cond (eqb x.symbol s) (Some i) (place_in s (suc i) xs)
 
 place-from : (f : ℕ → Reading) (s n i : ℕ) → first_from (λ k. eqb (f k).symbol s) i n ≡ place_in s i (listed_of (map f (range n i)))
 unfolding first_from listed_of
 place-from f s zero i = refl
 place-from f s (suc n) i =
-    ap (λ (x : Found). cond (eqb (f i).symbol s) (At i) x) (ap (λ (j : ℕ). first_from (λ k. eqb (f k).symbol s) j n) (add-one i) ∙ place-from f s n (suc i))
+    ap (λ (x : Option ℕ). cond (eqb (f i).symbol s) (Some i) x) (ap (λ (j : ℕ). first_from (λ k. eqb (f k).symbol s) j n) (add-one i) ∙ place-from f s n (suc i))
 
 pub place_is : (b : List ℕ) (s : ℕ) → Apart (listed_of (pages_in b)) → page_place b s ≡ place_in s 0 (listed_of (pages_in b))
 unfolding first_place pages_in reading_of
@@ -56,6 +55,6 @@ pub listed-page : (n : ℕ) (b : List ℕ) → Sound n b → (s : ℕ) → is_li
 unfolding page_of
 listed-page n b sd s e = go (page_place b s) refl
   where
-    go : (o : Found) → page_place b s ≡ o → length (bytes_at b o) ≡ page_length
-    go (At k) p = length-page n b sd k (omega (arith, (place-hit b s k p).0, sd.count))
-    go Nothing p = clash (sym e ∙ listed_at b s ∙ ap is_at p)
+    go : (o : Option ℕ) → page_place b s ≡ o → length (bytes_at b o) ≡ page_length
+    go (Some k) p = length-page n b sd k (omega (arith, (place-hit b s k p).0, sd.count))
+    go None p = clash (sym e ∙ listed_at b s ∙ ap is_at p)

@@ -4,13 +4,11 @@ use Prim.Native.Nat.{ℕ, zero, suc, ◌≤◌}
 use mathlib.Core.Path.{◌≡◌, refl, sym, ap, ◌∙◌}
 use mathlib.Core.Bool.{Bool, true, false, not, ◌&&◌, cond}
 use mathlib.Core.List.{List, [], ◌∷◌}
-use mathlib.Core.Option.{Option, none, some}
+use Rattle.std.specs.Prelude.{Option, None, Some}
 use lib.ListN.{length}
 use Rattle.field.specs.Field.{be, be_bytes}
 use Rattle.field.specs.Ascii.{A, D, S}
 use Rattle.lists.specs.Lists.{map_option, or_else, is_some, member, collect, range, cons_option}
-use Rattle.lists.specs.declared.Found.{Found}
-use Rattle.lists.specs.declared.Found.TheVariants.{At, Nothing}
 use Rattle.lists.proofs.Members.{In}
 use Rattle.lists.proofs.Tests.{clash}
 use Rattle.text.specs.Form.{symbol_good, symbol_length}
@@ -42,10 +40,10 @@ use Rattle.review.proofs.RunLaws.{after-agrees, held-symbol}
 
 -- a list of round parts that a condition tells
 letter-shown : (l : ℕ) (rs : List Quote) → is_quoted (or_else (latest rs) no_quote).condition ≡ is_some (latest rs) → (t : Bool)
-    → cond (not t && is_quoted (or_else (latest rs) no_quote).condition) (some (shown_of l (or_else (latest rs) no_quote))) none ≡ cond t none (map_option (shown_of l) (newest rs))
+    → cond (not t && is_quoted (or_else (latest rs) no_quote).condition) (Some (shown_of l (or_else (latest rs) no_quote))) None ≡ cond t None (map_option (shown_of l) (newest rs))
 letter-shown l rs e true = refl
 letter-shown l [] e false = refl
-letter-shown l (q ∷ qs) e false = ap (λ (t : Bool). cond t (some (shown_of l (or_else (latest (q ∷ qs)) no_quote))) none) e ∙ ap some (newest-shown l q qs)
+letter-shown l (q ∷ qs) e false = ap (λ (t : Bool). cond t (Some (shown_of l (or_else (latest (q ∷ qs)) no_quote))) None) e ∙ ap Some (newest-shown l q qs)
 
 module _ (n : ℕ) (cs : List Call) (s : ℕ) where
   abbrev h : List Part
@@ -72,20 +70,20 @@ module _ (n : ℕ) (b : List ℕ) (v : Review) (a : Agrees n b v) (x : List ℕ)
   listed : is_listed (be x) (listed_of (pages_in b)) ≡ true
   listed = ap (is_listed (be x)) a.held.listed ∙ l
 
-  place : (k : ℕ) × (page_place b (be x) ≡ At k)
+  place : (k : ℕ) × (page_place b (be x) ≡ Some k)
   place = go (page_place b (be x)) refl (sym (listed_at b (be x)) ∙ listed)
     where
-      go : (r : Found) → page_place b (be x) ≡ r → is_at r ≡ true → (k : ℕ) × (page_place b (be x) ≡ At k)
-      go (At k) e t = (k, e)
-      go Nothing e t = clash (sym t)
+      go : (r : Option ℕ) → page_place b (be x) ≡ r → is_at r ≡ true → (k : ℕ) × (page_place b (be x) ≡ Some k)
+      go (Some k) e t = (k, e)
+      go None e t = clash (sym t)
 
   pub decodes : (room : ℕ) → (call b (snapshot_len x)).answer.amount ≤ room
       → ((call b (snapshot x room)).answer.number ≡ 0)
-      × (decoded (call b (snapshot x room)).answer.output ≡ some (carried (snapshot_of x (reviewed v.history (be x)) (quote_of (parts v.history) (be x)))))
+      × (decoded (call b (snapshot x room)).answer.output ≡ Some (carried (snapshot_of x (reviewed v.history (be x)) (quote_of (parts v.history) (be x)))))
   decodes room m =
       let w : Written b x place.0 (sound-is n b a.sound) g place.1 a.bytes room = feed-written b x place.0 (sound-is n b a.sound) g place.1 a.bytes room m in (
         w.number,
-        w.decodes ∙ ap (λ (f : Snapshot). some (carried f)) (sym (feed-at b x place.0 place.1) ∙ feed-same n b v.history a.sound a.bytes a.held.core x listed),
+        w.decodes ∙ ap (λ (f : Snapshot). Some (carried f)) (sym (feed-at b x place.0 place.1) ∙ feed-same n b v.history a.sound a.bytes a.held.core x listed),
       )
 
 -- ---- after every list of calls
@@ -100,8 +98,8 @@ module _ (m : List ℕ) (n : ℕ) (made : (call m (make n)).answer.number ≡ 0)
   -- for each symbol that the reviewer holds, into an output of the length that is told beforehand, or a longer one
   pub recovery : (y : Listed) → In y v.symbols → (room : ℕ) → (call b (snapshot_len (be_bytes symbol_length y.symbol))).answer.amount ≤ room
       → ((call b (snapshot (be_bytes symbol_length y.symbol) room)).answer.number ≡ 0)
-      × (decoded (call b (snapshot (be_bytes symbol_length y.symbol) room)).answer.output ≡ some (recovered v.history (be_bytes symbol_length y.symbol) y.symbol))
+      × (decoded (call b (snapshot (be_bytes symbol_length y.symbol) room)).answer.output ≡ Some (recovered v.history (be_bytes symbol_length y.symbol) y.symbol))
   recovery y i room e =
       let w = held-symbol n cs y i in
       let d = decodes n b v (after-agrees m n made cs z) (be_bytes symbol_length y.symbol) w.0 (ap (λ (k : ℕ). is_listed k v.symbols) w.1.0 ∙ w.1.1) room e in
-      (d.0, d.1 ∙ ap some (carried-recovered n cs (be (be_bytes symbol_length y.symbol)) (be_bytes symbol_length y.symbol) ∙ ap (recovered v.history (be_bytes symbol_length y.symbol)) w.1.0))
+      (d.0, d.1 ∙ ap Some (carried-recovered n cs (be (be_bytes symbol_length y.symbol)) (be_bytes symbol_length y.symbol) ∙ ap (recovered v.history (be_bytes symbol_length y.symbol)) w.1.0))

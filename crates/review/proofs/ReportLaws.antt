@@ -4,7 +4,7 @@ use Prim.Native.Nat.{ℕ, ◌≤◌}
 use mathlib.Core.Path.{◌≡◌, refl, sym, ap, ◌∙◌, subst}
 use mathlib.Core.Bool.{Bool, true, false, ◌&&◌, cond}
 use mathlib.Core.List.{List, []}
-use mathlib.Core.Option.{Option, none, some}
+use Rattle.std.specs.Prelude.{Option, None, Some}
 use native.Mathlib.Omega.{arith}
 use lib.Dec.{leb, ltb, eqb}
 use lib.ListN.{length}
@@ -74,8 +74,8 @@ of-each P f g tick = f tick refl
 
 module _ (r : Rest) (lot : ℕ → ℕ) (ts : ℕ → List (List ℕ) → List Told) (p : ℕ → List ℕ) (cs : ℕ → Side → ℕ → Option Candidate) (qs : ℕ → ℕ → Quote) (k : ℕ) where
   line-number : (b : List ℕ) (us : List Told) (o : Option Line) → (line_answer k b us o).number ≡ k
-  line-number b us none = refl
-  line-number b us (some x) = go (done k)
+  line-number b us None = refl
+  line-number b us (Some x) = go (done k)
     where
       go : (t : Bool) → (cond {A = Answer} t (report k (gap_told x b) (advanced x b) us) (report k 0 x [])).number ≡ k
       go true = refl
@@ -186,8 +186,8 @@ Fills a = (a.answers ≡ []) × (a.publication ≡ []) × (a.found ≡ 0) × (a.
 
 line-empty : (k : ℕ) (b : List ℕ) (ts : List Told) (o : Option Line) → done k ≡ false → Fills (line_answer k b ts o)
 unfolding quads
-line-empty k b ts none e = (refl, refl, refl, refl, refl)
-line-empty k b ts (some r) e = rw e (refl, refl, refl, refl, refl)
+line-empty k b ts None e = (refl, refl, refl, refl, refl)
+line-empty k b ts (Some r) e = rw e (refl, refl, refl, refl, refl)
 
 answer-empty : (r : Rest) (lot : ℕ → ℕ) (ts : ℕ → List (List ℕ) → List Told) (p : ℕ → List ℕ) (cs : ℕ → Side → ℕ → Option Candidate) (qs : ℕ → ℕ → Quote) (k : ℕ) (c : Call) → done k ≡ false → Fills (answer_of r lot ts p cs qs k c)
 unfolding answer_of
@@ -258,9 +258,9 @@ made-only m n = go (leb 1 n) refl (leb n symbols_most) refl (eqb (length m) (boo
 
 -- ---- an odd part with code 0 is one that the levels take
 
-pub odd-levels : (lot : ℕ) (v : Standing) (o : Odd) → odd_code lot v o ≡ 0 → (w : Standing) × (odd_on o v ≡ some w)
+pub odd-levels : (lot : ℕ) (v : Standing) (o : Odd) → odd_code lot v o ≡ 0 → (w : Standing) × (odd_on o v ≡ Some w)
 odd-levels lot v o e = go (odd_on o v) refl
   where
-    go : (w : Option Standing) → odd_on o v ≡ w → (u : Standing) × (odd_on o v ≡ some u)
-    go none q = absurd (let z : ◌≡◌ {A = ℕ} 64 0 = sym (ap fifth q) ∙ (odd-zero lot v o e).1 in omega arith)
-    go (some w) q = (w, q)
+    go : (w : Option Standing) → odd_on o v ≡ w → (u : Standing) × (odd_on o v ≡ Some u)
+    go None q = absurd (let z : ◌≡◌ {A = ℕ} 64 0 = sym (ap fifth q) ∙ (odd-zero lot v o e).1 in omega arith)
+    go (Some w) q = (w, q)

@@ -4,7 +4,7 @@ use Prim.Native.Nat.{ℕ}
 use mathlib.Core.Path.{◌≡◌, refl}
 use mathlib.Core.Bool.{Bool, false}
 use mathlib.Core.List.{List, [], ◌∷◌}
-use mathlib.Core.Option.{none}
+use Rattle.std.specs.Prelude.{None}
 use lib.Dec.{eqb}
 use Rattle.levels.specs.Levels.{no_levels}
 use Rattle.message.specs.Message.{Part, round_part, odd_part, maker_part, finra_part, status_part}
@@ -49,7 +49,7 @@ silent-quotes s m (maker_part t k q ∷ h) n = rw n.0 (silent-quotes s m h n.1)
 silent-quotes s m (finra_part c ∷ h) n = silent-quotes s m h n.1
 silent-quotes s m (status_part t x ∷ h) n = silent-quotes s m h n.1
 
-pub silent-maker : (s m : ℕ) (h : List Part) → Silent s h → maker_of h s m ≡ none
+pub silent-maker : (s m : ℕ) (h : List Part) → Silent s h → maker_of h s m ≡ None
 unfolding maker_of
 silent-maker s m h n = rw (silent-quotes s m h n)
 

@@ -4,7 +4,7 @@ use Prim.Native.Nat.{ℕ, zero, suc, ◌+◌, ◌*◌, ◌^◌, ◌≤◌, ◌<�
 use mathlib.Core.Path.{◌≡◌, refl, sym, ap, ◌∙◌}
 use mathlib.Core.Bool.{Bool, true, false, not, ◌&&◌, cond}
 use mathlib.Core.List.{List, [], ◌∷◌}
-use mathlib.Core.Option.{Option, none, some}
+use Rattle.std.specs.Prelude.{Option, None, Some}
 use native.Mathlib.Omega.{arith}
 use lib.Bits.{or_lt}
 use lib.Dec.{ltb, eqb, lit<}
@@ -16,7 +16,6 @@ use Rattle.entries.specs.Publication.{same_entry, flag, change_flags}
 use Rattle.message.specs.Message.{kind_of, symbol_of, partly_by, partly_taken}
 use Rattle.message.proofs.SpokenLaws.{partly-no}
 use Rattle.block.specs.Block.{count_in, messages_from, messages_of, messages_most, answer_length}
-use Rattle.block.specs.declared.Checked.TheVariants as checks
 use Rattle.block.proofs.CheckLaws.{Passed, passed}
 use Rattle.update.specs.Parts.{known_of}
 use Rattle.update.proofs.CellLaws.{member_below}
@@ -166,7 +165,7 @@ pub record BlockTold (k : List ℕ) (a : Answer) : Type 0 where
   pub bytes : Bytes a.answers
   pub quad : (j : ℕ) → j < count_in k → Quad a.answers j j
 
-line-told : (b : List ℕ) (q : ℕ) (k : List ℕ) (r : Line) (day used : Bool) → q ≡ block_number r day used k → done q ≡ true → BlockTold k (line_answer q k (told_on b r.letter (messages_of k)) (some r))
+line-told : (b : List ℕ) (q : ℕ) (k : List ℕ) (r : Line) (day used : Bool) → q ≡ block_number r day used k → done q ≡ true → BlockTold k (line_answer q k (told_on b r.letter (messages_of k)) (Some r))
 unfolding block_number
 line-told b q k r day used e d =
     let p : Passed k (count_in k) = passed k (count_in k) (taken-passes r day used k (sym (ap done e) ∙ d)) in
@@ -199,8 +198,8 @@ take-told b r ls i k room d = go (ltb room answer_length) (r.lines i) d
     go : (t : Bool) (o : Option Line) → done (cond t 9 (on_line r.day (is_used_up r.allowance i) k o)) ≡ true
         → BlockTold k (cond {A = Answer} (eqb (cond t 9 (on_line r.day (is_used_up r.allowance i) k o)) 9) (bare (cond t 9 (on_line r.day (is_used_up r.allowance i) k o))) (line_answer (cond t 9 (on_line r.day (is_used_up r.allowance i) k o)) k (told_on b (letter_of o) (messages_of k)) o))
     go true o d = clash (sym d)
-    go false none d = clash (sym d)
-    go false (some x) d = rw (done-nine (block_number x r.day (is_used_up r.allowance i) k) d) (line-told b (block_number x r.day (is_used_up r.allowance i) k) k x r.day (is_used_up r.allowance i) refl d)
+    go false None d = clash (sym d)
+    go false (Some x) d = rw (done-nine (block_number x r.day (is_used_up r.allowance i) k) d) (line-told b (block_number x r.day (is_used_up r.allowance i) k) k x r.day (is_used_up r.allowance i) refl d)
 
 -- whatever the bytes of the book and of the block
 pub block-told : (b : List ℕ) (i : ℕ) (k : List ℕ) (room : ℕ) → done (call b (take i k room)).answer.number ≡ true → BlockTold k (call b (take i k room)).answer

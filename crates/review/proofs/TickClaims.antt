@@ -6,7 +6,7 @@ use Prim.Native.Nat.{ℕ, zero, suc, ◌+◌, ◌≤◌, ◌<◌}
 use mathlib.Core.Path.{◌≡◌, refl, sym, ap, ◌∙◌, subst}
 use mathlib.Core.Bool.{Bool, true, false, not, ◌&&◌, cond}
 use mathlib.Core.List.{List, [], ◌∷◌}
-use mathlib.Core.Option.{Option, none, some}
+use Rattle.std.specs.Prelude.{Option, None, Some}
 use native.Mathlib.Omega.{arith}
 use lib.Dec.{eqb, ltb}
 use lib.ListN.{length, replicate, set, get_or-eq_default}
@@ -40,24 +40,24 @@ record Sure (r : Rest) : Type 0 where
   low : (i : ℕ) → is_some (r.lines i) ≡ true → i < line_count
 
 map-some : {A B : Type 0} (f : A → B) (o : Option A) → is_some (map_option f o) ≡ is_some o
-map-some f none = refl
-map-some f (some x) = refl
+map-some f None = refl
+map-some f (Some x) = refl
 
 module _ (r : Rest) (ls : List Listed) (s : Sure r) where
   take-low : (i : ℕ) (b : List ℕ) (room : ℕ) → done (number_of r ls (take i b room)) ≡ true → i < line_count
   take-low i b room d = go (r.lines i) refl
     where
       go : (o : Option Line) → r.lines i ≡ o → i < line_count
-      go none e = absurd (take_done r ls i b room d e)
-      go (some x) e = s.low i (ap is_some e)
+      go None e = absurd (take_done r ls i b room d e)
+      go (Some x) e = s.low i (ap is_some e)
 
   take-fair : (i : ℕ) (b : List ℕ) (room : ℕ) → done (number_of r ls (take i b room)) ≡ true → (t : Bool) → idle_block b ≡ t → Fair (cond t r.allowance (charged r.allowance i))
   take-fair i b room d true f = s.fair
   take-fair i b room d false f = go (r.lines i) refl
     where
       go : (o : Option Line) → r.lines i ≡ o → Fair (charged r.allowance i)
-      go none e = absurd (take_done r ls i b room d e)
-      go (some x) e = fair-charged r.allowance i s.fair (take-low i b room d) (take_left r ls i b room x d e f)
+      go None e = absurd (take_done r ls i b room d e)
+      go (Some x) e = fair-charged r.allowance i s.fair (take-low i b room d) (take_left r ls i b room x d e f)
 
   after-sure : (c : Call) → done (number_of r ls c) ≡ true → Sure (rest_after r c)
   unfolding rest_after
@@ -65,7 +65,7 @@ module _ (r : Rest) (ls : List Listed) (s : Sure r) where
   after-sure (add x k l) d = s
   after-sure (open_line i l) d = record { fair = s.fair; low = λ j e. go j (cut j i) e }
     where
-      go : (j : ℕ) → Cut j i → is_some (cond (eqb j i) (some (record { letter = l; expected = 1; count = 0 })) (r.lines j)) ≡ true → j < line_count
+      go : (j : ℕ) → Cut j i → is_some (cond (eqb j i) (Some (record { letter = l; expected = 1; count = 0 })) (r.lines j)) ≡ true → j < line_count
       go j (equal t q) e = let h = (open_done r ls i l d).0 in omega (arith, h, q)
       go j (apart t q) e = s.low j (rw t at e)
   after-sure start_day d = record { fair = s.fair; low = λ j e. s.low j (sym (map-some restart (r.lines j)) ∙ e) }
@@ -271,8 +271,8 @@ used-number r ls i b room = go (is_used_up r.allowance i) (ltb room answer_lengt
     go : (u t : Bool) (o : Option Line) → ◌≡◌ {A = ℕ} (cond t 9 (on_line r.day u b o)) 86 → u ≡ true
     go true t o e = refl
     go false true o e = absurd (omega arith)
-    go false false none e = absurd (omega arith)
-    go false false (some x) e = clash (sym (eq-eqb (block_number x r.day false b) 86 e) ∙ left-number x r.day b)
+    go false false None e = absurd (omega arith)
+    go false false (Some x) e = clash (sym (eq-eqb (block_number x r.day false b) 86 e) ∙ left-number x r.day b)
 
 used-set : (a : Allowance) (i : ℕ) → is_used_up a i ≡ true → eqb a.blocks 0 ≡ false
 unfolding is_used_up

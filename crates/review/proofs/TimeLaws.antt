@@ -4,7 +4,7 @@ use Prim.Native.Nat.{ℕ}
 use mathlib.Core.Path.{◌≡◌, refl, sym, ap, ◌∙◌, fun_ext}
 use mathlib.Core.Bool.{Bool, true, false, not, ◌&&◌, cond}
 use mathlib.Core.List.{List, [], ◌∷◌, map}
-use mathlib.Core.Option.{Option, none, some}
+use Rattle.std.specs.Prelude.{Option, None, Some}
 use native.Mathlib.Omega.{arith}
 use lib.Dec.{eqb, leb, ltb}
 use borrow.Author.Tests.{le-ltb, lt-ltb, leb-true, leb-false, ne_eqb}
@@ -117,7 +117,7 @@ time-of-run s q qs n = ap (λ (y : Level). y.time) (held-side s q qs) ∙ held-t
 -- a candidate's time is that of its side, and only of a side that counts
 times-candidate : (s : Side) (n : ℕ) (t : Side → ℕ) (q : Quote)
     → candidate_of s n (with_times t q)
-    ≡ cond (ltb 0 (side_of s q).price && ltb 0 (side_of s q).size && admits s q.condition) (some (level_candidate n q.condition (with_time (t s) (side_of s q)))) none
+    ≡ cond (ltb 0 (side_of s q).price && ltb 0 (side_of s q).size && admits s q.condition) (Some (level_candidate n q.condition (with_time (t s) (side_of s q)))) None
 unfolding candidate_of counts with_times
 times-candidate Bid n t q = refl
 times-candidate Offer n t q = refl
@@ -126,7 +126,7 @@ same-candidate : (s : Side) (n : ℕ) (t u : Side → ℕ) (q : Quote) → (((si
 same-candidate s n t u q e = times-candidate s n t q ∙ go (cut (side_of s q).price 0) ∙ sym (times-candidate s n u q)
   where
     seen : ℕ → Option Candidate
-    seen k = cond (ltb 0 (side_of s q).price && ltb 0 (side_of s q).size && admits s q.condition) (some (level_candidate n q.condition (with_time k (side_of s q)))) none
+    seen k = cond (ltb 0 (side_of s q).price && ltb 0 (side_of s q).size && admits s q.condition) (Some (level_candidate n q.condition (with_time k (side_of s q)))) None
 
     go : Cut (side_of s q).price 0 → seen (t s) ≡ seen (u s)
     go (equal x z) = rw (le-ltb 0 (side_of s q).price (omega arith))
@@ -140,7 +140,7 @@ held-candidate s n (q ∷ qs) = same-candidate s n (λ k. time_kept (side_of k (
 -- so each letter's candidate is the same
 pub held-letter : (rounds : ℕ → List Quote) (s : Side) (fb : Option Candidate) (l : ℕ) → letter_candidate s (λ k. held (rounds k)) fb l ≡ letter_candidate s (λ k. or_else (latest (rounds k)) no_quote) fb l
 unfolding letter_candidate
-held-letter rounds s fb l = ap (λ (o : Option Candidate). cond (eqb l D) (map_option as_d fb) (cond (eqb l S) none o)) (held-candidate s l (rounds l))
+held-letter rounds s fb l = ap (λ (o : Option Candidate). cond (eqb l D) (map_option as_d fb) (cond (eqb l S) None o)) (held-candidate s l (rounds l))
 
 -- and what is worked out from the national candidates: the best of them, and what put it ahead
 held-nationals : {A : Type 0} (f : Side → List Candidate → A) (rounds : ℕ → List Quote) (fb : Side → Option Candidate)

@@ -1,8 +1,6 @@
 -- Which symbols a block may touch: those that an accepted or partly accepted message in it names; an accepted FINRA Open or Close touches every symbol.
 -- Assumes nothing.
-use Rattle.std.specs.Prelude.{ℕ, Bool, true, false, cond, List, [], ◌∷◌, eqb}
-use Rattle.lists.specs.declared.Found.{Found}
-use Rattle.lists.specs.declared.Found.TheVariants.{At, Nothing}
+use Rattle.std.specs.Prelude.{ℕ, Bool, true, false, cond, List, [], ◌∷◌, eqb, Some, None, Option}
 use Rattle.message.specs.declared.Kind.{Kind}
 use Rattle.message.specs.declared.Kind.TheVariants as kind
 use Rattle.message.specs.Message.{kind_of, symbol_of}
@@ -52,9 +50,9 @@ taken_r v i k room =
     []
 
 -- "That a block changes nothing of a symbol means that no byte of its page changes": the bytes of a symbol's page
-abbrev pub bytes_at : List ℕ → Found → List ℕ
-bytes_at b (At k) = page_at b k
-bytes_at b Nothing = []
+abbrev pub bytes_at : List ℕ → Option ℕ → List ℕ
+bytes_at b (Some k) = page_at b k
+bytes_at b None = []
 
 unfoldable pub page_of : List ℕ → ℕ → List ℕ
 page_of b s = bytes_at b (page_place b s)

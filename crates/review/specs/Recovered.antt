@@ -1,7 +1,6 @@
 -- What a subscriber who recovers from a failure is to know of a symbol, from the history alone (document 02, T-12).
 -- Assumes nothing.
-use Rattle.std.specs.Prelude.{ℕ, cond, List, [], ◌∷◌}
-use Rattle.std.proofs.Math.Option.{Option, none, some}
+use Rattle.std.specs.Prelude.{ℕ, cond, List, [], ◌∷◌, Option, None, Some}
 use Rattle.field.specs.Ascii.{A, D, S}
 use Rattle.lists.specs.Lists.{map_option, member, collect, range}
 use Rattle.ranking.specs.declared.Side.TheVariants.{Bid, Offer}
@@ -13,12 +12,12 @@ use Rattle.snapshot.specs.Snapshot.{Shown, shown_of, Snapshot}
 use Rattle.review.specs.Reviewer.{parts, rounds_of, quote_of, makers_of, levels_of, halted_of}
 
 abbrev pub newest : List Quote → Option Quote
-newest [] = none
-newest (q ∷ qs) = some q
+newest [] = None
+newest (q ∷ qs) = Some q
 
 -- "each letter's latest condition, prices and sizes", of "each letter with a round quote since Start of Day"; FINRA's entries tell D's quotes, S has none
 abbrev pub latest_shown : List Part → ℕ → ℕ → Option Shown
-latest_shown h s l = cond (member (D ∷ S ∷ []) l) none (map_option (shown_of l) (newest (rounds_of h s l)))
+latest_shown h s l = cond (member (D ∷ S ∷ []) l) None (map_option (shown_of l) (newest (rounds_of h s l)))
 
 unfoldable pub letters_shown : List Part → ℕ → List Shown
 letters_shown h s = collect (latest_shown h s) (range 26 A)
@@ -32,7 +31,7 @@ unfoldable pub recovered : List (List ℕ) → List ℕ → ℕ → Snapshot
 recovered h x s =
     record {
       symbol = x;
-      national = record { bid = entry_bytes (national_name none) ((entries_told (parts h) s).national Bid); offer = entry_bytes (national_name none) ((entries_told (parts h) s).national Offer) };
+      national = record { bid = entry_bytes (national_name None) ((entries_told (parts h) s).national Bid); offer = entry_bytes (national_name None) ((entries_told (parts h) s).national Offer) };
       finra = record { bid = entry_bytes finra_name ((entries_told (parts h) s).finra Bid); offer = entry_bytes finra_name ((entries_told (parts h) s).finra Offer) };
       letters = letters_shown (parts h) s;
     }

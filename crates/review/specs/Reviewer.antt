@@ -2,8 +2,7 @@
 -- primary letters, the lines, the day, T-14's allowance and a history, and works every number, code, flag and entry out anew from these. The history is
 -- the accepted messages as bytes, the newest first.
 -- Assumes nothing.
-use Rattle.std.specs.Prelude.{ℕ, Bool, true, false, ◌&&◌, cond, List, [], ◌∷◌, ◌++◌, map, eqb, length, take as prefix}
-use Rattle.std.proofs.Math.Option.{Option, none, some}
+use Rattle.std.specs.Prelude.{ℕ, Bool, true, false, ◌&&◌, cond, List, [], ◌∷◌, ◌++◌, map, eqb, length, take as prefix, Option, None, Some}
 use Rattle.field.specs.Field.{be}
 use Rattle.field.specs.Ascii.{H, L, R}
 use Rattle.lists.specs.Lists.{map_option, or_else, is_some, collect, member}
@@ -176,14 +175,14 @@ pub record Review : Type 0 where
   pub history : List (List ℕ)
 
 abbrev pub set_line : ℕ → Line → (ℕ → Option Line) → ℕ → Option Line
-set_line i x lines j = cond (eqb j i) (some x) (lines j)
+set_line i x lines j = cond (eqb j i) (Some x) (lines j)
 
 abbrev pub restart : Line → Line
 restart x = record { letter = x.letter; expected = 1; count = 0 }
 
 -- "n, symbols, lines and day move as stated above", by a call that is done
 unfoldable pub rest_after : Rest → Call → Rest
-rest_after r (make n) = record { n = n; lines = λ i. none; day = false; allowance = no_allowance }
+rest_after r (make n) = record { n = n; lines = λ i. None; day = false; allowance = no_allowance }
 rest_after r (add s k l) = r
 rest_after r (open_line i l) = record { n = r.n; lines = set_line i (record { letter = l; expected = 1; count = 0 }) r.lines; day = r.day; allowance = r.allowance }
 -- "Start of Day keeps the allowance and its charges"
@@ -258,7 +257,7 @@ review_answer v c =
 
 -- "It starts with the make that gave the fresh book"
 abbrev pub fresh_review : ℕ → Review
-fresh_review n = record { rest = record { n = n; lines = λ i. none; day = false; allowance = no_allowance }; symbols = []; history = [] }
+fresh_review n = record { rest = record { n = n; lines = λ i. None; day = false; allowance = no_allowance }; symbols = []; history = [] }
 
 -- ---- lists of calls
 

@@ -1,8 +1,7 @@
 -- The time of a side, from the history alone (document 02, T-02): "a side's time is that of the first quote of its latest run with one price and sizes
 -- that don't rise". Lists of quotes and runs have the newest first, as the history has.
 -- Assumes nothing.
-use Rattle.std.specs.Prelude.{ℕ, Bool, not, ◌&&◌, cond, List, [], ◌∷◌, map, eqb, ltb}
-use Rattle.std.proofs.Math.Option.{Option, none, some}
+use Rattle.std.specs.Prelude.{ℕ, Bool, not, ◌&&◌, cond, List, [], ◌∷◌, map, eqb, ltb, Option, None, Some}
 use Rattle.ranking.specs.declared.Side.{Side}
 use Rattle.quote.specs.declared.Level.{Level}
 use Rattle.quote.specs.declared.Quote.{Quote}
@@ -29,5 +28,5 @@ run_time qs s = first_time (latest_run (map (side_of s) qs))
 
 -- the newest of these quotes, each side with its time
 abbrev pub latest : List Quote → Option Quote
-latest [] = none
-latest (q ∷ qs) = some (with_times (run_time (q ∷ qs)) q)
+latest [] = None
+latest (q ∷ qs) = Some (with_times (run_time (q ∷ qs)) q)

@@ -4,7 +4,7 @@ use Prim.Native.Nat.{ℕ, zero, suc, ◌+◌, ◌*◌, ◌-◌, ◌^◌, ◌≤�
 use mathlib.Core.Path.{◌≡◌, refl, sym, ap, ◌∙◌}
 use mathlib.Core.Bool.{Bool, true, false, not, ◌&&◌, cond}
 use mathlib.Core.List.{List, [], ◌∷◌}
-use mathlib.Core.Option.{Option, none, some}
+use Rattle.std.specs.Prelude.{Option, None, Some}
 use native.Mathlib.Omega.{arith}
 use native.Mathlib.Nat.{add-zero}
 use lib.Dec.{eqb, ltb, lit≤}
@@ -128,19 +128,19 @@ key_counts s q = go (side_of s q).price (side_of s q).size (admits s q.condition
         let k : key_of s (suc v) ≡ 0 → ⊥ = λ e. omega (arith, e, key-some s (suc v) (λ e. omega arith)) in
         rw (lt-ltb 0 (suc v) (omega arith), lt-ltb 0 (suc z) (omega arith), ne_eqb (suc z) 0 (λ e. omega arith), ne_eqb (key_of s (suc v)) 0 k)
 
-candidate-not : (s : Side) (n : ℕ) (q : Quote) → counts s q ≡ false → candidate_of s n q ≡ none
+candidate-not : (s : Side) (n : ℕ) (q : Quote) → counts s q ≡ false → candidate_of s n q ≡ None
 unfolding candidate_of
 candidate-not s n q e = rw e
 
 -- a side whose key is its own, or not
-candidate-by : (s : Side) (n : ℕ) (q r : Quote) (t : Bool) → q.condition ≡ r.condition → side_of s q ≡ agreed t (side_of s r) → candidate_of s n q ≡ cond t (candidate_of s n r) none
+candidate-by : (s : Side) (n : ℕ) (q r : Quote) (t : Bool) → q.condition ≡ r.condition → side_of s q ≡ agreed t (side_of s r) → candidate_of s n q ≡ cond t (candidate_of s n r) None
 unfolding candidate_of counts agreed
 candidate-by s n q r t e f = (λ j. told (e j) (f j)) ∙ go t
   where
     told : ℕ → Level → Option Candidate
-    told c v = cond (ltb 0 v.price && ltb 0 v.size && admits s c) (some (level_candidate n c v)) none
+    told c v = cond (ltb 0 v.price && ltb 0 v.size && admits s c) (Some (level_candidate n c v)) None
 
-    go : (t : Bool) → told r.condition (cond t (side_of s r) no_level) ≡ cond t (told r.condition (side_of s r)) none
+    go : (t : Bool) → told r.condition (cond t (side_of s r) no_level) ≡ cond t (told r.condition (side_of s r)) None
     go true = refl
     go false = refl
 
@@ -150,7 +150,7 @@ module _ (p : List ℕ) (l : ℕ) (h : A ≤ l) (k : l ≤ Z) (s : Side) where
   abbrev kept : Quote
   kept = quote_in (part p (slot_at l) quote_length)
 
-  candidate-agreed : (t : Bool) → eqb (low p (quote_key_at s l) key_length) (quote_key s kept) ≡ t → candidate_of s l (quotes_in p l) ≡ cond t (candidate_of s l kept) none
+  candidate-agreed : (t : Bool) → eqb (low p (quote_key_at s l) key_length) (quote_key s kept) ≡ t → candidate_of s l (quotes_in p l) ≡ cond t (candidate_of s l kept) None
   candidate-agreed t e = candidate-by s l (quotes_in p l) kept t (quote-condition p l h k) (quote-sides p l h k s ∙ ap (λ (u : Bool). agreed u (side_of s kept)) e)
 
   module _ (a c i : ℕ) (v : Level) (o : ℕ) (ea : a ≡ slot_at l) (ec : c ≡ field p a 1) (ei : i ≡ in_quote s) (ev : v ≡ level_in (part p (a + i) level_length)) (eo : o ≡ side_key s c v) where
@@ -172,7 +172,7 @@ module _ (p : List ℕ) (l : ℕ) (h : A ≤ l) (k : l ≤ Z) (s : Side) where
     pub quoted-idle : o ≡ 0 → no_candidate ≡ or_none (candidate_of s l (quotes_in p l))
     quoted-idle e = go (eqb (low p (quote_key_at s l) key_length) (quote_key s kept)) refl
       where
-        none_kept : candidate_of s l kept ≡ none
+        none_kept : candidate_of s l kept ≡ None
         none_kept = candidate-not s l kept (key_counts s kept ∙ ap (λ (x : ℕ). not (eqb x 0)) (own_key ∙ e))
 
         go : (t : Bool) → eqb (low p (quote_key_at s l) key_length) (quote_key s kept) ≡ t → no_candidate ≡ or_none (candidate_of s l (quotes_in p l))
@@ -193,10 +193,10 @@ module _ (p : List ℕ) (l : ℕ) (h : A ≤ l) (k : l ≤ Z) (s : Side) where
 
 -- ---- a side of a letter's levels
 
-option-clash : {A B : Type 0} {x : A} → none ≡ some x → B
+option-clash : {A B : Type 0} {x : A} → None ≡ Some x → B
 option-clash {A} {B} {x} e = clash (ap (λ (o : Option A). is_some o) (sym e))
 
-some_same : {A : Type 0} (x y : A) → some x ≡ some y → x ≡ y
+some_same : {A : Type 0} (x y : A) → Some x ≡ Some y → x ≡ y
 some_same {A} x y e = ap (λ (o : Option A). or_else o x) e
 
 -- the side's cells, where they stand
@@ -217,11 +217,11 @@ head-key s [] = refl
 head-key s (v ∷ vs) = refl
 
 -- the first of a side's levels, if its cell is not empty
-pub first_cell : (s : Side) (b : List ℕ) → first_of (side_in s b) ≡ cond (empty_cell (level_in (part b 0 level_length))) none (some (level_in (part b 0 level_length)))
+pub first_cell : (s : Side) (b : List ℕ) → first_of (side_in s b) ≡ cond (empty_cell (level_in (part b 0 level_length))) None (Some (level_in (part b 0 level_length)))
 unfolding side_in cells_in ranked part
 first_cell s b = go (empty_cell (level_in (take level_length b)))
   where
-    go : (t : Bool) → first_of (cond t [] (level_in (take level_length b) ∷ ranked s (some (level_in (take level_length b))) (cells_in 3 (drop level_length b)))) ≡ cond t none (some (level_in (take level_length b)))
+    go : (t : Bool) → first_of (cond t [] (level_in (take level_length b) ∷ ranked s (Some (level_in (take level_length b))) (cells_in 3 (drop level_length b)))) ≡ cond t None (Some (level_in (take level_length b)))
     go true = refl
     go false = refl
 
@@ -239,10 +239,10 @@ key-cell s v = go v.price v.size
         rw (ne_eqb (suc a) 0 (λ e. omega arith), ne_eqb (suc z) 0 (λ e. omega arith), ne_eqb (key_of s (suc a)) 0 k)
 
 -- the key of a side by its first level
-first-by : (s : Side) (vs : List Level) (v : Level) → first_of vs ≡ cond (empty_cell v) none (some v) → first_key s vs ≡ level_key s v
+first-by : (s : Side) (vs : List Level) (v : Level) → first_of vs ≡ cond (empty_cell v) None (Some v) → first_key s vs ≡ level_key s v
 first-by s vs v e = go vs (empty_cell v) refl e
   where
-    go : (vs : List Level) (t : Bool) → empty_cell v ≡ t → first_of vs ≡ cond t none (some v) → first_key s vs ≡ level_key s v
+    go : (vs : List Level) (t : Bool) → empty_cell v ≡ t → first_of vs ≡ cond t None (Some v) → first_key s vs ≡ level_key s v
     go [] true f e = sym (eqb-true (level_key s v) 0 (sym (key-cell s v) ∙ f))
     go [] false f e = option-clash e
     go (x ∷ xs) true f e = option-clash (sym e)
@@ -275,10 +275,10 @@ module _ (p : List ℕ) (l : ℕ) (h : A ≤ l) (k : l ≤ Z) (s : Side) (a i : 
       levels-other n = rw (side-here p l h k s, first-key-read, own_first, ne_eqb x o n)
 
   module _ (v : Level) (ev : v ≡ level_in (part p (a + quote_length + i) level_length)) (o : ℕ) (eo : o ≡ level_key s v) where
-    first-of : first_of cells ≡ cond (empty_cell v) none (some v)
+    first-of : first_of cells ≡ cond (empty_cell v) None (Some v)
     first-of =
         ap first_of (side-at p l s) ∙ first_cell s (part p (slot_at l + quote_length + in_levels s) side_length)
-        ∙ ap (λ (u : Level). cond (empty_cell u) none (some u)) (ap level_in (part-part p (slot_at l + quote_length + in_levels s) side_length 0 level_length (lit≤ tt) ∙ ap (λ (j : ℕ). part p j level_length) (add-zero (slot_at l + quote_length + in_levels s) ∙ sym place)) ∙ sym ev)
+        ∙ ap (λ (u : Level). cond (empty_cell u) None (Some u)) (ap level_in (part-part p (slot_at l + quote_length + in_levels s) side_length 0 level_length (lit≤ tt) ∙ ap (λ (j : ℕ). part p j level_length) (add-zero (slot_at l + quote_length + in_levels s) ∙ sym place)) ∙ sym ev)
 
     own-level : first_key s cells ≡ o
     own-level = first-by s cells v first-of ∙ sym eo
@@ -287,8 +287,8 @@ module _ (p : List ℕ) (l : ℕ) (h : A ≤ l) (k : l ≤ Z) (s : Side) (a i : 
     unfolding first_in agreed_side
     first-idle e = rw (side-here p l h k s) (go (eqb (low p (first_key_at s l) key_length) (first_key s cells)))
       where
-        none_first : first_of cells ≡ none
-        none_first = first-of ∙ ap (λ (t : Bool). cond t none (some v)) (key-cell s v ∙ ap (λ (j : ℕ). eqb j 0) (sym eo ∙ e))
+        none_first : first_of cells ≡ None
+        none_first = first-of ∙ ap (λ (t : Bool). cond t None (Some v)) (key-cell s v ∙ ap (λ (j : ℕ). eqb j 0) (sym eo ∙ e))
 
         go : (t : Bool) → no_candidate ≡ or_none (map_option (level_candidate l 32) (first_of (cond t cells [])))
         go true = rw none_first

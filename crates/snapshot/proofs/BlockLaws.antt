@@ -4,7 +4,7 @@ use Prim.Native.Nat.{ℕ, zero, suc, ◌+◌, ◌%◌, ◌≤◌, ◌<◌}
 use mathlib.Core.Path.{◌≡◌, refl, sym, ap, ◌∙◌}
 use mathlib.Core.Bool.{Bool, true, false, ◌&&◌, cond}
 use mathlib.Core.List.{List, [], ◌∷◌, ◌++◌, append_assoc, append-nil}
-use mathlib.Core.Option.{Option, none, some}
+use Rattle.std.specs.Prelude.{Option, None, Some}
 use native.Mathlib.Omega.{arith}
 use native.Mathlib.Nat.{mod-lt}
 use borrow.Author.Tests.{le-leb, eq-eqb}
@@ -33,7 +33,7 @@ drop-length : (m r : List ℕ) → drop (length m) (m ++ r) ≡ r
 drop-length [] r = refl
 drop-length (x ∷ m) r = drop-length m r
 
-pub messages-laid : (ms : List (List ℕ)) (pad : List ℕ) → AllLaid ms → pad_at_most pad ≡ true → messages_laid (length ms) (joined ms ++ pad) ≡ some ms
+pub messages-laid : (ms : List (List ℕ)) (pad : List ℕ) → AllLaid ms → pad_at_most pad ≡ true → messages_laid (length ms) (joined ms ++ pad) ≡ Some ms
 unfolding messages_laid field
 messages-laid [] pad l p = rw p
 messages-laid (m ∷ ms) pad l p =
@@ -136,7 +136,7 @@ module _ (q f : ℕ) (ms : List (List ℕ)) (z : Fills ms) where
 
   -- the first block of a run, and what stands behind it
   module _ (r : List ℕ) (first : Bool) (n : ℕ) (h : q < 4294967296) (e : f ≡ delivery_flag first (is_nil r)) where
-    pub received-one : received (suc n) q first (feed_block q f ms ++ r) ≡ bind_option (some ms) (followed (is_nil r) (received n (q + length ms) false r))
+    pub received-one : received (suc n) q first (feed_block q f ms ++ r) ≡ bind_option (Some ms) (followed (is_nil r) (received n (q + length ms) false r))
     unfolding received feed_block
     received-one =
         let w = feed_with q f ms own in
@@ -161,14 +161,14 @@ nil-run q first [] = refl
 nil-run q first (g ∷ gs) = refl
 
 pub run-back : (gs : List (List (List ℕ))) (n q : ℕ) (first : Bool) (g : List (List ℕ)) → Fills g → AllFill gs → length gs < n → q + length (ungrouped (g ∷ gs)) < 4294967296
-    → received n q first (joined (feed_from q first (g ∷ gs))) ≡ some (ungrouped (g ∷ gs))
+    → received n q first (joined (feed_from q first (g ∷ gs))) ≡ Some (ungrouped (g ∷ gs))
 unfolding feed_from
 run-back gs zero q first g a l h s = absurd (omega arith)
 run-back [] (suc n) q first g a l h s =
-    received-one q (delivery_flag first true) g a [] first n (omega arith) refl ∙ ap some (sym (append-nil g))
+    received-one q (delivery_flag first true) g a [] first n (omega arith) refl ∙ ap Some (sym (append-nil g))
 run-back (x ∷ gs) (suc n) q first g a l h s =
     let r : List ℕ = joined (feed_from (q + length g) false (x ∷ gs)) in
     let i : is_nil r ≡ false = nil-run (q + length g) false (x ∷ gs) in
     let m : length (ungrouped (g ∷ x ∷ gs)) ≡ length g + length (ungrouped (x ∷ gs)) = length-append g (ungrouped (x ∷ gs)) in
-    let b : received n (q + length g) false r ≡ some (ungrouped (x ∷ gs)) = run-back gs n (q + length g) false x l.0 l.1 (omega arith) (omega (arith, m)) in
+    let b : received n (q + length g) false r ≡ Some (ungrouped (x ∷ gs)) = run-back gs n (q + length g) false x l.0 l.1 (omega arith) (omega (arith, m)) in
     received-one q (delivery_flag first false) g a r first n (omega arith) (ap (delivery_flag first) (sym i)) ∙ rw (i, b)

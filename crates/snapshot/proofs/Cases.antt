@@ -4,7 +4,7 @@ use Prim.Native.Nat.{ℕ, ◌+◌}
 use mathlib.Core.Path.{◌≡◌, refl}
 use mathlib.Core.Bool.{cond}
 use mathlib.Core.List.{List, [], ◌∷◌, ◌++◌, map}
-use mathlib.Core.Option.{Option, none, some}
+use Rattle.std.specs.Prelude.{Option, None, Some}
 use lib.Dec.{eqb}
 use lib.ListN.{take, drop, replicate, set}
 use Rattle.field.specs.Field.{be, part, field, be_bytes}
@@ -130,7 +130,7 @@ padded = refl
 
 -- ---- a subscriber
 
-pub one-decoded : decoded (feed_bytes one) ≡ some one
+pub one-decoded : decoded (feed_bytes one) ≡ Some one
 unfolding no_entry be part field be_bytes opened consolidated national_side priced_bytes participant finra_side finra_message feed_messages fitting grouped feed_front feed_with sum feed_checksum feed_block feed_from feed_blocks feed_bytes member same_list sound_block messages_laid received snapshot_in decoded
 one-decoded = refl
 
@@ -138,13 +138,13 @@ one-decoded = refl
 abbrev pub behind : List ℕ
 behind = (11 ∷ 0 ∷ 188 ∷ 0 ∷ 0 ∷ 0 ∷ 1 ∷ 2 ∷ 4 ∷ replicate 13 0) ++ (18 ∷ 214 ∷ []) ++ any_p N R ten ten02 ++ any_c (N ∷ R ∷ ten) (N ∷ R ∷ ten02)
 
-pub other-order : decoded behind ≡ some one
+pub other-order : decoded behind ≡ Some one
 unfolding no_entry be part field sum feed_checksum member same_list sound_block messages_laid received snapshot_in decoded
 other-order = refl
 
 -- T-08's byte is a space
 pub leads-decoded : decoded (feed_bytes leads)
-    ≡ some (record {
+    ≡ Some (record {
       symbol = zt;
       national = record { bid = D ∷ R ∷ space ∷ space ∷ ten; offer = N ∷ R ∷ space ∷ space ∷ ten02 };
       finra = record { bid = A ∷ C ∷ space ∷ space ∷ ten; offer = nothing };
@@ -154,62 +154,62 @@ unfolding no_entry be part field be_bytes opened consolidated national_side pric
 leads-decoded = refl
 
 -- two blocks; one of them lost
-pub two-decoded : decoded (feed_bytes (letters_of 14)) ≡ some (letters_of 14)
+pub two-decoded : decoded (feed_bytes (letters_of 14)) ≡ Some (letters_of 14)
 unfolding no_entry be part field be_bytes opened consolidated national_side priced_bytes participant finra_side finra_message feed_messages fitting grouped feed_front feed_with sum feed_checksum feed_block feed_from feed_blocks feed_bytes member same_list sound_block messages_laid received snapshot_in decoded
 two-decoded = refl
 
-pub last-lost : decoded (take 994 (feed_bytes (letters_of 14))) ≡ none
+pub last-lost : decoded (take 994 (feed_bytes (letters_of 14))) ≡ None
 unfolding no_entry be part field be_bytes opened consolidated national_side priced_bytes participant finra_side finra_message feed_messages fitting grouped feed_front feed_with sum feed_checksum feed_block feed_from feed_blocks feed_bytes member same_list sound_block messages_laid received snapshot_in decoded
 last-lost = refl
 
-pub first-lost : decoded (drop 994 (feed_bytes (letters_of 14))) ≡ none
+pub first-lost : decoded (drop 994 (feed_bytes (letters_of 14))) ≡ None
 unfolding no_entry be part field be_bytes opened consolidated national_side priced_bytes participant finra_side finra_message feed_messages fitting grouped feed_front feed_with sum feed_checksum feed_block feed_from feed_blocks feed_bytes member same_list sound_block messages_laid received snapshot_in decoded
 first-lost = refl
 
 -- a byte altered
-pub damaged : decoded (set (feed_bytes one) 100 1) ≡ none
+pub damaged : decoded (set (feed_bytes one) 100 1) ≡ None
 unfolding no_entry be part field be_bytes opened consolidated national_side priced_bytes participant finra_side finra_message feed_messages fitting grouped feed_front feed_with sum feed_checksum feed_block feed_from feed_blocks feed_bytes member same_list sound_block messages_laid received snapshot_in decoded
 damaged = refl
 
 -- another version, number, delivery flag, each with its checksum
-pub another-version : decoded (set (set (feed_bytes one) 0 10) 23 137) ≡ none
+pub another-version : decoded (set (set (feed_bytes one) 0 10) 23 137) ≡ None
 unfolding no_entry be part field be_bytes opened consolidated national_side priced_bytes participant finra_side finra_message feed_messages fitting grouped feed_front feed_with sum feed_checksum feed_block feed_from feed_blocks feed_bytes member same_list sound_block messages_laid received snapshot_in decoded
 another-version = refl
 
-pub another-number : decoded (set (set (feed_bytes one) 6 2) 23 139) ≡ none
+pub another-number : decoded (set (set (feed_bytes one) 6 2) 23 139) ≡ None
 unfolding no_entry be part field be_bytes opened consolidated national_side priced_bytes participant finra_side finra_message feed_messages fitting grouped feed_front feed_with sum feed_checksum feed_block feed_from feed_blocks feed_bytes member same_list sound_block messages_laid received snapshot_in decoded
 another-number = refl
 
-pub another-flag : decoded (set (set (feed_bytes one) 8 1) 23 135) ≡ none
+pub another-flag : decoded (set (set (feed_bytes one) 8 1) 23 135) ≡ None
 unfolding no_entry be part field be_bytes opened consolidated national_side priced_bytes participant finra_side finra_message feed_messages fitting grouped feed_front feed_with sum feed_checksum feed_block feed_from feed_blocks feed_bytes member same_list sound_block messages_laid received snapshot_in decoded
 another-flag = refl
 
 -- behind the messages a pad byte of 0 alone
-pub pad-admitted : messages_laid 1 (five ++ (0 ∷ [])) ≡ some (five ∷ [])
+pub pad-admitted : messages_laid 1 (five ++ (0 ∷ [])) ≡ Some (five ∷ [])
 unfolding be part field messages_laid
 pad-admitted = refl
 
-pub pad-of-1 : messages_laid 1 (five ++ (1 ∷ [])) ≡ none
+pub pad-of-1 : messages_laid 1 (five ++ (1 ∷ [])) ≡ None
 unfolding be part field messages_laid
 pad-of-1 = refl
 
 -- R C twice, R F twice, a letter twice, a message of no snapshot, a message of another symbol
-pub twice : snapshot_in (any_c blank_c blank_c ∷ any_c blank_c blank_c ∷ []) ≡ none
+pub twice : snapshot_in (any_c blank_c blank_c ∷ any_c blank_c blank_c ∷ []) ≡ None
 unfolding be part field member same_list snapshot_in
 twice = refl
 
-pub finra-twice : snapshot_in (any_c blank_c blank_c ∷ any_f blank_f blank_f ∷ any_f blank_f blank_f ∷ []) ≡ none
+pub finra-twice : snapshot_in (any_c blank_c blank_c ∷ any_f blank_f blank_f ∷ any_f blank_f blank_f ∷ []) ≡ None
 unfolding be part field member same_list snapshot_in
 finra-twice = refl
 
-pub no-such-message : snapshot_in (any_c blank_c blank_c ∷ (five ++ zt) ∷ []) ≡ none
+pub no-such-message : snapshot_in (any_c blank_c blank_c ∷ (five ++ zt) ∷ []) ≡ None
 unfolding be part field member same_list snapshot_in
 no-such-message = refl
 
-pub letter-twice : snapshot_in (any_c blank_c blank_c ∷ any_p N R ten ten02 ∷ any_p N C ten ten02 ∷ []) ≡ none
+pub letter-twice : snapshot_in (any_c blank_c blank_c ∷ any_p N R ten ten02 ∷ any_p N C ten ten02 ∷ []) ≡ None
 unfolding be part field member same_list snapshot_in
 letter-twice = refl
 
-pub other-symbol : snapshot_in (any_c blank_c blank_c ∷ set (any_p N R ten ten02) 6 85 ∷ []) ≡ none
+pub other-symbol : snapshot_in (any_c blank_c blank_c ∷ set (any_p N R ten ten02) 6 85 ∷ []) ≡ None
 unfolding be part field member same_list snapshot_in
 other-symbol = refl

@@ -3,7 +3,7 @@
 use Prim.Native.Nat.{ℕ, ◌+◌, ◌≤◌}
 use mathlib.Core.Path.{◌≡◌, refl, ap, ◌∙◌}
 use mathlib.Core.List.{List, [], ◌∷◌, ◌++◌}
-use mathlib.Core.Option.{Option, none, some}
+use Rattle.std.specs.Prelude.{Option, None, Some}
 use native.Mathlib.Omega.{arith}
 use lib.Dec.{lit≤}
 use lib.ListN.{length}
@@ -49,26 +49,26 @@ module _ (a b c d r : List ℕ) (la : length a ≡ entry_length) (lb : length b 
 
 national-long : (r : Option Reason) (o : Option Candidate) → length (entry_bytes (national_name r) o) ≡ entry_length
 unfolding no_entry be_bytes
-national-long r none = refl
-national-long r (some c) = refl
+national-long r None = refl
+national-long r (Some c) = refl
 
 finra-long : (o : Option Candidate) → length (entry_bytes finra_name o) ≡ entry_length
 unfolding no_entry be_bytes
-finra-long none = refl
-finra-long (some c) = refl
+finra-long None = refl
+finra-long (Some c) = refl
 
 -- a national entry comes back with a space for T-08's byte
-national-carried : (r : Option Reason) (o : Option Candidate) → carried_entry (entry_bytes (national_name r) o) ≡ entry_bytes (national_name none) o
+national-carried : (r : Option Reason) (o : Option Candidate) → carried_entry (entry_bytes (national_name r) o) ≡ entry_bytes (national_name None) o
 unfolding no_entry be_bytes part
-national-carried r none = refl
-national-carried r (some c) = refl
+national-carried r None = refl
+national-carried r (Some c) = refl
 
 -- what is read of a publication
 abbrev pub entries_read : List ℕ → Entries → (ℕ → Quote) → Snapshot
 entries_read s e q =
     record {
       symbol = s;
-      national = record { bid = entry_bytes (national_name none) (e.national Bid); offer = entry_bytes (national_name none) (e.national Offer) };
+      national = record { bid = entry_bytes (national_name None) (e.national Bid); offer = entry_bytes (national_name None) (e.national Offer) };
       finra = record { bid = entry_bytes finra_name (e.finra Bid); offer = entry_bytes finra_name (e.finra Offer) };
       letters = shown_from q 26 A;
     }

@@ -5,7 +5,7 @@ use mathlib.Core.Path.{◌≡◌, refl, sym, ap, subst, ◌∙◌}
 use mathlib.Core.Bool.{Bool, true, false, ◌&&◌, cond}
 use mathlib.Core.Logic.{◌⊎◌, inl, inr, ⊎_elim}
 use mathlib.Core.List.{List, [], ◌∷◌, ◌++◌, map, append_assoc, append-nil}
-use mathlib.Core.Option.{Option, none, some}
+use Rattle.std.specs.Prelude.{Option, None, Some}
 use native.Mathlib.Omega.{arith}
 use borrow.Author.Tests.{le-leb, lt-leb, eq-eqb, leb-true, leb-false}
 use lib.Dec.{leb, eqb}
@@ -134,7 +134,7 @@ module _ (x : Snapshot) (whole : Whole x) where
 
   -- ---- the snapshot from its messages
 
-  snapshot-back : snapshot_in (feed_messages x) ≡ some (carried x)
+  snapshot-back : snapshot_in (feed_messages x) ≡ Some (carried x)
   unfolding snapshot_in feed_messages
   snapshot-back =
       let o = opening x w in
@@ -142,7 +142,7 @@ module _ (x : Snapshot) (whole : Whole x) where
       let d : is_distinct (map letter_in (of_letters x w vs)) ≡ true = ap is_distinct (letters-back vs) ∙ whole.once in
       rw (first-typed.is_c, no-consolidated vs, first-typed.is_p, participants vs, first-typed.is_f, finras vs)
       (rw (about-first vs, first-typed.symbol, first-typed.is_c, known vs, same-list s, d)
-      (λ i. some (record { symbol = s; national = national-back s x.national w.symbol w.national i; finra = finra-back s x.finra w.symbol w.finra i; letters = all_back vs whole.fits i })))
+      (λ i. Some (record { symbol = s; national = national-back s x.national w.symbol w.national i; finra = finra-back s x.finra w.symbol w.finra i; letters = all_back vs whole.fits i })))
 
   -- ---- the messages from the blocks
 
@@ -151,11 +151,11 @@ module _ (x : Snapshot) (whole : Whole x) where
   messages-count = ap suc (length-append (of_letters x w x.letters) (last ∷ []) ∙ ap (λ (n : ℕ). n + 1) (length-map x.letters (participant s))) ∙ omega arith
 
   received-run : (g : List (List ℕ)) (gs : List (List (List ℕ))) → feed_blocks x ≡ feed_from 1 true (g ∷ gs) → Fills g → AllFill gs → length gs < length (feed_bytes x)
-      → ungrouped (g ∷ gs) ≡ feed_messages x → received (length (feed_bytes x)) 1 true (feed_bytes x) ≡ some (feed_messages x)
+      → ungrouped (g ∷ gs) ≡ feed_messages x → received (length (feed_bytes x)) 1 true (feed_bytes x) ≡ Some (feed_messages x)
   unfolding feed_bytes
   received-run g gs b f fs h u =
       ap (λ (bs : List (List ℕ)). received (length (feed_bytes x)) 1 true (joined bs)) b
-      ∙ run-back gs (length (feed_bytes x)) 1 true g f fs h (omega (arith, ap length u, messages-count, w.few)) ∙ ap some u
+      ∙ run-back gs (length (feed_bytes x)) 1 true g f fs h (omega (arith, ap length u, messages-count, w.few)) ∙ ap Some u
 
   parted : (h : letters_first ≤ length x.letters) → ungrouped (first_one x w h ∷ second_one x w h ∷ []) ≡ feed_messages x
   unfolding feed_messages
@@ -170,14 +170,14 @@ module _ (x : Snapshot) (whole : Whole x) where
   unfolding feed_length
   long-enough = omega (arith, length-feed x w)
 
-  received-only : length x.letters ≤ letters_alone → received (length (feed_bytes x)) 1 true (feed_bytes x) ≡ some (feed_messages x)
+  received-only : length x.letters ≤ letters_alone → received (length (feed_bytes x)) 1 true (feed_bytes x) ≡ Some (feed_messages x)
   unfolding feed_from feed_messages
   received-only h = received-run (only x w h) [] (blocks-one x w h) (fills_one x w h) tt (omega (arith, long-enough)) (append-nil (only x w h))
 
-  received-both : letters_first ≤ length x.letters → received (length (feed_bytes x)) 1 true (feed_bytes x) ≡ some (feed_messages x)
+  received-both : letters_first ≤ length x.letters → received (length (feed_bytes x)) 1 true (feed_bytes x) ≡ Some (feed_messages x)
   received-both h = received-run (first_one x w h) (second_one x w h ∷ []) (groups-two x w h) (fills_first x w h) (fills-second x w h, tt) (omega (arith, long-enough)) (parted h)
 
   -- the theorem
-  pub decoded-back : decoded (feed_bytes x) ≡ some (carried x)
+  pub decoded-back : decoded (feed_bytes x) ≡ Some (carried x)
   unfolding decoded
   decoded-back = rw (⊎_elim received-only received-both (cases x w)) snapshot-back

@@ -4,7 +4,7 @@ use Prim.Native.Nat.{ℕ, zero, suc, ◌+◌, ◌≤◌, ◌<◌}
 use mathlib.Core.Path.{◌≡◌, refl, sym, ap, ◌∙◌}
 use mathlib.Core.Bool.{Bool, true, false, not, ◌&&◌, cond}
 use mathlib.Core.List.{List, [], ◌∷◌, ◌++◌, map}
-use mathlib.Core.Option.{Option, none, some}
+use Rattle.std.specs.Prelude.{Option, None, Some}
 use native.Mathlib.Omega.{arith}
 use borrow.Author.Tests.{ne_eqb}
 use lib.Dec.{eqb}
@@ -36,7 +36,7 @@ module _ (quotes : ℕ → Quote) where
   below_none (suc n) l x h = go (is_shown quotes l) (below_none n (suc l) x (omega arith))
     where
       go : (t : Bool) → member (map letter_of (shown_from quotes n (suc l))) x ≡ false
-          → member (map letter_of (cons_option (cond t (some (shown_of l (quotes l))) none) (shown_from quotes n (suc l)))) x ≡ false
+          → member (map letter_of (cons_option (cond t (Some (shown_of l (quotes l))) None) (shown_from quotes n (suc l)))) x ≡ false
       go true e = rw (ne_eqb x l (omega arith), e)
       go false e = e
 
@@ -45,7 +45,7 @@ module _ (quotes : ℕ → Quote) where
   once (suc n) l = go (is_shown quotes l) (once n (suc l))
     where
       go : (t : Bool) → is_distinct (map letter_of (shown_from quotes n (suc l))) ≡ true
-          → is_distinct (map letter_of (cons_option (cond t (some (shown_of l (quotes l))) none) (shown_from quotes n (suc l)))) ≡ true
+          → is_distinct (map letter_of (cons_option (cond t (Some (shown_of l (quotes l))) None) (shown_from quotes n (suc l)))) ≡ true
       go true e = rw (below_none n (suc l) l (omega arith), e)
       go false e = e
 
@@ -61,7 +61,7 @@ module _ (quotes : ℕ → Quote) where
   at_most (suc n) l = go (member (D ∷ S ∷ []) l) (is_quoted (quotes l).condition) (at_most n (suc l))
     where
       go : (t u : Bool) → length (shown_from quotes n (suc l)) ≤ exchanges_in n (suc l)
-          → length (cons_option (cond (not t && u) (some (shown_of l (quotes l))) none) (shown_from quotes n (suc l))) ≤ cond t 0 1 + exchanges_in n (suc l)
+          → length (cons_option (cond (not t && u) (Some (shown_of l (quotes l))) None) (shown_from quotes n (suc l))) ≤ cond t 0 1 + exchanges_in n (suc l)
       go true u e = omega (arith, e)
       go false true e = omega (arith, e)
       go false false e = omega (arith, e)
@@ -76,7 +76,7 @@ module _ (quotes : ℕ → Quote) where
   all_fit f zero l = tt
   all_fit f (suc n) l = go (is_shown quotes l) (all_fit f n (suc l))
     where
-      go : (t : Bool) → AllShown (shown_from quotes n (suc l)) → AllShown (cons_option (cond t (some (shown_of l (quotes l))) none) (shown_from quotes n (suc l)))
+      go : (t : Bool) → AllShown (shown_from quotes n (suc l)) → AllShown (cons_option (cond t (Some (shown_of l (quotes l))) None) (shown_from quotes n (suc l)))
       go true a = (record { bid = record { price = (f l).bid.price; size = (f l).bid.size }; offer = record { price = (f l).offer.price; size = (f l).offer.size } }, a)
       go false a = a
 

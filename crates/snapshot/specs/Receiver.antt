@@ -1,8 +1,7 @@
 -- Decoding by 002's layout (document 02, T-12): a subscriber that knows section 2 and the tables of 3.3 to 3.5, and nothing of how blocks are filled.
 -- It admits the three messages in any order, a snapshot without FINRA's, and a pad byte; it looks at no field that is unused here.
 -- Assumes nothing.
-use Rattle.std.specs.Prelude.{ℕ, zero, suc, ◌+◌, ◌%◌, Bool, true, false, not, ◌&&◌, ◌||◌, cond, List, [], ◌∷◌, ◌++◌, map, leb, eqb, length, take, drop}
-use Rattle.std.proofs.Math.Option.{Option, none, some}
+use Rattle.std.specs.Prelude.{ℕ, zero, suc, ◌+◌, ◌%◌, Bool, true, false, not, ◌&&◌, ◌||◌, cond, List, [], ◌∷◌, ◌++◌, map, leb, eqb, length, take, drop, Option, None, Some}
 use Rattle.field.specs.Field.{part, field}
 use Rattle.field.specs.Ascii.{C, F, P, R}
 use Rattle.lists.specs.Lists.{at, member, same_list, map_option, bind_option}
@@ -46,25 +45,25 @@ message_header = 5
 
 -- 2.4.1: "the total message length inclusive of the Message Header and Message Body"; that many messages, end to end
 unfoldable pub messages_laid : ℕ → List ℕ → Option (List (List ℕ))
-messages_laid zero b = cond (pad_at_most b) (some []) none
+messages_laid zero b = cond (pad_at_most b) (Some []) None
 messages_laid (suc k) b =
     cond (leb message_header (field b 0 2) && leb (field b 0 2) (length b))
     (map_option (λ (ms : List (List ℕ)). take (field b 0 2) b ∷ ms) (messages_laid k (drop (field b 0 2) b)))
-    none
+    None
 
 -- a block's messages, and those of the blocks behind it, if there are any
 abbrev pub followed : Bool → Option (List (List ℕ)) → List (List ℕ) → Option (List (List ℕ))
-followed true rest ms = some ms
+followed true rest ms = Some ms
 followed false rest ms = map_option (λ (ns : List (List ℕ)). ms ++ ns) rest
 
 -- the messages of the blocks from this number on, for at most that many blocks
 unfoldable pub received : ℕ → ℕ → Bool → List ℕ → Option (List (List ℕ))
-received zero sequence first b = none
+received zero sequence first b = None
 received (suc n) sequence first b =
     cond (sound_block (take (size_in b) b) && (eqb (sequence_number_in b) sequence && eqb (delivery_flag_in b) (delivery_flag first (is_nil (drop (size_in b) b)))))
     (bind_option (messages_laid (message_count_in b) (drop feed_header (take (size_in b) b)))
     (followed (is_nil (drop (size_in b) b)) (received n (sequence + message_count_in b) false (drop (size_in b) b))))
-    none
+    None
 
 -- ---- messages (3.3 to 3.5), by their places behind the header
 
@@ -140,10 +139,10 @@ finra_of [] = record { bid = no_entry; offer = no_entry }
 finra_of (m ∷ ms) = finra_in m
 
 abbrev pub snapshot_by : List (List ℕ) → List (List ℕ) → List (List ℕ) → List (List ℕ) → Option Snapshot
-snapshot_by [] ps fs ms = none
+snapshot_by [] ps fs ms = None
 snapshot_by (c ∷ []) ps fs ms =
-    cond (well_made c ps fs ms) (some (record { symbol = symbol_in c; national = national_in c; finra = finra_of fs; letters = map shown_in ps })) none
-snapshot_by (c ∷ d ∷ cs) ps fs ms = none
+    cond (well_made c ps fs ms) (Some (record { symbol = symbol_in c; national = national_in c; finra = finra_of fs; letters = map shown_in ps })) None
+snapshot_by (c ∷ d ∷ cs) ps fs ms = None
 
 unfoldable pub snapshot_in : List (List ℕ) → Option Snapshot
 snapshot_in ms = snapshot_by (chosen is_consolidated ms) (chosen is_participant ms) (chosen is_finra ms) ms

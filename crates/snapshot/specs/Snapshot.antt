@@ -1,7 +1,6 @@
 -- What a snapshot of a symbol carries (document 02, T-12), as values: it knows no book.
 -- Assumes nothing.
-use Rattle.std.specs.Prelude.{ℕ, ◌*◌, Bool, not, ◌&&◌, cond, List, [], ◌∷◌}
-use Rattle.std.proofs.Math.Option.{Option, none, some}
+use Rattle.std.specs.Prelude.{ℕ, ◌*◌, Bool, not, ◌&&◌, cond, List, [], ◌∷◌, Option, None, Some}
 use Rattle.field.specs.Field.{part}
 use Rattle.field.specs.Ascii.{A, D, S}
 use Rattle.lists.specs.Lists.{member, collect, range}
@@ -54,7 +53,7 @@ unfoldable pub is_shown : (ℕ → Quote) → ℕ → Bool
 is_shown quotes l = not (member (D ∷ S ∷ []) l) && is_quoted (quotes l).condition
 
 abbrev pub shown_at : (ℕ → Quote) → ℕ → Option Shown
-shown_at quotes l = cond (is_shown quotes l) (some (shown_of l (quotes l))) none
+shown_at quotes l = cond (is_shown quotes l) (Some (shown_of l (quotes l))) None
 
 -- of n letters from l on
 abbrev pub shown_from : (ℕ → Quote) → ℕ → ℕ → List Shown

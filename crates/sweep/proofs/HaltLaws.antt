@@ -4,7 +4,7 @@ use Prim.Native.Nat.{ℕ, ◌-◌}
 use mathlib.Core.Path.{◌≡◌, refl}
 use mathlib.Core.Bool.{Bool, true, false, cond}
 use mathlib.Core.List.{List, []}
-use mathlib.Core.Option.{Option, none}
+use Rattle.std.specs.Prelude.{Option, None}
 use native.Mathlib.Omega.{arith}
 use lib.Dec.{eqb}
 use Rattle.field.specs.Field.{Bytes, splice}
@@ -22,7 +22,7 @@ use Rattle.sweep.proofs.NextLaws.{page-counts}
 use Rattle.sweep.proofs.LoopLaws.{page-lettered}
 
 -- no candidate, no step
-pub none-swept : (s : Side) (w : ℕ) → swept s w (λ l. none) ≡ []
+pub none-swept : (s : Side) (w : ℕ) → swept s w (λ l. None) ≡ []
 unfolding swept play letters
 none-swept s w = go (eqb w 0)
   where
@@ -47,7 +47,7 @@ pub trading-lettered : (p : List ℕ) (s : Side) → Lettered (page_trading p s)
 unfolding trading_candidates
 trading-lettered p s = go (halted_in p)
   where
-    go : (t : Bool) → Lettered (cond {A = Side → ℕ → Option Candidate} t (λ z l. none) (page_candidates p) s)
+    go : (t : Bool) → Lettered (cond {A = Side → ℕ → Option Candidate} t (λ z l. None) (page_candidates p) s)
     go true = record { named = λ l x e. clash (cc); processor = refl }
     go false = page-lettered p s
 
@@ -55,6 +55,6 @@ pub trading-counts : (p : List ℕ) → Bytes p → (s : Side) (l : ℕ) → OrC
 unfolding trading_candidates
 trading-counts p b s l = go (halted_in p)
   where
-    go : (t : Bool) → OrCounting (cond {A = Side → ℕ → Option Candidate} t (λ z l. none) (page_candidates p) s l)
+    go : (t : Bool) → OrCounting (cond {A = Side → ℕ → Option Candidate} t (λ z l. None) (page_candidates p) s l)
     go true = tt
     go false = page-counts p b s l

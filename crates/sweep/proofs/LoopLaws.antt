@@ -5,7 +5,7 @@ use mathlib.Core.Path.{◌≡◌, refl, sym, ap, ◌∙◌}
 use mathlib.Core.Bool.{Bool, true, false, cond}
 use mathlib.Core.Logic.{inl, inr}
 use mathlib.Core.List.{List, [], ◌∷◌, ◌++◌}
-use mathlib.Core.Option.{Option, none, some}
+use Rattle.std.specs.Prelude.{Option, None, Some}
 use native.Mathlib.Omega.{arith}
 use lib.Dec.{eqb}
 use lib.ListN.{length}
@@ -63,7 +63,7 @@ keep_all g h (c ∷ cs) = rw (h c) (ap (λ (l : List Candidate). c ∷ l) (keep_
 
 keep_same : (g h : Candidate → Bool) (cs : List Candidate) → ((x : Candidate) → In x cs → g x ≡ h x) → collect (keep g) cs ≡ collect (keep h) cs
 keep_same g h [] e = refl
-keep_same g h (c ∷ cs) e = λ i. cons_option (cond (e c (inl refl) i) (some c) none) (keep_same g h cs (λ x m. e x (inr m)) i)
+keep_same g h (c ∷ cs) e = λ i. cons_option (cond (e c (inl refl) i) (Some c) None) (keep_same g h cs (λ x m. e x (inr m)) i)
 
 module _ (p : List ℕ) (b : Bytes p) (s : Side) where
   -- every candidate of the page counts
@@ -75,8 +75,8 @@ module _ (p : List ℕ) (b : Bytes p) (s : Side) where
 
   follow-behind : (last : Candidate) (o : Option Candidate) → last ≡ or_none o → OrCounting o → collect (keep (follows s last)) (listed (page_candidates p s)) ≡ behind_last s o (listed (page_candidates p s))
   unfolding follows
-  follow-behind last none e k = rw e (keep_all (λ x. true) (λ x. refl) (listed (page_candidates p s)))
-  follow-behind last (some a) e k =
+  follow-behind last None e k = rw e (keep_all (λ x. true) (λ x. refl) (listed (page_candidates p s)))
+  follow-behind last (Some a) e k =
       rw e
       (keep_same (follows s a) (better s a) (listed (page_candidates p s))
       (λ x m.
@@ -133,7 +133,7 @@ module _ (s : Side) (cs : List Candidate) where
   unwanted zero o = refl
   unwanted (suc k) o = refl
 
-  exhausted : (k w : ℕ) (o : Option Candidate) → best (better s) (behind_last s o cs) ≡ none → play_from s cs k w o ≡ []
+  exhausted : (k w : ℕ) (o : Option Candidate) → best (better s) (behind_last s o cs) ≡ None → play_from s cs k w o ≡ []
   unfolding play_from
   exhausted zero w o e = refl
   exhausted (suc k) w o e = rw e (go (eqb w 0))
@@ -142,8 +142,8 @@ module _ (s : Side) (cs : List Candidate) where
       go true = refl
       go false = refl
 
-  one-step : (k w : ℕ) (o : Option Candidate) (c : Candidate) → (w ≡ 0 → ⊥) → best (better s) (behind_last s o cs) ≡ some c
-      → play_from s cs (suc k) w o ≡ step_on w c ∷ play_from s cs k (w - least w c.size) (some c)
+  one-step : (k w : ℕ) (o : Option Candidate) (c : Candidate) → (w ≡ 0 → ⊥) → best (better s) (behind_last s o cs) ≡ Some c
+      → play_from s cs (suc k) w o ≡ step_on w c ∷ play_from s cs k (w - least w c.size) (Some c)
   unfolding play_from
   one-step k w o c n e = rw (ne_eqb w 0 n, e)
 
@@ -157,14 +157,14 @@ unfolding swept_from
 swept_all w out xs = let e : 0 + length xs ≡ length xs = omega arith in λ j. record { steps = e j; unfilled = w - filled xs; out = splice out 0 (steps_bytes xs) }
 
 module _ (p : List ℕ) (b : Bytes p) (s : Side) (lots : ℕ) (out₀ : List ℕ) where
-  start : swept_from lots 0 out₀ (play_from s (listed (page_candidates p s)) steps_most lots none) ≡ swept_out s lots (page_candidates p s) out₀
+  start : swept_from lots 0 out₀ (play_from s (listed (page_candidates p s)) steps_most lots None) ≡ swept_out s lots (page_candidates p s) out₀
   unfolding swept_out swept
   start =
-      ap (swept_from lots 0 out₀) (sym (play-from s (listed (page_candidates p s)) (listed-distinct (page_candidates p s) (page-lettered p s)) steps_most lots none))
+      ap (swept_from lots 0 out₀) (sym (play-from s (listed (page_candidates p s)) (listed-distinct (page_candidates p s) (page-lettered p s)) steps_most lots None))
       ∙ swept_all lots out₀ (play s steps_most lots (listed (page_candidates p s)))
 
   pub going_start : Going p s lots out₀ out₀ lots no_candidate 0
-  going_start = record { low = omega arith; size = refl; used = none; held = refl; counts = tt; going = start }
+  going_start = record { low = omega arith; size = refl; used = None; held = refl; counts = tt; going = start }
 
   module _ (room : steps_length ≤ length out₀) (out : List ℕ) (wanted : ℕ) (last : Candidate) (i : ℕ) (g : Going p s lots out₀ out wanted last i) where
     rest-none : play_from s (listed (page_candidates p s)) (steps_most - i) wanted g.used ≡ [] → record { steps = i; unfilled = wanted; out = out } ≡ swept_out s lots (page_candidates p s) out₀
@@ -194,9 +194,9 @@ module _ (p : List ℕ) (b : Bytes p) (s : Side) (lots : ℕ) (out₀ : List ℕ
       pub going-exhausted : x.price ≡ 0 → record { steps = i; unfilled = wanted; out = out } ≡ swept_out s lots (page_candidates p s) out₀
       going-exhausted h = rest-none (exhausted s (listed (page_candidates p s)) (steps_most - i) wanted g.used (go (best (better s) (behind_last s g.used (listed (page_candidates p s)))) found-counts found-is))
         where
-          go : (o : Option Candidate) → OrCounting o → x ≡ or_none o → o ≡ none
-          go none k e = refl
-          go (some c) k e = absurd (k.price (ap (λ (y : Candidate). y.price) (sym e) ∙ h))
+          go : (o : Option Candidate) → OrCounting o → x ≡ or_none o → o ≡ None
+          go None k e = refl
+          go (Some c) k e = absurd (k.price (ap (λ (y : Candidate). y.price) (sym e) ∙ h))
 
       -- a step
       pub going-again : (taken : ℕ) (next : List ℕ) → i < steps_most → (wanted ≡ 0 → ⊥) → (x.price ≡ 0 → ⊥) → taken ≡ least wanted x.size
@@ -205,18 +205,18 @@ module _ (p : List ℕ) (b : Bytes p) (s : Side) (lots : ℕ) (out₀ : List ℕ
       going-again taken next h n v et len en = go (best (better s) (behind_last s g.used (listed (page_candidates p s)))) refl found-counts found-is
         where
           go : (o : Option Candidate) → best (better s) (behind_last s g.used (listed (page_candidates p s))) ≡ o → OrCounting o → x ≡ or_none o → Going p s lots out₀ next (wanted - taken) x (i + 1)
-          go none e k ec = absurd (v (ap (λ (y : Candidate). y.price) ec))
-          go (some c) e k ec =
-              let f : best (better s) (behind_last s g.used (listed (page_candidates p s))) ≡ some x = e ∙ ap some (sym ec) in
+          go None e k ec = absurd (v (ap (λ (y : Candidate). y.price) ec))
+          go (Some c) e k ec =
+              let f : best (better s) (behind_last s g.used (listed (page_candidates p s))) ≡ Some x = e ∙ ap Some (sym ec) in
               record {
                 low = omega arith;
                 size = len ∙ g.size;
-                used = some x;
+                used = Some x;
                 held = refl;
                 counts = rw ec k;
                 going =
                     rw (en, et)
-                    (sym (swept_step wanted i out (step_on wanted x) (play_from s (listed (page_candidates p s)) (steps_most - (i + 1)) (wanted - least wanted x.size) (some x)))
+                    (sym (swept_step wanted i out (step_on wanted x) (play_from s (listed (page_candidates p s)) (steps_most - (i + 1)) (wanted - least wanted x.size) (Some x)))
                     ∙ ap (swept_from wanted i out)
                     (sym (ap (λ (k : ℕ). play_from s (listed (page_candidates p s)) k wanted g.used) (less_one steps_most i h) ∙ one-step s (listed (page_candidates p s)) (steps_most - (i + 1)) wanted g.used x n f))
                     ∙ g.going);

@@ -4,10 +4,10 @@ use Prim.Native.Nat.{ℕ, ◌+◌, ◌-◌, ◌≤◌, ◌<◌}
 use mathlib.Core.Path.{◌≡◌, refl, sym, ap, ◌∙◌}
 use mathlib.Core.Bool.{Bool, true, false, cond}
 use mathlib.Core.List.{List}
-use mathlib.Core.Option.{Option, none, some}
+use Rattle.std.specs.Prelude.{Option, None, Some}
 use native.Mathlib.Omega.{arith}
-use lib.Dec.{eqb}
-use borrow.Author.Tests.{eq-eqb, ne_eqb, le-leb, lt-leb}
+use lib.Dec.{eqb, leb}
+use borrow.Author.Tests.{eq-eqb, ne_eqb, leb-true, leb-false}
 use Rattle.field.specs.Field.{Bytes, part, field}
 use Rattle.field.specs.Ascii.{A, D, S}
 use Rattle.lists.specs.Lists.{map_option, bind_option, collect}
@@ -29,6 +29,8 @@ use Rattle.walk.specs.code.Walk.{asked, maker_at}
 use Rattle.walk.proofs.StepLaws.{maker-r, maker-other}
 use Rattle.walk.proofs.WalkLaws.{maker-counts, letter-counts, finra-counts, finra-is}
 use Rattle.protection.specs.Protection.{page_candidates}
+use Rattle.std.proofs.Common.{min}
+use Rattle.std.proofs.Math.Nat.{min-eq_left, min-eq_right, min-le_left}
 use Rattle.sweep.specs.Sweep.{least}
 use Rattle.sweep.specs.code.Next.{follows, if_next, next_at}
 
@@ -74,8 +76,8 @@ page-counts p b s l = letter-counts p b s (finra_best (occupied (makers_in p)) s
 
 as-d-live : (o : Option Candidate) → OrCounting o → live (as_d (or_none o)) ≡ map_option as_d o
 unfolding as_d live
-as-d-live none h = refl
-as-d-live (some c) h = rw (ne_eqb c.price 0 h.price, ne_eqb c.size 0 h.size)
+as-d-live None h = refl
+as-d-live (Some c) h = rw (ne_eqb c.price 0 h.price, ne_eqb c.size 0 h.size)
 
 module _ (p : List ℕ) (s : Side) where
   pub letter-d : Bytes p → (f : Candidate) → f ≡ or_none (finra_best (occupied (makers_in p)) s) → (l : ℕ) (r : Candidate) → l ≡ D → r ≡ as_d f → live r ≡ page_candidates p s l
@@ -105,24 +107,24 @@ follows_by s last x r n e = rw (ne_eqb last.price 0 n) (ap (λ (c : Compared). c
 
 module _ (s : Side) (last b x : Candidate) (t : Bool) (et : t ≡ follows s last x) where
   -- what counts and follows
-  kept : bind_option (live x) (if_next s last) ≡ cond t (live x) none
+  kept : bind_option (live x) (if_next s last) ≡ cond t (live x) None
   unfolding live
   kept = go (eqb x.price 0) (eqb x.size 0)
     where
-      still : (v : Bool) → ◌≡◌ {A = Option Candidate} none (cond v none none)
+      still : (v : Bool) → ◌≡◌ {A = Option Candidate} None (cond v None None)
       still true = refl
       still false = refl
 
-      go : (p z : Bool) → bind_option (cond p none (cond z none (some x))) (if_next s last) ≡ cond t (cond p none (cond z none (some x))) none
+      go : (p z : Bool) → bind_option (cond p None (cond z None (Some x))) (if_next s last) ≡ cond t (cond p None (cond z None (Some x))) None
       go true z = still t
       go false true = still t
-      go false false = ap (λ (v : Bool). cond v (some x) none) (sym et)
+      go false false = ap (λ (v : Bool). cond v (Some x) None) (sym et)
 
   pub next-taken : (r : Candidate) → t ≡ true → r ≡ choose s b x → r ≡ choose s b (or_none (bind_option (live x) (if_next s last)))
-  next-taken r h e = chosen s b x r (live x) refl e ∙ ap (λ (o : Option Candidate). choose s b (or_none o)) (sym (kept ∙ ap (λ (v : Bool). cond v (live x) none) h))
+  next-taken r h e = chosen s b x r (live x) refl e ∙ ap (λ (o : Option Candidate). choose s b (or_none o)) (sym (kept ∙ ap (λ (v : Bool). cond v (live x) None) h))
 
   pub next-passed : t ≡ false → b ≡ choose s b (or_none (bind_option (live x) (if_next s last)))
-  next-passed h = choose-none s b ∙ ap (λ (o : Option Candidate). choose s b (or_none o)) (sym (kept ∙ ap (λ (v : Bool). cond v (live x) none) h))
+  next-passed h = choose-none s b ∙ ap (λ (o : Option Candidate). choose s b (or_none o)) (sym (kept ∙ ap (λ (v : Bool). cond v (live x) None) h))
 
 -- ---- the best that follows
 
@@ -137,10 +139,10 @@ module _ (p : List ℕ) (b : Bytes p) (s : Side) where
   next-counts last l = go (page_candidates p s l) (page-counts p b s l)
     where
       go : (o : Option Candidate) → OrCounting o → OrCounting (bind_option o (if_next s last))
-      go none h = tt
-      go (some c) h = one (follows s last c)
+      go None h = tt
+      go (Some c) h = one (follows s last c)
         where
-          one : (t : Bool) → OrCounting (cond t (some c) none)
+          one : (t : Bool) → OrCounting (cond t (Some c) None)
           one true = h
           one false = tt
 
@@ -150,8 +152,10 @@ module _ (p : List ℕ) (b : Bytes p) (s : Side) where
 
 -- ---- the lots of a step
 
-pub least-wanted : (a b : ℕ) → a ≤ b → (a ≡ least a b) × (a ≤ a)
-least-wanted a b h = (rw (le-leb a b h), omega arith)
-
-pub least-shown : (a b : ℕ) → b < a → (b ≡ least a b) × (b ≤ a)
-least-shown a b h = (rw (lt-leb a b h), omega arith)
+-- the lesser of two as the library gives it
+pub least-min : (a b r : ℕ) → r ≡ min a b → (r ≡ least a b) × (r ≤ a)
+least-min a b r e = (e ∙ go (leb a b) refl, omega (arith, e, min-le_left a b))
+  where
+    go : (t : Bool) → leb a b ≡ t → min a b ≡ cond t a b
+    go true h = min-eq_left (leb-true a b h)
+    go false h = min-eq_right (omega (arith, leb-false a b h))

@@ -5,7 +5,7 @@ use mathlib.Core.Path.{◌≡◌, sym, ap, ◌∙◌}
 use mathlib.Core.Bool.{Bool, true, false, cond}
 use mathlib.Core.Logic.{inl, inr}
 use mathlib.Core.List.{List, [], ◌∷◌}
-use mathlib.Core.Option.{Option, none, some}
+use Rattle.std.specs.Prelude.{Option, None, Some}
 use native.Mathlib.Omega.{arith}
 use lib.Dec.{eqb}
 use lib.ListN.{length}
@@ -37,8 +37,8 @@ play-few s (suc k) w cs = go (eqb w 0) (best (better s) cs) (λ v ds. play-few s
   where
     go : (t : Bool) (o : Option Candidate) → ((v : ℕ) (ds : List Candidate) → length (play s k v ds) ≤ k) → length (cond t [] (play_by w cs (play s k) o)) ≤ suc k
     go true o down = omega arith
-    go false none down = omega arith
-    go false (some c) down = omega (arith, down (w - least w c.size) (without c.name cs))
+    go false None down = omega arith
+    go false (Some c) down = omega (arith, down (w - least w c.size) (without c.name cs))
 
 -- ---- the steps are a division: each on a candidate of its own, within its shown size
 

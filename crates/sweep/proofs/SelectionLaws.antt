@@ -5,7 +5,7 @@ use mathlib.Core.Path.{◌≡◌, refl, sym, ap, subst, ◌∙◌}
 use mathlib.Core.Bool.{Bool, true, false, cond}
 use mathlib.Core.Logic.{inl, inr}
 use mathlib.Core.List.{List, [], ◌∷◌}
-use mathlib.Core.Option.{Option, none, some}
+use Rattle.std.specs.Prelude.{Option, None, Some}
 use native.Mathlib.Omega.{arith}
 use lib.Dec.{eqb}
 use lib.ListN.{length}
@@ -118,8 +118,8 @@ length_without c (x ∷ xs) m = go m (cut x.name c.name) (λ k. length_without c
 -- ---- in order: the best, then the others in order
 
 abbrev pub ranked_by : List Candidate → (List Candidate → List Candidate) → Option Candidate → List Candidate
-ranked_by cs next none = []
-ranked_by cs next (some c) = c ∷ next (without c.name cs)
+ranked_by cs next None = []
+ranked_by cs next (Some c) = c ∷ next (without c.name cs)
 
 unfoldable pub ranked : Side → ℕ → List Candidate → List Candidate
 ranked s zero cs = []
@@ -138,8 +138,8 @@ module _ (s : Side) where
 
       go : (o : Option Candidate) → ((v : ℕ) (ds : List Candidate) → play s k v ds ≡ walk v (ranked s k ds))
           → cond (eqb w 0) [] (play_by w cs (play s k) o) ≡ walk w (ranked_by cs (ranked s k) o)
-      go none down = none-wanted (eqb w 0)
-      go (some c) down = ap (λ (l : List Step). cond (eqb w 0) [] (step_on w c ∷ l)) (down (w - least w c.size) (without c.name cs))
+      go None down = none-wanted (eqb w 0)
+      go (Some c) down = ap (λ (l : List Step). cond (eqb w 0) [] (step_on w c ∷ l)) (down (w - least w c.size) (without c.name cs))
 
   -- the best of a list that is not empty
   abbrev pub top : Candidate → List Candidate → Candidate
@@ -205,7 +205,7 @@ module _ (s : Side) where
   first-behind c (x ∷ xs) t o = go (cut x.name c.name) (better s c x) refl (first-behind c xs (λ d m. t d (inr m)) (λ d m. o d (inr m)))
     where
       go : Cut x.name c.name → (r : Bool) → better s c x ≡ r → without c.name xs ≡ behind s c xs
-          → cond (eqb x.name c.name) (without c.name xs) (x ∷ without c.name xs) ≡ cons_option (cond r (some x) none) (behind s c xs)
+          → cond (eqb x.name c.name) (without c.name xs) (x ∷ without c.name xs) ≡ cons_option (cond r (Some x) None) (behind s c xs)
       go (equal p e) true f down = clash (sym f ∙ ap (better s c) (o x (inl refl) e) ∙ ap (λ (z : Candidate). better s z c) (sym (o x (inl refl) e)) ∙ t x (inl refl))
       go (equal p e) false f down = rw p down
       go (apart p e) true f down = rw p (ap (λ (l : List Candidate). x ∷ l) down)
@@ -217,7 +217,7 @@ module _ (s : Side) where
   next-behind a c (x ∷ xs) e = go (better s a x) refl (better s c x) refl (next-behind a c xs e)
     where
       go : (p : Bool) → better s a x ≡ p → (q : Bool) → better s c x ≡ q → behind s c (behind s a xs) ≡ behind s c xs
-          → behind s c (cons_option (cond p (some x) none) (behind s a xs)) ≡ cons_option (cond q (some x) none) (behind s c xs)
+          → behind s c (cons_option (cond p (Some x) None) (behind s a xs)) ≡ cons_option (cond q (Some x) None) (behind s c xs)
       go true f true g down = rw g (ap (λ (l : List Candidate). x ∷ l) down)
       go true f false g down = rw g down
       go false f true g down = clash (sym (chain (better s) (better-weak s) a c x e g) ∙ f)

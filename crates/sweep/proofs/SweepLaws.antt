@@ -4,7 +4,7 @@ use Prim.Native.Nat.{ℕ, zero, suc, ◌+◌, ◌≤◌, ◌<◌}
 use mathlib.Core.Path.{◌≡◌, refl, sym, ap, ◌∙◌}
 use mathlib.Core.Logic.{inl, inr}
 use mathlib.Core.List.{List, [], ◌∷◌}
-use mathlib.Core.Option.{Option, none, some}
+use Rattle.std.specs.Prelude.{Option, None, Some}
 use native.Mathlib.Omega.{arith}
 use lib.ListN.{length}
 use Rattle.field.specs.Ascii.{A, S}
@@ -25,8 +25,8 @@ use Rattle.sweep.proofs.DividedLaws.{divided, play-within, play-lots, play-worth
 -- ---- candidates by letter: each under its letter, S without one
 
 pub record Lettered (c : ℕ → Option Candidate) : Type 0 where
-  pub named : (l : ℕ) (x : Candidate) → c l ≡ some x → x.name ≡ l
-  pub processor : c S ≡ none
+  pub named : (l : ℕ) (x : Candidate) → c l ≡ Some x → x.name ≡ l
+  pub processor : c S ≡ None
 
 -- those of a symbol are such
 pub candidates-lettered : (quotes : ℕ → Quote) (makers : List Maker) (s : Side) → Lettered (candidates quotes makers s)
@@ -52,8 +52,8 @@ module _ (f : ℕ → Option Candidate) (w : Lettered f) where
   distinct-letters (suc n) k = go (f k) refl (distinct-letters n (suc k))
     where
       go : (o : Option Candidate) → f k ≡ o → Distinct name_of (collect f (range n (suc k))) → Distinct name_of (cons_option o (collect f (range n (suc k))))
-      go none e down = down
-      go (some c) e down = (
+      go None e down = down
+      go (Some c) e down = (
         (λ y m z.
             let r = in-collect f y (range n (suc k)) m in
             omega (arith, in-range r.0 n (suc k) r.1, w.named r.0 y r.2, w.named k c e)),
@@ -65,17 +65,17 @@ module _ (f : ℕ → Option Candidate) (w : Lettered f) where
   collect-length (x ∷ xs) = go (f x) (collect-length xs)
     where
       go : (o : Option Candidate) → length (collect f xs) ≤ length xs → length (cons_option o (collect f xs)) ≤ length (x ∷ xs)
-      go none h = omega arith
-      go (some c) h = omega arith
+      go None h = omega arith
+      go (Some c) h = omega arith
 
-  collect-fewer : (a : ℕ) → f a ≡ none → (xs : List ℕ) → In a xs → length (collect f xs) < length xs
+  collect-fewer : (a : ℕ) → f a ≡ None → (xs : List ℕ) → In a xs → length (collect f xs) < length xs
   collect-fewer a e [] m = absurd m
   collect-fewer a e (x ∷ xs) (inl p) = rw (ap f (sym p) ∙ e) (omega (arith, collect-length xs))
   collect-fewer a e (x ∷ xs) (inr m) = go (f x) (collect-fewer a e xs m)
     where
       go : (o : Option Candidate) → length (collect f xs) < length xs → length (cons_option o (collect f xs)) < length (x ∷ xs)
-      go none h = omega arith
-      go (some c) h = omega arith
+      go None h = omega arith
+      go (Some c) h = omega arith
 
   -- each name once
   pub listed-distinct : Distinct name_of (listed f)

@@ -1,7 +1,6 @@
 -- Trying an order (document 02, T-13): its steps, and their bytes.
 -- Assumes nothing.
-use Rattle.std.specs.Prelude.{ℕ, zero, suc, ◌+◌, ◌*◌, ◌-◌, cond, List, [], ◌∷◌, ◌++◌, eqb, leb}
-use Rattle.std.proofs.Math.Option.{Option, none, some}
+use Rattle.std.specs.Prelude.{ℕ, zero, suc, ◌+◌, ◌*◌, ◌-◌, cond, List, [], ◌∷◌, ◌++◌, eqb, leb, Option, None, Some}
 use Rattle.field.specs.Field.{be_bytes}
 use Rattle.lists.specs.Lists.{collect}
 use Rattle.ranking.specs.declared.Side.{Side}
@@ -29,8 +28,8 @@ without n (c ∷ cs) = cond (eqb c.name n) (without n cs) (c ∷ without n cs)
 
 -- a step on the best, then what comes next without it
 abbrev pub play_by : ℕ → List Candidate → (ℕ → List Candidate → List Step) → Option Candidate → List Step
-play_by w cs next none = []
-play_by w cs next (some c) = step_on w c ∷ next (w - least w c.size) (without c.name cs)
+play_by w cs next None = []
+play_by w cs next (Some c) = step_on w c ∷ next (w - least w c.size) (without c.name cs)
 
 -- "each step takes from the best candidate not yet used, in national order, .. until none are wanted"; k steps at most
 unfoldable pub play : Side → ℕ → ℕ → List Candidate → List Step

@@ -13,7 +13,7 @@ ghost use Rattle.page.specs.Page.{makers_in, occupied};
 ghost use Rattle.page.specs.Layout.{page_length, maker_count};
 ghost use Rattle.walk.specs.code.Walk.{maker_at};
 ghost use Rattle.protection.specs.Protection.{page_candidates, page_trading};
-ghost use Rattle.sweep.specs.Sweep.{least, step_bytes, step_length, steps_length};
+ghost use Rattle.sweep.specs.Sweep.{step_bytes, step_length, steps_length};
 ghost use Rattle.sweep.specs.code.Next.{follows, if_next, next_at, swept_out};
 
 use page::{Cell, Letter, Page};
@@ -36,7 +36,7 @@ impl Steps {
 }
 
 /// What an order gives: how many steps, and the lots not found.
-#[derive(Clone, Copy)]
+#[derive(Clone, Copy, Debug, PartialEq, Eq)]
 pub struct Swept {
     pub steps: u8,
     pub unfilled: u32,
@@ -88,11 +88,7 @@ fn letter_candidate(page: &[u8], letter: usize, side: Side, finra: Candidate) ->
 fn is_next(side: Side, last: Candidate, x: Candidate) -> bool
     ensures { result ≡ follows side last x }
 {
-    if last.price == 0 {
-        return true;
-    }
-    let compared = ranking::compare(side, last, x);
-    compared.ahead
+    last.price == 0 || ranking::compare(side, last, x).ahead
 }
 
 // The better of the best so far and x, if x stands behind the last candidate used.
@@ -117,16 +113,6 @@ fn next(page: &[u8], side: Side, finra: Candidate, last: Candidate) -> Candidate
         best = with_next(side, last, best, x);
     }
     best
-}
-
-// As many lots as are wanted and shown.
-fn least(wanted: u32, shown: u32) -> u32
-    ensures { (result ≡ least wanted shown) × (result ≤ wanted) }
-{
-    if wanted <= shown {
-        return wanted;
-    }
-    shown
 }
 
 fn put_step(out: &mut [u8], at: usize, c: Candidate, lots: u32)
@@ -162,7 +148,7 @@ fn play_trading(page: &[u8], side: Side, lots: u32, out: &mut [u8]) -> Swept
                 unfilled: wanted,
             };
         }
-        let taken = least(wanted, best.size);
+        let taken = wanted.min(best.size);
         put_step(out, i * Steps::STEP_LEN, best, taken);
         wanted = wanted - taken;
         last = best;

@@ -2,44 +2,43 @@
 -- Assumes nothing.
 use Prim.Native.Nat.{ℕ, zero, suc, ◌+◌, ◌*◌, ◌≤◌, ◌<◌}
 use mathlib.Core.Path.{◌≡◌, refl, sym, ap, ◌∙◌}
-use mathlib.Core.Bool.{Bool, true, false, ◌&&◌, ◌||◌, cond}
+use mathlib.Core.Bool.{Bool, true, false, not, ◌&&◌, ◌||◌, cond}
 use mathlib.Core.Bool as bool
 use mathlib.Core.List.{List, [], ◌∷◌}
 use native.Mathlib.Omega.{arith}
 use native.Mathlib.Nat.{zero-add, zero-mul, mul-zero, mul-suc, mul-le-mul}
-use native.Mathlib.Numerals.{add-one}
-use lib.ListN.{length, get_or, drop, drop_of_length-le}
+use native.Mathlib.Numerals.{add-one, one-add}
+use lib.ListN.{length, drop, drop_of_length-le}
 use lib.Seq.{drop-cons}
-use borrow.Author.Tests.{lt-leb, le-leb, leb-true, ne_eqb}
-use lib.Dec.{eqb, leb, eqb-suc-zero}
+use borrow.Author.Tests.{lt-leb, le-leb, leb-true, ltb-true, ltb-false, ne_eqb}
+use lib.Dec.{eqb, leb, ltb, eqb-suc-zero}
+use Rattle.std.specs.List.{position_or_len}
 use Rattle.lists.specs.Lists.{at, every, between, upper}
 use Rattle.lists.proofs.Tests.{and-true, Cut, equal, apart, cut}
 use Rattle.text.specs.Form.{is_space, padded, follows}
 use Rattle.field.specs.Ascii.{A, Z}
 
-module _ (low high : ℕ) (s : List ℕ) (w : Bool) (i : ℕ) where
-  padded-step : i < length s → padded low high (drop i s) ≡ cond (between low high (get_or s i 0)) (padded low high (drop (i + 1) s)) (every is_space (drop i s))
-  unfolding padded
-  padded-step h = rw (add-one, drop-cons s i 0)
+-- outside the bytes from low to high, as a search asks for the end of a text
+abbrev pub outside : ℕ → ℕ → ℕ → Bool
+outside low high x = ltb x low || ltb high x
 
-  at-end : i < length s → padded low high (drop i s) ≡ w → between low high (get_or s i 0) ≡ false → every is_space (drop i s) ≡ w
-  at-end h inv e = sym (ap (λ (t : Bool). cond t (padded low high (drop (i + 1) s)) (every is_space (drop i s))) e) ∙ sym (padded-step h) ∙ inv
+not-outside : (low high x : ℕ) → between low high x ≡ not (outside low high x)
+not-outside low high x = go (ltb x low) refl (ltb high x) refl
+  where
+    go : (s : Bool) → ltb x low ≡ s → (t : Bool) → ltb high x ≡ t → between low high x ≡ not (s || t)
+    go true e t f = rw (lt-leb low x (ltb-true x low e))
+    go false e true f = rw (le-leb low x (ltb-false x low e), lt-leb x high (ltb-true high x f))
+    go false e false f = rw (le-leb low x (ltb-false x low e), le-leb x high (ltb-false high x f))
 
-  -- the first byte outside the range: below it, or above it
-  pub padded-below : i < length s → padded low high (drop i s) ≡ w → get_or s i 0 < low → every is_space (drop i s) ≡ w
-  padded-below h inv l = at-end h inv (rw (lt-leb _ _ l))
-
-  pub padded-above : i < length s → padded low high (drop i s) ≡ w → low ≤ get_or s i 0 → high < get_or s i 0 → every is_space (drop i s) ≡ w
-  padded-above h inv l u = at-end h inv (rw (le-leb _ _ l, lt-leb _ _ u))
-
-  pub padded-again : i < length s → padded low high (drop i s) ≡ w → low ≤ get_or s i 0 → get_or s i 0 ≤ high → padded low high (drop (i + 1) s) ≡ w
-  padded-again h inv l u =
-      let e : between low high (get_or s i 0) ≡ true = rw (le-leb _ _ l, le-leb _ _ u) in
-      sym (ap (λ (t : Bool). cond t (padded low high (drop (i + 1) s)) (every is_space (drop i s))) e) ∙ sym (padded-step h) ∙ inv
-
-  pub padded-end : length s ≤ i → padded low high (drop i s) ≡ w → true ≡ w
-  unfolding padded
-  padded-end h inv = rw (drop_of_length-le s h) at inv
+-- spaces from the first byte outside on
+pub padded-cut : (low high : ℕ) (s : List ℕ) → padded low high s ≡ every is_space (drop (position_or_len (outside low high) s) s)
+unfolding padded every
+padded-cut low high [] = refl
+padded-cut low high (x ∷ xs) = ap (λ (t : Bool). cond t (padded low high xs) (every is_space (x ∷ xs))) (not-outside low high x) ∙ step (not (outside low high x)) (padded-cut low high xs)
+  where
+    step : (t : Bool) → padded low high xs ≡ every is_space (drop (position_or_len (outside low high) xs) xs) → cond t (padded low high xs) (every is_space (x ∷ xs)) ≡ every is_space (drop (cond t (1 + position_or_len (outside low high) xs) 0) (x ∷ xs))
+    step true e = e ∙ ap (λ (k : ℕ). every is_space (drop k (x ∷ xs))) (sym (one-add (position_or_len (outside low high) xs)))
+    step false e = refl
 
 -- ---- symbols, without a branch
 

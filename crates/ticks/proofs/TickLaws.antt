@@ -1,17 +1,18 @@
 -- The setting and the tick: what each `return` owes, over plain values.
 -- Assumes nothing.
-use Prim.Native.Nat.{ℕ, ◌+◌, ◌-◌, ◌≤◌, ◌<◌}
+use Prim.Native.Nat.{ℕ, ◌+◌, ◌≤◌}
 use mathlib.Core.Path.{◌≡◌, refl, sym, ap, ◌∙◌}
-use mathlib.Core.Bool.{Bool, true, false, ◌&&◌, cond}
+use mathlib.Core.Bool.{Bool, true, false, cond}
 use mathlib.Core.List.{List, ◌++◌}
 use native.Mathlib.Omega.{arith}
-use lib.Dec.{eqb, leb}
 use lib.ListN.{length, length-append}
 use borrow.Author.Tests.{eq-eqb, ne_eqb}
 use Rattle.field.specs.Field.{part, field, splice, be_bytes}
 use Rattle.field.proofs.Laws.{field-part-0, length-be_bytes, splice-inside, splice-join, splice-part}
 use Rattle.field.proofs.ZeroLaws.{length-zeros}
-use Rattle.lists.specs.Lists.{sum}
+use Rattle.numbers.specs.declared.Refusal.{Refusal}
+use Rattle.numbers.specs.Numbers.{number_of as refusal_number}
+use Rattle.line.proofs.GateLaws.{never-done}
 use Rattle.allowance.specs.Allowance.{allowance_length, blocks_most, charges_from, no_charges, setting_bytes, setting_number, share_count, shares_from, ticked_bytes}
 use Rattle.allowance.proofs.ClaimLaws.{Settable, settable}
 use Rattle.opening.specs.Opening.{sound, on_allowance, rest_in, pages_in}
@@ -42,28 +43,17 @@ module _ (b : List ℕ) where
         go true = refl
         go false = refl
 
-    -- neither 0 nor 70
-    setting-refusal : (k : ℕ) → k ≡ number_on b (set_allowance n ss) → (k ≡ 0 → ⊥) → done k ≡ false
-    unfolding number_on number_of setting_number done
-    setting-refusal k e z = rw (ne_eqb k 0 z, ne_eqb k 70 (λ q. other (sound b) (leb 1 n && leb n blocks_most) (eqb (length ss) share_count && leb (sum ss) n) (sym e ∙ q)))
-      where
-        other : (s t u : Bool) → ◌≡◌ {A = ℕ} (cond s (cond t (cond u 0 85) 84) 1) 70 → ⊥
-        other true true true e = omega arith
-        other true true false e = omega arith
-        other true false u e = omega arith
-        other false t u e = omega arith
-
-    pub setting-refused : (k : ℕ) → k ≡ number_on b (set_allowance n ss) → (k ≡ 0 → ⊥) → record { bytes = b; answer = bare k } ≡ call b (set_allowance n ss)
+    pub setting-refused : (r : Refusal) → refusal_number r ≡ number_on b (set_allowance n ss) → record { bytes = b; answer = bare (refusal_number r) } ≡ call b (set_allowance n ss)
     unfolding call
-    setting-refused k e z = rw (setting-answer, ← e, setting-refusal k e z)
+    setting-refused r e = rw (setting-answer, ← e, never-done r)
 
-    pub setting-sound : (k : ℕ) → k ≡ number_on b (set_allowance n ss) → k ≡ 0 → sound b ≡ true
+    setting-sound : 0 ≡ number_on b (set_allowance n ss) → sound b ≡ true
     unfolding number_on
-    setting-sound k e z = go (sound b) refl
+    setting-sound e = go (sound b) refl
       where
         go : (t : Bool) → sound b ≡ t → t ≡ true
         go true s = refl
-        go false s = let q : ◌≡◌ {A = ℕ} 0 1 = sym z ∙ e ∙ rw s in absurd (omega arith)
+        go false s = let q : ◌≡◌ {A = ℕ} 0 1 = e ∙ rw s in absurd (omega arith)
 
     -- what a setting that is not refused has
     pub record Ready : Type 0 where
@@ -72,27 +62,26 @@ module _ (b : List ℕ) where
       pub most : n ≤ blocks_most
       pub whole : length ss ≡ share_count
 
-    pub ready : (k : ℕ) → k ≡ number_on b (set_allowance n ss) → k ≡ 0 → Ready
+    pub ready : 0 ≡ number_on b (set_allowance n ss) → Ready
     unfolding number_on number_of
-    ready k e z =
-        let s : sound b ≡ true = setting-sound k e z in
-        let q : k ≡ setting_number n ss = e ∙ ap (λ (t : Bool). cond t (setting_number n ss) 1) s in
-        let t : Settable n ss = settable n ss (sym q ∙ z) in
+    ready e =
+        let s : sound b ≡ true = setting-sound e in
+        let q : 0 ≡ setting_number n ss = e ∙ ap (λ (t : Bool). cond t (setting_number n ss) 1) s in
+        let t : Settable n ss = settable n ss (sym q) in
         record { good = s; room = opening-room b s; most = t.most; whole = t.whole }
 
     -- B, the shares and the charges written one behind the other
-    pub setting-done : (k m : ℕ) (b₁ b₂ b₃ : List ℕ) → k ≡ number_on b (set_allowance n ss) → k ≡ 0 → length ss ≡ share_count → m ≡ n → b₁ ≡ splice b allowance_at (be_bytes 1 m)
+    pub setting-done : (m : ℕ) (b₁ b₂ b₃ : List ℕ) → 0 ≡ number_on b (set_allowance n ss) → length ss ≡ share_count → m ≡ n → b₁ ≡ splice b allowance_at (be_bytes 1 m)
         → b₂ ≡ splice b₁ (allowance_at + shares_from) ss → b₃ ≡ splice b₂ (allowance_at + charges_from) no_charges → record { bytes = b₃; answer = bare 0 } ≡ call b (set_allowance n ss)
     unfolding call done after_call
-    setting-done k m b₁ b₂ b₃ e z l f p q r =
+    setting-done m b₁ b₂ b₃ e l f p q r =
         let x : b₂ ≡ splice b allowance_at (be_bytes 1 n ++ ss) =
         q ∙ ap (λ (w : List ℕ). splice w (allowance_at + shares_from) ss) (p ∙ ap (λ (v : ℕ). splice b allowance_at (be_bytes 1 v)) f)
         ∙ splice-join b allowance_at shares_from (be_bytes 1 n) ss (length-be_bytes 1 n) in
         let y : b₃ ≡ splice b allowance_at (setting_bytes n ss) =
         r ∙ ap (λ (w : List ℕ). splice w (allowance_at + charges_from) no_charges) x
         ∙ splice-join b allowance_at charges_from (be_bytes 1 n ++ ss) no_charges (simp length-append (omega (arith, l, length-be_bytes 1 n))) in
-        let o : number_on b (set_allowance n ss) ≡ 0 = sym e ∙ z in
-        rw (setting-answer, o, y)
+        rw (setting-answer, ← e, y)
 
   -- ---- the tick
 

@@ -1,11 +1,11 @@
 -- The answer bytes and the counts of a block, message by message.
 -- Assumes nothing.
-use Prim.Native.Nat.{ℕ, ◌+◌, ◌*◌, ◌/◌, ◌%◌, ◌≤◌, ◌<◌}
+use Prim.Native.Nat.{ℕ, ◌+◌, ◌*◌, ◌≤◌}
 use mathlib.Core.Path.{◌≡◌, refl, ap, ◌∙◌}
 use mathlib.Core.Bool.{Bool, true, false, cond}
-use mathlib.Core.List.{List, [], ◌∷◌}
+use mathlib.Core.List.{List, ◌∷◌}
 use native.Mathlib.Omega.{arith}
-use Rattle.field.specs.Field.{splice, be_bytes}
+use Rattle.field.specs.Field.{splice}
 use Rattle.field.proofs.Laws.{splice-join}
 use Rattle.told.specs.declared.Told.{Told}
 use Rattle.told.specs.declared.Tally.{Tally}
@@ -13,16 +13,6 @@ use Rattle.told.specs.Told.{quads, tally, is_accepted, is_partly, is_rejected}
 use Rattle.told.specs.code.Steps.{quad, tally_with, tally_of}
 
 -- ---- one message's four bytes and counts
-
--- as one number
-pub quad_is : (i c f : ℕ) → i < 256 → c < 256 → f < 256 → be_bytes 4 (i * 16777216 + c * 65536 + f * 256) ≡ i ∷ c ∷ f ∷ 0 ∷ []
-unfolding be_bytes
-quad_is i c f hi hc hf =
-    let a : (i * 16777216 + c * 65536 + f * 256) / 16777216 % 256 ≡ i = omega arith in
-    let b : (i * 16777216 + c * 65536 + f * 256) / 65536 % 256 ≡ c = omega arith in
-    let d : (i * 16777216 + c * 65536 + f * 256) / 256 % 256 ≡ f = omega arith in
-    let e : (i * 16777216 + c * 65536 + f * 256) / 1 % 256 ≡ 0 = omega arith in
-    λ j. a j ∷ b j ∷ d j ∷ e j ∷ []
 
 pub quads-join : (a : List ℕ) (i : ℕ) (t : Told) (ts : List Told) → splice (splice a (4 * i) (quad i t)) (4 * (i + 1)) (quads (i + 1) ts) ≡ splice a (4 * i) (quads i (t ∷ ts))
 unfolding quads

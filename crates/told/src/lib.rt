@@ -45,8 +45,7 @@ pub fn put_answer(answer: &mut [u8], i: usize, told: Told)
     requires { (i < messages_most) × (answer_length ≤ length answer.old) }
     ensures { answer.new ≡ splice answer.old (4 * i) (quad i told) }
 {
-    let four = (i as u32) * 16777216 + (told.code as u32) * 65536 + (told.flags as u32) * 256;
-    field::put32(answer, 4 * i, four);
+    answer[4 * i..4 * i + 4].copy_from_slice(&[i as u8, told.code, told.flags, 0]);
 }
 
 impl Tally {
@@ -55,9 +54,9 @@ impl Tally {
         requires { (self.accepted < 64) × ((self.partly < 64) × (self.rejected < 64)) }
         ensures { result ≡ tally_with self told }
     {
-        let accepted = self.accepted + one_if(told.code == 0);
-        let partly = self.partly + one_if(told.partly);
-        let rejected = self.rejected + one_if(is_rejected(told));
+        let accepted = self.accepted + u8::from(told.code == 0);
+        let partly = self.partly + u8::from(told.partly);
+        let rejected = self.rejected + u8::from(is_rejected(told));
         Tally {
             accepted,
             partly,
@@ -66,20 +65,8 @@ impl Tally {
     }
 }
 
-fn one_if(t: bool) -> u8
-    ensures { (result ≡ cond t 1 0) × (result ≤ 1) }
-{
-    if t {
-        return 1;
-    }
-    0
-}
-
 fn is_rejected(told: Told) -> bool
     ensures { result ≡ is_rejected told }
 {
-    if told.code == 0 {
-        return false;
-    }
-    !told.partly
+    told.code != 0 && !told.partly
 }

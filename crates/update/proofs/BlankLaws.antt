@@ -4,7 +4,7 @@ use Prim.Native.Nat.{ℕ, ◌+◌, ◌-◌, ◌≤◌}
 use mathlib.Core.Path.{◌≡◌, refl, sym, ap, ◌∙◌}
 use mathlib.Core.Bool.{false}
 use mathlib.Core.List.{List, ◌++◌}
-use mathlib.Core.Option.{none}
+use Rattle.std.specs.Prelude.{None}
 use native.Mathlib.Omega.{arith}
 use lib.Dec.{eqb}
 use lib.ListN.{length, replicate, length-append, length-replicate}
@@ -30,7 +30,7 @@ use Rattle.text.specs.Form.{symbol_length}
 -- ---- six entries of none
 
 -- the entries of a symbol with nothing
-pub entries_none : no_entries ≡ publication (unless_halted false (entries_of (λ l. no_quote) (occupied (replicate maker_count none)) (λ l. no_levels)))
+pub entries_none : no_entries ≡ publication (unless_halted false (entries_of (λ l. no_quote) (occupied (replicate maker_count None)) (λ l. no_levels)))
 unfolding unless_halted
 entries_none = sym (ap publication none-entries ∙ none-published)
 
@@ -73,7 +73,7 @@ module _ (head : List ℕ) (whole : length head ≡ head_length) (n : ℕ) (rest
       let s : be (part page symbol_at symbol_length) ≡ be (part head symbol_at symbol_length) = ap be (part-front head (no_entries ++ replicate n 0) symbol_at symbol_length (omega arith)) in
       let t : be (part page lot_at 1) ≡ be (part head lot_at 1) = ap be (part-front head (no_entries ++ replicate n 0) lot_at 1 (omega arith)) in
       let u : be (part page primary_at 1) ≡ be (part head primary_at 1) = ap be (part-front head (no_entries ++ replicate n 0) primary_at 1 (omega arith)) in
-      let e : kept_entries page ≡ publication (unless_halted false (entries_of (λ l. no_quote) (occupied (replicate maker_count none)) (λ l. no_levels))) = entries_at ∙ entries_none in
+      let e : kept_entries page ≡ publication (unless_halted false (entries_of (λ l. no_quote) (occupied (replicate maker_count None)) (λ l. no_levels))) = entries_at ∙ entries_none in
       λ i. record { symbol = s i; lot = t i; primary = u i; halted = trading-at i; quotes = blank-quotes page zero-at i; cells = blank-makers page zero-at i; levels = blank-levels page zero-at i; entries = e i }
 
   page-length : length page ≡ page_length

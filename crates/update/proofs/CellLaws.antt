@@ -4,7 +4,7 @@ use Prim.Native.Nat.{ℕ, ◌+◌, ◌^◌, ◌≤◌, ◌<◌}
 use mathlib.Core.Path.{◌≡◌, refl, sym, ◌∙◌}
 use mathlib.Core.Bool.{Bool, true, false, cond}
 use mathlib.Core.List.{List, [], ◌∷◌}
-use mathlib.Core.Option.{none, some}
+use Rattle.std.specs.Prelude.{None, Some}
 use native.Mathlib.Omega.{arith}
 use lib.Dec.{eqb, ltb, lit≤}
 use lib.ListN.{length, replicate, length-replicate}
@@ -52,18 +52,18 @@ pub bytes-maker : (m : Maker) → Bytes (maker_bytes m)
 unfolding maker_bytes
 bytes-maker m = bytes-append (be_bytes 4 m.name) (quote_bytes m.quote) (bytes-be_bytes 4 m.name) (bytes-quote m.quote)
 
-pub maker-back : (m : Maker) → m.name < 256 ^ 4 → QuoteFits m.quote → Stands m.quote.condition → maker_in (maker_bytes m) ≡ some m
+pub maker-back : (m : Maker) → m.name < 256 ^ 4 → QuoteFits m.quote → Stands m.quote.condition → maker_in (maker_bytes m) ≡ Some m
 unfolding maker_in maker_bytes quote_bytes be_bytes level_bytes le_bytes field part
 maker-back m n f c =
     let a : be (be_bytes 1 m.quote.condition) ≡ m.quote.condition = be-be_bytes 1 m.quote.condition f.condition in
     let d : be (be_bytes 4 m.name) ≡ m.name = be-be_bytes 4 m.name n in
     let e : member (L ∷ R ∷ []) (be (be_bytes 1 m.quote.condition)) ≡ true = rw a c in
-    let g : cond (member (L ∷ R ∷ []) (be (be_bytes 1 m.quote.condition))) (some (record { name = be (be_bytes 4 m.name); quote = quote_in (quote_bytes m.quote) })) none ≡ some m =
-    rw e (λ i. some (record { name = d i; quote = quote-back m.quote f i })) in
+    let g : cond (member (L ∷ R ∷ []) (be (be_bytes 1 m.quote.condition))) (Some (record { name = be (be_bytes 4 m.name); quote = quote_in (quote_bytes m.quote) })) None ≡ Some m =
+    rw e (λ i. Some (record { name = d i; quote = quote-back m.quote f i })) in
     g
 
 -- zeros are a free cell
-pub maker-free : maker_in (replicate cell_length 0) ≡ none
+pub maker-free : maker_in (replicate cell_length 0) ≡ None
 unfolding maker_in field part member
 maker-free = refl
 
@@ -90,7 +90,7 @@ module _ (m : ℕ) (q : Quote) where
   unfolding cell_for standing
   cell-for n f c = go (empty_quote q)
     where
-      go : (t : Bool) → maker_in (cond t (replicate cell_length 0) (maker_bytes (as_maker m q))) ≡ cond t none (some (as_maker m q))
+      go : (t : Bool) → maker_in (cond t (replicate cell_length 0) (maker_bytes (as_maker m q))) ≡ cond t None (Some (as_maker m q))
       go true = maker-free
       go false = maker-back (as_maker m q) n f c
 
@@ -124,15 +124,15 @@ mark-cell c b s w = go (member (L ∷ R ∷ []) (field b name_length 1)) refl
     at4 = field_put b name_length 1 c (omega arith) (stands-fits c s)
 
     go : (t : Bool) → member (L ∷ R ∷ []) (field b name_length 1) ≡ t
-        → maker_in (cond (is_some {A = Maker} (cond t (some (record { name = field b 0 name_length; quote = quote_in (part b name_length quote_length) })) none)) (splice b 4 (be_bytes 1 c)) b)
-        ≡ map_option (marked c) (cond t (some (record { name = field b 0 name_length; quote = quote_in (part b name_length quote_length) })) none)
+        → maker_in (cond (is_some {A = Maker} (cond t (Some (record { name = field b 0 name_length; quote = quote_in (part b name_length quote_length) })) None)) (splice b 4 (be_bytes 1 c)) b)
+        ≡ map_option (marked c) (cond t (Some (record { name = field b 0 name_length; quote = quote_in (part b name_length quote_length) })) None)
     go true e =
         let z : member (L ∷ R ∷ []) (field (splice b 4 (be_bytes 1 c)) name_length 1) ≡ true = rw at4 s in
         let x : field (splice b 4 (be_bytes 1 c)) 0 name_length ≡ field b 0 name_length = field-before b 4 (be_bytes 1 c) 0 name_length (omega arith) (omega arith) in
         let k : field (part (splice b 4 (be_bytes 1 c)) name_length quote_length) 0 1 ≡ c = field-part (splice b 4 (be_bytes 1 c)) name_length quote_length 0 1 (lit≤ tt) ∙ at4 in
         let y : part (part (splice b 4 (be_bytes 1 c)) name_length quote_length) bid_at level_length ≡ part (part b name_length quote_length) bid_at level_length = behind 1 (omega arith) (lit≤ tt) in
         let o : part (part (splice b 4 (be_bytes 1 c)) name_length quote_length) offer_at level_length ≡ part (part b name_length quote_length) offer_at level_length = behind offer_at (omega arith) (lit≤ tt) in
-        rw z (λ i. some (record { name = x i; quote = record { condition = k i; bid = level_in (y i); offer = level_in (o i) } }))
+        rw z (λ i. Some (record { name = x i; quote = record { condition = k i; bid = level_in (y i); offer = level_in (o i) } }))
       where
         behind : (j : ℕ) → 1 ≤ j → j + level_length ≤ quote_length → part (part (splice b 4 (be_bytes 1 c)) name_length quote_length) j level_length ≡ part (part b name_length quote_length) j level_length
         behind j lo hi =

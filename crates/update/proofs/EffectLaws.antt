@@ -11,7 +11,7 @@ use borrow.Author.Tests.{eq-eqb, ne_eqb}
 use Rattle.field.specs.Field.{part, splice}
 use Rattle.field.proofs.Laws.{part-before, length_part, length-splice}
 use Rattle.lists.specs.Lists.{upper}
-use Rattle.lists.specs.declared.Found.TheVariants.{At, Nothing}
+use Rattle.std.specs.Prelude.{Some, None}
 use Rattle.lists.proofs.Tests.{Cut, equal, apart, cut, upper-low}
 use Rattle.quote.specs.declared.Quote.{Quote}
 use Rattle.quote.specs.Quote.{empty_quote, quote_over, quote_in, quote_length}
@@ -132,7 +132,7 @@ module _ (p : List ℕ) (w : length p ≡ page_length) (m : ℕ) (q : Quote) whe
       ∙ flagged-from 0 p (splice p (cell_at k) (cell_for m v)) (refreshed (splice p (cell_at k) (cell_for m v))) (cell-stands k (cell_for m v) h)
       ∙ rw (c, t)
 
-  pub maker-known : (k : ℕ) (p' : List ℕ) (r : Updated) → maker_place p m ≡ At k → p' ≡ splice p (cell_at k) (cell_for m (quote_over (quote_in (part p (cell_at k + name_length) quote_length)) q))
+  pub maker-known : (k : ℕ) (p' : List ℕ) (r : Updated) → maker_place p m ≡ Some k → p' ≡ splice p (cell_at k) (cell_for m (quote_over (quote_in (part p (cell_at k + name_length) quote_length)) q))
       → r ≡ flagged 0 p' (refreshed p') → r ≡ maker_quote_on 0 m q p
   unfolding put_maker
   maker-known k p' r e d f =
@@ -142,18 +142,18 @@ module _ (p : List ℕ) (w : length p ≡ page_length) (m : ℕ) (q : Quote) whe
       either-zero true = refl
       either-zero false = refl
 
-  pub maker-new : (k : ℕ) (p' : List ℕ) (r : Updated) → maker_place p m ≡ Nothing → free_place p ≡ At k → empty_quote q ≡ false
+  pub maker-new : (k : ℕ) (p' : List ℕ) (r : Updated) → maker_place p m ≡ None → free_place p ≡ Some k → empty_quote q ≡ false
       → p' ≡ splice p (cell_at k) (cell_for m q) → r ≡ flagged 0 p' (refreshed p') → r ≡ maker_quote_on 0 m q p
   unfolding put_maker
   maker-new k p' r e g n d f = written k q p' r (free-hit p k g).0 d (rw (over-new m q p e, e, n, g)) (maker-code p m q ∙ rw (n, e, g)) f
 
   -- an empty quote of a maker without a cell
-  pub maker-nothing : (r : Updated) → maker_place p m ≡ Nothing → empty_quote q ≡ true → r ≡ flagged 0 p (refreshed p) → r ≡ maker_quote_on 0 m q p
+  pub maker-nothing : (r : Updated) → maker_place p m ≡ None → empty_quote q ≡ true → r ≡ flagged 0 p (refreshed p) → r ≡ maker_quote_on 0 m q p
   unfolding maker_quote_on maker_on put_maker
   maker-nothing r e n f = f ∙ rw (maker-code p m q, over-new m q p e, e, n)
 
   -- 49: sixteen stand, and the quote is not empty
-  pub maker-full : maker_place p m ≡ Nothing → free_place p ≡ Nothing → empty_quote q ≡ false → ◌≡◌ {A = Updated} (rejected 49 p) (maker_quote_on 0 m q p)
+  pub maker-full : maker_place p m ≡ None → free_place p ≡ None → empty_quote q ≡ false → ◌≡◌ {A = Updated} (rejected 49 p) (maker_quote_on 0 m q p)
   unfolding maker_quote_on
   maker-full e g n = rw (maker-code p m q, e, g, n)
 

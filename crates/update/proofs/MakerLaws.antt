@@ -4,7 +4,7 @@ use Prim.Native.Nat.{ℕ, zero, suc, ◌+◌, ◌*◌, ◌^◌, ◌≤◌, ◌<�
 use mathlib.Core.Path.{◌≡◌, refl, sym, ap, ◌∙◌}
 use mathlib.Core.Bool.{Bool, true, false, not, cond}
 use mathlib.Core.List.{List, [], ◌∷◌, map}
-use mathlib.Core.Option.{Option, none, some}
+use Rattle.std.specs.Prelude.{Option, None, Some}
 use native.Mathlib.Omega.{arith}
 use lib.Dec.{ltb, lit≤}
 use lib.ListN.{length}
@@ -12,8 +12,6 @@ use Rattle.field.specs.Field.{Bytes, part, field, splice}
 use Rattle.field.proofs.Laws.{length_part, bytes-part, bytes-splice, part-part, part-before, part-behind}
 use Rattle.lists.specs.Lists.{range, is_some, map_option}
 use Rattle.lists.proofs.Ranges.{map_range}
-use Rattle.lists.specs.declared.Found.{Found}
-use Rattle.lists.specs.declared.Found.TheVariants.{At, Nothing}
 use Rattle.lists.proofs.Searches.{Hit, first-hit}
 use Rattle.lists.proofs.Tests.{clash, upper-low}
 use Rattle.quote.specs.declared.Quote.{Quote}
@@ -42,15 +40,15 @@ use Rattle.keys.specs.Keys.{key_length}
 
 module _ (p : List ℕ) where
   -- the maker under a name is what stands in the cell that is found
-  pub find-maker : (m : ℕ) → find_maker m (makers_in p) ≡ found_by (cell_of p) none (maker_place p m)
+  pub find-maker : (m : ℕ) → find_maker m (makers_in p) ≡ found_by (cell_of p) None (maker_place p m)
   unfolding makers_in maker_place
   find-maker m = find-place (cell_of p) maker_count m
 
-  pub maker-hit : (m k : ℕ) → maker_place p m ≡ At k → (k < maker_count) × (named m (cell_of p k) ≡ true)
+  pub maker-hit : (m k : ℕ) → maker_place p m ≡ Some k → (k < maker_count) × (named m (cell_of p k) ≡ true)
   unfolding maker_place
   maker-hit m k e = let h : Hit (λ j. named m (cell_of p j)) 0 maker_count k = first-hit (λ j. named m (cell_of p j)) 0 maker_count k e in (h.high, h.holds)
 
-  pub free-hit : (k : ℕ) → free_place p ≡ At k → (k < maker_count) × (is_some (cell_of p k) ≡ false)
+  pub free-hit : (k : ℕ) → free_place p ≡ Some k → (k < maker_count) × (is_some (cell_of p k) ≡ false)
   unfolding free_place
   free-hit k e =
       let h : Hit (λ j. not (is_some (cell_of p j))) 0 maker_count k = first-hit (λ j. not (is_some (cell_of p j))) 0 maker_count k e in
@@ -65,12 +63,12 @@ module _ (p : List ℕ) where
   stands_at m = ap is_some (find-maker m) ∙ go (maker_place p m) refl
     where
       some_of : (o : Option Maker) → named m o ≡ true → is_some o ≡ true
-      some_of none d = clash (sym d)
-      some_of (some x) d = refl
+      some_of None d = clash (sym d)
+      some_of (Some x) d = refl
 
-      go : (r : Found) → maker_place p m ≡ r → is_some (found_by (cell_of p) none r) ≡ is_at r
-      go (At k) e = some_of (cell_of p k) (maker-hit m k e).1
-      go Nothing e = refl
+      go : (r : Option ℕ) → maker_place p m ≡ r → is_some (found_by (cell_of p) None r) ≡ is_at r
+      go (Some k) e = some_of (cell_of p k) (maker-hit m k e).1
+      go None e = refl
 
   -- fewer than sixteen stand exactly if a free cell is found
   pub room_at : ltb (length (occupied (makers_in p))) maker_count ≡ is_at (free_place p)
@@ -83,7 +81,7 @@ module _ (p : List ℕ) where
   maker-code m q = rw (stands_at m, room_at)
 
 -- a quote that is not empty stands
-full : (m : ℕ) (q : Quote) → empty_quote q ≡ false → standing m q ≡ some (as_maker m q)
+full : (m : ℕ) (q : Quote) → empty_quote q ≡ false → standing m q ≡ Some (as_maker m q)
 unfolding standing
 full m q e = rw e
 
@@ -124,14 +122,14 @@ module _ (m : ℕ) (q : Quote) (p : List ℕ) (w : length p ≡ page_length) whe
   unfolding put_maker
   put-elim P as-was one = found (maker_place p m) refl
     where
-      free : (t : Bool) (r : Found) → free_place p ≡ r → P (cond t p (put_at p r (cell_for m q)))
+      free : (t : Bool) (r : Option ℕ) → free_place p ≡ r → P (cond t p (put_at p r (cell_for m q)))
       free true r e = as-was
-      free false (At k) e = one k (free-hit p k e).0
-      free false Nothing e = as-was
+      free false (Some k) e = one k (free-hit p k e).0
+      free false None e = as-was
 
-      found : (r : Found) → maker_place p m ≡ r → P (put_maker_by m q p r)
-      found (At k) e = one k (maker-hit p m k e).0
-      found Nothing e = free (empty_quote q) (free_place p) refl
+      found : (r : Option ℕ) → maker_place p m ≡ r → P (put_maker_by m q p r)
+      found (Some k) e = one k (maker-hit p m k e).0
+      found None e = free (empty_quote q) (free_place p) refl
 
   pub put-maker-kept : Kept p (put_maker m q p)
   put-maker-kept = put-elim (λ x. Kept p x) (kept-none p w) (λ k b. cell-kept p w k b (cell_for m q) (length-for m q) (bytes-for m q))
@@ -145,13 +143,13 @@ module _ (m : ℕ) (q : Quote) (p : List ℕ) (w : length p ≡ page_length) whe
   put-maker-halted : halted_in (put_maker m q p) ≡ halted_in p
   put-maker-halted = halted-same p (put_maker m q p) (put-maker-behind status_at 1 (omega arith))
 
-  rewrite-at : (k : ℕ) (c : Option Maker) → maker_place p m ≡ At k → rewrite m c (makers_in p) ≡ map (set_at k c (cell_of p)) (range maker_count 0)
+  rewrite-at : (k : ℕ) (c : Option Maker) → maker_place p m ≡ Some k → rewrite m c (makers_in p) ≡ map (set_at k c (cell_of p)) (range maker_count 0)
   unfolding makers_in maker_place
   rewrite-at k c e = rewrite-place (cell_of p) maker_count m c ∙ ap (found_by (λ j. map (set_at j c (cell_of p)) (range maker_count 0)) (map (cell_of p) (range maker_count 0))) e
 
-  allocate-at : (y : Maker) (r : Found) → free_place p ≡ r → allocate y (makers_in p) ≡ found_by (λ k. map (set_at k (some y) (cell_of p)) (range maker_count 0)) (makers_in p) r
+  allocate-at : (y : Maker) (r : Option ℕ) → free_place p ≡ r → allocate y (makers_in p) ≡ found_by (λ k. map (set_at k (Some y) (cell_of p)) (range maker_count 0)) (makers_in p) r
   unfolding makers_in free_place
-  allocate-at y r e = allocate-place (cell_of p) maker_count y ∙ ap (found_by (λ j. map (set_at j (some y) (cell_of p)) (range maker_count 0)) (map (cell_of p) (range maker_count 0))) e
+  allocate-at y r e = allocate-place (cell_of p) maker_count y ∙ ap (found_by (λ j. map (set_at j (Some y) (cell_of p)) (range maker_count 0)) (map (cell_of p) (range maker_count 0))) e
 
   module _ (name : m < 256 ^ 4) (fits : QuoteFits q) (stands : Stands q.condition) where
     put-makers : makers_in (put_maker m q p) ≡ maker_put m q (makers_in p)
@@ -161,16 +159,16 @@ module _ (m : ℕ) (q : Quote) (p : List ℕ) (w : length p ≡ page_length) whe
         one : (k : ℕ) → k < maker_count → makers_in (splice p (cell_at k) (cell_for m q)) ≡ map (set_at k (standing m q) (cell_of p)) (range maker_count 0)
         one k b = cell-makers p w k b (cell_for m q) (length-for m q) (standing m q) (cell-for m q name fits stands)
 
-        free : (t : Bool) → empty_quote q ≡ t → (r : Found) → free_place p ≡ r → makers_in (cond t p (put_at p r (cell_for m q))) ≡ cond t (makers_in p) (allocate (as_maker m q) (makers_in p))
+        free : (t : Bool) → empty_quote q ≡ t → (r : Option ℕ) → free_place p ≡ r → makers_in (cond t p (put_at p r (cell_for m q))) ≡ cond t (makers_in p) (allocate (as_maker m q) (makers_in p))
         free true x r e = refl
-        free false x (At k) e =
-            one k (free-hit p k e).0 ∙ ap (λ (c : Option Maker). map (set_at k c (cell_of p)) (range maker_count 0)) (full m q x) ∙ sym (allocate-at (as_maker m q) (At k) e)
-        free false x Nothing e = sym (allocate-at (as_maker m q) Nothing e)
+        free false x (Some k) e =
+            one k (free-hit p k e).0 ∙ ap (λ (c : Option Maker). map (set_at k c (cell_of p)) (range maker_count 0)) (full m q x) ∙ sym (allocate-at (as_maker m q) (Some k) e)
+        free false x None e = sym (allocate-at (as_maker m q) None e)
 
-        found : (r : Found) → maker_place p m ≡ r
+        found : (r : Option ℕ) → maker_place p m ≡ r
             → makers_in (put_maker_by m q p r) ≡ cond (is_at r) (rewrite m (standing m q) (makers_in p)) (cond (empty_quote q) (makers_in p) (allocate (as_maker m q) (makers_in p)))
-        found (At k) e = one k (maker-hit p m k e).0 ∙ sym (rewrite-at k (standing m q) e)
-        found Nothing e = free (empty_quote q) refl (free_place p) refl
+        found (Some k) e = one k (maker-hit p m k e).0 ∙ sym (rewrite-at k (standing m q) e)
+        found None e = free (empty_quote q) refl (free_place p) refl
 
 -- ---- over the maker's quote that stands
 
@@ -182,7 +180,7 @@ over-named b m q = go (member (L ∷ R ∷ []) (field b name_length 1))
     here : Maker
     here = record { name = field b 0 name_length; quote = quote_in (part b name_length quote_length) }
 
-    go : (t : Bool) → named m (cond t (some here) none) ≡ true → maker_over (cond t (some here) none) q ≡ quote_over (quote_in (part b name_length quote_length)) q
+    go : (t : Bool) → named m (cond t (Some here) None) ≡ true → maker_over (cond t (Some here) None) q ≡ quote_over (quote_in (part b name_length quote_length)) q
     go true e = refl
     go false e = clash (sym e)
 
@@ -193,27 +191,27 @@ over-cell-fits b w k q f = go (member (L ∷ R ∷ []) (field b name_length 1))
     here : Maker
     here = record { name = field b 0 name_length; quote = quote_in (part b name_length quote_length) }
 
-    go : (t : Bool) → QuoteFits (maker_over (cond t (some here) none) q)
+    go : (t : Bool) → QuoteFits (maker_over (cond t (Some here) None) q)
     go true = over-fits here.quote q (quote-fits (part b name_length quote_length) (length_part b name_length quote_length (omega arith)) (bytes-part b name_length quote_length k)) f
     go false = f
 
 over-stands : (o : Option Maker) (q : Quote) → (maker_over o q).condition ≡ q.condition
-over-stands none q = refl
-over-stands (some x) q = over-condition x.quote q
+over-stands None q = refl
+over-stands (Some x) q = over-condition x.quote q
 
 module _ (m : ℕ) (q : Quote) (p : List ℕ) where
   abbrev pub over : Quote
   over = maker_over (find_maker m (makers_in p)) q
 
   -- a maker that has a cell; one that has none
-  pub over-known : (k : ℕ) → maker_place p m ≡ At k → over ≡ quote_over (quote_in (part p (cell_at k + name_length) quote_length)) q
+  pub over-known : (k : ℕ) → maker_place p m ≡ Some k → over ≡ quote_over (quote_in (part p (cell_at k + name_length) quote_length)) q
   over-known k e =
-      ap (λ (o : Option Maker). maker_over o q) (find-maker p m ∙ ap (found_by (cell_of p) none) e)
+      ap (λ (o : Option Maker). maker_over o q) (find-maker p m ∙ ap (found_by (cell_of p) None) e)
       ∙ over-named (part p (cell_at k) cell_length) m q (maker-hit p m k e).1
       ∙ ap (λ (b : List ℕ). quote_over (quote_in b) q) (part-part p (cell_at k) cell_length name_length quote_length (lit≤ tt))
 
-  pub over-new : maker_place p m ≡ Nothing → over ≡ q
-  over-new e = ap (λ (o : Option Maker). maker_over o q) (find-maker p m ∙ ap (found_by (cell_of p) none) e)
+  pub over-new : maker_place p m ≡ None → over ≡ q
+  over-new e = ap (λ (o : Option Maker). maker_over o q) (find-maker p m ∙ ap (found_by (cell_of p) None) e)
 
 module _ (m : ℕ) (q : Quote) (p : List ℕ) (w : length p ≡ page_length) where
   pub maker-kept : Kept p (maker_on m q p)
@@ -224,11 +222,11 @@ module _ (m : ℕ) (q : Quote) (p : List ℕ) (w : length p ≡ page_length) whe
     over-fit : QuoteFits (over m q p)
     over-fit = rw (find-maker p m) (go (maker_place p m) refl)
       where
-        go : (r : Found) → maker_place p m ≡ r → QuoteFits (maker_over (found_by (cell_of p) none r) q)
-        go (At k) e =
+        go : (r : Option ℕ) → maker_place p m ≡ r → QuoteFits (maker_over (found_by (cell_of p) None r) q)
+        go (Some k) e =
             let h : k < maker_count = (maker-hit p m k e).0 in
             over-cell-fits (part p (cell_at k) cell_length) (length_part p (cell_at k) cell_length (omega arith)) (bytes-part p (cell_at k) cell_length b) q fits
-        go Nothing e = fits
+        go None e = fits
 
     over-stand : Stands (over m q p).condition
     over-stand = rw (over-stands (find_maker m (makers_in p)) q) stands

@@ -2,7 +2,7 @@
 -- Assumes nothing.
 use mathlib.Core.Bool.{Bool, false, cond}
 use mathlib.Core.List.{List, [], ◌∷◌, map}
-use mathlib.Core.Option.{Option, none, some}
+use Rattle.std.specs.Prelude.{Option, None, Some}
 use Prim.Native.Nat.{ℕ}
 use lib.Dec.{eqb}
 use lib.ListN.{replicate}
@@ -35,12 +35,12 @@ rewrite m c (x ∷ xs) = cond (named m x) (c ∷ xs) (x ∷ rewrite m c xs)
 -- the first free cell gets y
 abbrev pub allocate : Maker → List (Option Maker) → List (Option Maker)
 allocate y [] = []
-allocate y (none ∷ xs) = some y ∷ xs
-allocate y (some x ∷ xs) = some x ∷ allocate y xs
+allocate y (None ∷ xs) = Some y ∷ xs
+allocate y (Some x ∷ xs) = Some x ∷ allocate y xs
 
 -- what stands after a maker's quote: nothing if both sides are 0 and 0
 unfoldable pub standing : ℕ → Quote → Option Maker
-standing m q = cond (empty_quote q) none (some (as_maker m q))
+standing m q = cond (empty_quote q) None (Some (as_maker m q))
 
 unfoldable pub maker_put : ℕ → Quote → List (Option Maker) → List (Option Maker)
 maker_put m q cs = cond (is_some (find_maker m cs)) (rewrite m (standing m q) cs) (cond (empty_quote q) cs (allocate (as_maker m q) cs))
@@ -73,7 +73,7 @@ worked_for r = worked r.symbol r.lot r.primary r.halted
 
 -- a symbol with nothing
 unfoldable pub blank_reading : ℕ → ℕ → ℕ → Reading
-blank_reading s k m = worked s k m false (λ l. no_quote) (replicate maker_count none) (λ l. no_levels)
+blank_reading s k m = worked s k m false (λ l. no_quote) (replicate maker_count None) (λ l. no_levels)
 
 abbrev pub blanked : Reading → Reading
 blanked r = blank_reading r.symbol r.lot r.primary

@@ -4,8 +4,9 @@ use Prim.Native.Nat.{ℕ, ◌+◌, ◌≤◌}
 use mathlib.Core.Path.{◌≡◌, refl, sym, ap, ◌∙◌}
 use mathlib.Core.Bool.{Bool, true, false, cond}
 use mathlib.Core.List.{List, []}
-use mathlib.Core.Option.{Option, none, some}
+use Rattle.std.specs.Prelude.{Option, None, Some, Result, Ok, Err}
 use native.Mathlib.Omega.{arith}
+use borrow.Author.Tests.{ne_eqb}
 use lib.Dec.{eqb}
 use lib.ListN.{length}
 use Rattle.field.specs.Field.{part}
@@ -17,17 +18,17 @@ use Rattle.quote.specs.declared.Level.{Level}
 use Rattle.quote.specs.Quote.{quote_length}
 use Rattle.keys.specs.Keys.{key_length}
 use Rattle.field.specs.Low.{low}
-use Rattle.levels.specs.declared.Changed.{Changed}
-use Rattle.levels.specs.declared.Judged.{Judged}
-use Rattle.levels.specs.declared.Judged.TheVariants.{Pass, Refused}
+use Rattle.levels.specs.declared.Levels.{Levels}
+use Rattle.numbers.specs.declared.Rejection.{Rejection}
+use Rattle.numbers.specs.Numbers.{code_of}
 use Rattle.levels.specs.Levels.{Standing, side_levels, Odd, side_items, touches, odd_bad, fifth, odd_code, items_from, odd_in, side_in, side_length}
-use Rattle.levels.specs.code.Cells.{cells_of, judged_number}
+use Rattle.levels.specs.code.Cells.{cells_of}
 use Rattle.levels.proofs.LevelLaws.{Ranked}
 use Rattle.levels.proofs.SideLaws.{side-falls, side-short}
 use Rattle.levels.proofs.TouchLaws.{side_run, both_run, odd-runs, still}
-use Rattle.oddpart.specs.code.Part.{judged_by, touched_by}
+use Rattle.oddpart.specs.code.Part.{touched_by}
 use Rattle.oddpart.proofs.ItemsLaws.{Gives, part-cells}
-use Rattle.oddpart.proofs.OddLaws.{judged-pass, judged-refused, odd-priced}
+use Rattle.oddpart.proofs.OddLaws.{odd-priced}
 use Rattle.oddpart.proofs.PartLaws.{touches-bids, touches-offers}
 use Rattle.page.specs.Layout.{page_length, page_lot, slot_at, first_key_at, in_levels}
 use Rattle.page.specs.Page.{agreed_side, first_key, levels_for}
@@ -40,28 +41,23 @@ use Rattle.update.proofs.SlotLaws.{put-odd-is}
 
 -- ---- one side, and both
 
-module _ (s : Side) (l : ℕ) (p : List ℕ) (k : Changed) (c : Changed) (e : c ≡ k) where
-  pub one-refused : (x code : ℕ) → c.judged ≡ Refused x → code ≡ judged_number c.judged → ◌≡◌ {A = Put} (record { code = code; page = p }) (one_side s l k p)
-  unfolding one_side
-  one-refused x code f n = rw (n, ← e, f)
+module _ (s : Side) (l : ℕ) (p : List ℕ) (k c : Result Levels Rejection) (e : c ≡ k) where
+  pub one-rejected : (x : Rejection) → c ≡ Err x → ◌≡◌ {A = Put} (record { code = code_of x; page = p }) (one_side s l k p)
+  one-rejected x f = rw (← e, f)
 
-  pub one_written : (p' : List ℕ) → c.judged ≡ Pass → p' ≡ with_cells s l c.levels.cells p → ◌≡◌ {A = Put} (record { code = 0; page = p' }) (one_side s l k p)
-  unfolding one_side
-  one_written p' f g = rw (g, ← e, f)
+  pub one_written : (v : Levels) (p' : List ℕ) → c ≡ Ok v → p' ≡ with_cells s l v.cells p → ◌≡◌ {A = Put} (record { code = 0; page = p' }) (one_side s l k p)
+  one_written v p' f g = rw (g, ← e, f)
 
-module _ (l : ℕ) (p : List ℕ) (j k b : Changed) (e : b ≡ j) where
-  pub bids-refused : (x code : ℕ) → b.judged ≡ Refused x → code ≡ judged_number b.judged → ◌≡◌ {A = Put} (record { code = code; page = p }) (both_sides l j k p)
-  unfolding both_sides
-  bids-refused x code f n = rw (n, ← e, f)
+module _ (l : ℕ) (p : List ℕ) (j k b : Result Levels Rejection) (e : b ≡ j) where
+  pub bids-rejected : (x : Rejection) → b ≡ Err x → ◌≡◌ {A = Put} (record { code = code_of x; page = p }) (both_sides l j k p)
+  bids-rejected x f = rw (← e, f)
 
-  module _ (q : b.judged ≡ Pass) (o : Changed) (d : o ≡ k) where
-    pub offers-refused : (x code : ℕ) → o.judged ≡ Refused x → code ≡ judged_number o.judged → ◌≡◌ {A = Put} (record { code = code; page = p }) (both_sides l j k p)
-    unfolding both_sides
-    offers-refused x code f n = rw (n, ← e, ← d, q, f)
+  module _ (v : Levels) (q : b ≡ Ok v) (o : Result Levels Rejection) (d : o ≡ k) where
+    pub offers-rejected : (x : Rejection) → o ≡ Err x → ◌≡◌ {A = Put} (record { code = code_of x; page = p }) (both_sides l j k p)
+    offers-rejected x f = rw (← e, ← d, q, f)
 
-    pub both-written : (y z : List ℕ) → o.judged ≡ Pass → y ≡ with_cells Bid l b.levels.cells p → z ≡ with_cells Offer l o.levels.cells y → ◌≡◌ {A = Put} (record { code = 0; page = z }) (both_sides l j k p)
-    unfolding both_sides
-    both-written y z f g h = rw (h, g, ← e, ← d, q, f)
+    pub both-written : (w : Levels) (y z : List ℕ) → o ≡ Ok w → y ≡ with_cells Bid l v.cells p → z ≡ with_cells Offer l w.cells y → ◌≡◌ {A = Put} (record { code = 0; page = z }) (both_sides l j k p)
+    both-written w y z f g h = rw (h, g, ← e, ← d, q, f)
 
 -- ---- what a page's levels are: at most four, best first
 
@@ -95,14 +91,14 @@ module _ (p : List ℕ) (l : ℕ) (u : upper l ≡ true) (s : Side) where
 
 -- by what both sides' items give
 abbrev put_by : ℕ → Odd → List ℕ → Option (List Level) → Option (List Level) → Put
-put_by l o p none y = record { code = 64; page = p }
-put_by l o p (some b) none = record { code = 64; page = p }
-put_by l o p (some b) (some a) = let v : Standing = record { bids = b; offers = a } in record { code = 0; page = put_side Offer l o v (put_side Bid l o v p) }
+put_by l o p None y = record { code = 64; page = p }
+put_by l o p (Some b) None = record { code = 64; page = p }
+put_by l o p (Some b) (Some a) = let v : Standing = record { bids = b; offers = a } in record { code = 0; page = put_side Offer l o v (put_side Bid l o v p) }
 
 abbrev Taken : ℕ → Odd → List ℕ → Put → Type 0
 Taken l o p r = (r.code ≡ odd_code_on l o p) × (r.page ≡ odd_taken l o p)
 
-module _ (p : List ℕ) (w : length p ≡ page_length) (l : ℕ) (u : upper l ≡ true) (mark bids offers t : ℕ) (s : List ℕ) (lot : ℕ) (h : lot ≡ page_lot p) (j : Judged) (a : j ≡ judged_by (odd_bad lot (odd_in mark bids offers 0 s))) where
+module _ (p : List ℕ) (w : length p ≡ page_length) (l : ℕ) (u : upper l ≡ true) (mark bids offers t : ℕ) (s : List ℕ) (lot : ℕ) (h : lot ≡ page_lot p) (j : ℕ) (a : j ≡ odd_bad lot (odd_in mark bids offers 0 s)) where
   abbrev o : Odd
   o = odd_in mark bids offers t s
 
@@ -110,29 +106,29 @@ module _ (p : List ℕ) (w : length p ≡ page_length) (l : ℕ) (u : upper l �
   v = levels_for p l
 
   -- the checks do not read the time
-  checked : j ≡ judged_by (odd_bad (page_lot p) o)
+  checked : j ≡ odd_bad (page_lot p) o
   unfolding odd_bad odd_in
-  checked = a ∙ ap (λ (n : ℕ). judged_by (odd_bad n (odd_in mark bids offers 0 s))) h
+  checked = a ∙ ap (λ (n : ℕ). odd_bad n (odd_in mark bids offers 0 s)) h
 
-  -- a part that a check refuses writes nothing
-  pub check-refused : (x code : ℕ) → j ≡ Refused x → code ≡ judged_number j → Taken l o p (record { code = code; page = p })
+  -- a part that a check rejects writes nothing
+  pub check-refused : (j ≡ 0 → ⊥) → Taken l o p (record { code = j; page = p })
   unfolding odd_code
-  check-refused x code e n =
-      let (z, k) = judged-refused (odd_bad (page_lot p) o) x (sym checked ∙ e) in
-      (n ∙ ap judged_number (checked ∙ k) ∙ rw z, rw (z, z))
+  check-refused n =
+      let z : eqb (odd_bad (page_lot p) o) 0 ≡ false = ne_eqb (odd_bad (page_lot p) o) 0 (λ q. n (checked ∙ q)) in
+      (checked ∙ rw z, rw (z, z))
 
-  module _ (g : j ≡ Pass) where
+  module _ (g : j ≡ 0) where
     bad : odd_bad (page_lot p) o ≡ 0
-    bad = judged-pass (odd_bad (page_lot p) o) (sym checked ∙ g)
+    bad = sym checked ∙ g
 
     taken : (x y : Option (List Level)) → side_run Bid o v ≡ x → side_run Offer o v ≡ y → Taken l o p (put_by l o p x y)
     unfolding odd_code put_levels
     taken x y e f = rw (put-odd-is p w l u o, bad, odd-runs o v, e, f) (go x y)
       where
         go : (x y : Option (List Level)) → ((put_by l o p x y).code ≡ fifth (both_run x y)) × ((put_by l o p x y).page ≡ cond (eqb (fifth (both_run x y)) 0) (put_side Offer l o (or_else (both_run x y) v) (put_side Bid l o (or_else (both_run x y) v) p)) p)
-        go none y = (refl, refl)
-        go (some b) none = (refl, refl)
-        go (some b) (some c) = (refl, refl)
+        go None y = (refl, refl)
+        go (Some b) None = (refl, refl)
+        go (Some b) (Some c) = (refl, refl)
 
     gives : (c : Side) → Gives (side_part c mark t l (side_items c o) p) (side_run c o v)
     unfolding odd_in
@@ -168,7 +164,7 @@ module _ (p : List ℕ) (w : length p ≡ page_length) (l : ℕ) (u : upper l �
 
       pub none-touched : b ≡ false → c ≡ false → Taken l o p (record { code = 0; page = p })
       none-touched e f =
-          by (some v.bids) (some v.offers) (still Bid o v (bid-touched ∙ e)) (still Offer o v (offer-touched ∙ f)) (record { code = 0; page = p })
+          by (Some v.bids) (Some v.offers) (still Bid o v (bid-touched ∙ e)) (still Offer o v (offer-touched ∙ f)) (record { code = 0; page = p })
           (λ i. record { code = 0; page = (bid-left v e ∙ offer-left v (put_side Bid l o v p) f) i })
 
       module _ (code : ℕ) (p' : List ℕ) where
@@ -176,33 +172,33 @@ module _ (p : List ℕ) (w : length p ≡ page_length) (l : ℕ) (u : upper l �
         r = record { code = code; page = p' }
 
         pub bids-touched : b ≡ true → c ≡ false → r ≡ one_side Bid l (side_part Bid mark t l (items_from s 0 bids) p) p → Taken l o p r
-        unfolding one_side odd_in
+        unfolding odd_in
         bids-touched e f d = go (side_run Bid o v) refl (gives Bid)
           where
             go : (x : Option (List Level)) → side_run Bid o v ≡ x → Gives (side_part Bid mark t l (items_from s 0 bids) p) x → Taken l o p r
-            go none k m = by none (some v.offers) k (still Offer o v (offer-touched ∙ f)) r (d ∙ rw m)
-            go (some ls) k m =
+            go None k m = by None (Some v.offers) k (still Offer o v (offer-touched ∙ f)) r (d ∙ rw m)
+            go (Some ls) k m =
                 let n : Standing = record { bids = ls; offers = v.offers } in
-                by (some ls) (some v.offers) k (still Offer o v (offer-touched ∙ f)) r (d ∙ rw m (λ i. record { code = 0; page = (bid-put n e ∙ offer-left n (put_side Bid l o n p) f) i }))
+                by (Some ls) (Some v.offers) k (still Offer o v (offer-touched ∙ f)) r (d ∙ rw m (λ i. record { code = 0; page = (bid-put n e ∙ offer-left n (put_side Bid l o n p) f) i }))
 
         pub offers-touched : b ≡ false → c ≡ true → r ≡ one_side Offer l (side_part Offer mark t l (items_from s bids offers) p) p → Taken l o p r
-        unfolding one_side odd_in
+        unfolding odd_in
         offers-touched e f d = go (side_run Offer o v) refl (gives Offer)
           where
             go : (y : Option (List Level)) → side_run Offer o v ≡ y → Gives (side_part Offer mark t l (items_from s bids offers) p) y → Taken l o p r
-            go none k m = by (some v.bids) none (still Bid o v (bid-touched ∙ e)) k r (d ∙ rw m)
-            go (some ls) k m =
+            go None k m = by (Some v.bids) None (still Bid o v (bid-touched ∙ e)) k r (d ∙ rw m)
+            go (Some ls) k m =
                 let n : Standing = record { bids = v.bids; offers = ls } in
-                by (some v.bids) (some ls) (still Bid o v (bid-touched ∙ e)) k r (d ∙ rw m (λ i. record { code = 0; page = (ap (with_cells Offer l (cells_of ls)) (bid-left n e) ∙ offer-put n (put_side Bid l o n p) f) i }))
+                by (Some v.bids) (Some ls) (still Bid o v (bid-touched ∙ e)) k r (d ∙ rw m (λ i. record { code = 0; page = (ap (with_cells Offer l (cells_of ls)) (bid-left n e) ∙ offer-put n (put_side Bid l o n p) f) i }))
 
         pub both-touched : b ≡ true → c ≡ true → r ≡ both_sides l (side_part Bid mark t l (items_from s 0 bids) p) (side_part Offer mark t l (items_from s bids offers) p) p → Taken l o p r
-        unfolding both_sides odd_in
+        unfolding odd_in
         both-touched e f d = go (side_run Bid o v) refl (gives Bid) (side_run Offer o v) refl (gives Offer)
           where
             go : (x : Option (List Level)) → side_run Bid o v ≡ x → Gives (side_part Bid mark t l (items_from s 0 bids) p) x
                 → (y : Option (List Level)) → side_run Offer o v ≡ y → Gives (side_part Offer mark t l (items_from s bids offers) p) y → Taken l o p r
-            go none k m y k' m' = by none y k k' r (d ∙ rw m)
-            go (some ls) k m none k' m' = by (some ls) none k k' r (d ∙ rw (m, m'))
-            go (some ls) k m (some ns) k' m' =
+            go None k m y k' m' = by None y k k' r (d ∙ rw m)
+            go (Some ls) k m None k' m' = by (Some ls) None k k' r (d ∙ rw (m, m'))
+            go (Some ls) k m (Some ns) k' m' =
                 let n : Standing = record { bids = ls; offers = ns } in
-                by (some ls) (some ns) k k' r (d ∙ rw (m, m') (λ i. record { code = 0; page = (ap (with_cells Offer l (cells_of ns)) (bid-put n e) ∙ offer-put n (put_side Bid l o n p) f) i }))
+                by (Some ls) (Some ns) k k' r (d ∙ rw (m, m') (λ i. record { code = 0; page = (ap (with_cells Offer l (cells_of ns)) (bid-put n e) ∙ offer-put n (put_side Bid l o n p) f) i }))

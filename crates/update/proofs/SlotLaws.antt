@@ -7,7 +7,7 @@ use mathlib.Core.Bool.{Bool, true, false, cond}
 use mathlib.Core.Logic.{◌⊎◌, inl, inr}
 use mathlib.Core.List.{List, [], ◌∷◌}
 use native.Mathlib.Omega.{arith}
-use lib.Dec.{ltb, eqb, lit≤, lit<}
+use lib.Dec.{ltb, eqb, lit<}
 use lib.ListN.{length, replicate}
 use borrow.Author.Tests.{ltb-true, ltb-false, eq-eqb}
 use Rattle.field.specs.Field.{Bytes, part, splice}
@@ -20,7 +20,7 @@ use Rattle.ranking.specs.declared.Side.{Side}
 use Rattle.ranking.specs.declared.Side.TheVariants.{Bid, Offer}
 use Rattle.quote.specs.declared.Level.{Level}
 use Rattle.quote.specs.declared.Quote.{Quote}
-use Rattle.quote.specs.Quote.{no_level, quote_over, quote_in, quote_bytes, level_bytes, LevelFits, QuoteFits, quote_length, level_length}
+use Rattle.quote.specs.Quote.{quote_over, quote_in, quote_bytes, level_bytes, LevelFits, QuoteFits, quote_length, level_length}
 use Rattle.quote.proofs.QuoteLaws.{length-quote, quote-back, quote-fits, bytes-quote, bytes-level}
 use Rattle.quote.proofs.OverLaws.{over-fits}
 use Rattle.levels.specs.Levels.{Standing, no_levels, side_levels, Odd, touches, idle_odd, side_in, levels_in, cells_bytes, side_length, levels_length}
@@ -31,7 +31,7 @@ use Rattle.oddpart.proofs.AnswerLaws.{odd-idle, idle-touches}
 use Rattle.keys.specs.Keys.{key_length, quote_key}
 use Rattle.page.specs.Page.{agreed, agreed_quote, agreed_side, agreed_levels, first_key, quotes_in, levels_for, with_key, with_quote, with_side, makers_in, halted_in, refreshed}
 use Rattle.page.proofs.KeyLaws.{quote-keys-low, quote-keys-high, first-keys-low, first-keys-high, quote-same, level-same}
-use Rattle.slots.proofs.ReadLaws.{quote-here, levels-here, side-here, side-at}
+use Rattle.slots.proofs.ReadLaws.{quote-here, side-here, side-at}
 use Rattle.update.specs.Parts.{reading_of, put_round, round_on, after_odd, put_side, put_levels, put_odd, odd_on_page}
 use Rattle.update.proofs.Model.{set_at, worked, round_reading, odd_reading}
 use Rattle.update.proofs.EntryLaws.{quote-letter, level-letter, makers-same, Kept, kept-none, kept_then, kept-splice, refreshed-kept, reads-by, halted-same}

@@ -5,7 +5,7 @@ use mathlib.Core.Path.{◌≡◌, refl, sym, ap}
 use mathlib.Core.Bool.{Bool, true, false, ◌&&◌, cond}
 use mathlib.Core.Logic.{◌⊎◌, inl, inr}
 use mathlib.Core.List.{List, [], ◌∷◌, ◌++◌}
-use mathlib.Core.Option.{Option, none, some}
+use Rattle.std.specs.Prelude.{Option, None, Some}
 use native.Mathlib.Omega.{arith}
 use lib.Dec.{leb, eqb, lit≤, lit<}
 use lib.ListN.{length}
@@ -66,8 +66,8 @@ unfolding odd_code
 odd-sixty lot v o = go (odd_bad lot o) (bad-sixty lot o) (odd_on o v)
   where
     go : (k : ℕ) → (k ≡ 0) ⊎ (60 ≤ k) → (w : Option Standing) → eqb (cond (eqb k 0) (fifth w) k) 0 ≡ false → leb 60 (cond (eqb k 0) (fifth w) k) ≡ true
-    go k (inl z) none e = rw (eq-eqb k 0 z)
-    go k (inl z) (some x) e = clash (rw (eq-eqb k 0 z) at e)
+    go k (inl z) None e = rw (eq-eqb k 0 z)
+    go k (inl z) (Some x) e = clash (rw (eq-eqb k 0 z) at e)
     go k (inr h) w e = rw (ne_eqb k 0 (λ z. omega arith)) (le-leb 60 k h)
 
 fault-low : (table : List ℕ) (q : Quote) (rest : ℕ) → rest < 60 → quote_fault table q rest < 60

@@ -1,8 +1,7 @@
 -- What each part of a message does to a symbol's page (layout and reading: crate `page`): the page is written, then its six entries are worked
 -- out anew. So every accepted part leaves them as worked out from the page's quotes, none while it is halted, whatever bytes stood there.
 -- Assumes nothing.
-use Rattle.std.specs.Prelude.{ℕ, Bool, true, false, cond, List, ◌∷◌, ◌++◌, length, replicate}
-use Rattle.std.proofs.Math.Option.{Option, none, some}
+use Rattle.std.specs.Prelude.{ℕ, Bool, true, false, cond, List, ◌∷◌, ◌++◌, length, replicate, Option, None, Some}
 use Rattle.field.specs.Field.{part, splice, be_bytes}
 use Rattle.lists.specs.Lists.{is_some, or_else}
 use Rattle.ranking.specs.declared.Side.{Side}
@@ -123,5 +122,5 @@ known_by r =
     }
 
 unfoldable pub known_of : Option Reading → Known
-known_of none = record { listed = false; lot = 0; primary = 0; count = 0; stands = λ m. false; levels = λ l. no_levels }
-known_of (some r) = known_by r
+known_of None = record { listed = false; lot = 0; primary = 0; count = 0; stands = λ m. false; levels = λ l. no_levels }
+known_of (Some r) = known_by r

@@ -7,6 +7,7 @@ ghost use Rattle.field.specs.Ascii as ascii;
 ghost use Rattle.lists.specs.Lists.{upper};
 ghost use Rattle.ranking.specs.declared.Side.TheVariants.{Bid, Offer};
 ghost use Rattle.levels.specs.Levels.{idle_odd, items_from, item_length};
+ghost use Rattle.numbers.specs.Numbers.{coded};
 ghost use Rattle.message.specs.Message.{odd_with, items_length};
 ghost use Rattle.entries.specs.Publication.{change_flags};
 ghost use Rattle.page.specs.Page.{refreshed};
@@ -15,9 +16,8 @@ ghost use Rattle.update.specs.code.Update.{flagged, side_part, one_side, both_si
 ghost use Rattle.page.specs.Layout.{page_length, kept_entries};
 ghost use Rattle.text.specs.Form.{symbol_length};
 
-use levels::Judged;
-use lists::Found;
 use message::OddPart;
+use numbers::Rejection;
 use page::{Cell, Page};
 use quote::Quote;
 use ranking::Side;
@@ -40,7 +40,7 @@ fn renewed(page: &mut [u8], code: u8) -> Effect
     Effect { code, flags }
 }
 
-// One side of an odd part: its items are n, the first being item `from`. A refused one is not written.
+// One side of an odd part: its items are n, the first being item `from`. A rejected one is not written.
 fn put_one(
     page: &mut [u8],
     letter: usize,
@@ -49,27 +49,23 @@ fn put_one(
     items: &[u8],
     from: usize,
     n: usize,
-) -> u8
+) -> Result<(), Rejection>
     requires page_len { length page.old ≡ page_length }
     requires a_le_letter { (ascii.A ≤ letter) × (letter ≤ ascii.Z) }
     requires n_in_bounds { item_length * (from + n) ≤ length items.now }
-    ensures { record { code = result; page = page.new } ≡ one_side side letter (side_part side odd.mark odd.time letter (items_from items.now from n) page.old) page.old }
+    ensures { record { code = coded result; page = page.new } ≡ one_side side letter (side_part side odd.mark odd.time letter (items_from items.now from n) page.old) page.old }
 {
-    let changed = oddpart::with_part(page, letter, side, odd.mark, items, from, n, odd.time);
-    let judged = changed.judged;
-    let Judged::Pass = judged else {
-        return levels::number(judged);
-    };
-    slots::put_side(page, letter, side, changed.levels);
-    0
+    let levels = oddpart::with_part(page, letter, side, odd.mark, items, from, n, odd.time)?;
+    slots::put_side(page, letter, side, levels);
+    Ok(())
 }
 
-// Both sides of an odd part. Both are worked out before one is written, so a refusal of either writes none.
-fn put_both(page: &mut [u8], letter: usize, odd: OddPart, items: &[u8]) -> u8
+// Both sides of an odd part. Both are worked out before one is written, so a rejection of either writes none.
+fn put_both(page: &mut [u8], letter: usize, odd: OddPart, items: &[u8]) -> Result<(), Rejection>
     requires page_len { length page.old ≡ page_length }
     requires a_le_letter { (ascii.A ≤ letter) × (letter ≤ ascii.Z) }
     requires len { length items.now ≡ items_length odd }
-    ensures { record { code = result; page = page.new } ≡ both_sides letter (side_part Bid odd.mark odd.time letter (items_from items.now 0 odd.bids) page.old) (side_part Offer odd.mark odd.time letter (items_from items.now odd.bids odd.offers) page.old) page.old }
+    ensures { record { code = coded result; page = page.new } ≡ both_sides letter (side_part Bid odd.mark odd.time letter (items_from items.now 0 odd.bids) page.old) (side_part Offer odd.mark odd.time letter (items_from items.now odd.bids odd.offers) page.old) page.old }
 {
     let bids = oddpart::with_part(
         page,
@@ -80,11 +76,7 @@ fn put_both(page: &mut [u8], letter: usize, odd: OddPart, items: &[u8]) -> u8
         0,
         odd.bids,
         odd.time,
-    );
-    let bid_judged = bids.judged;
-    let Judged::Pass = bid_judged else {
-        return levels::number(bid_judged);
-    };
+    )?;
     let offers = oddpart::with_part(
         page,
         letter,
@@ -94,47 +86,29 @@ fn put_both(page: &mut [u8], letter: usize, odd: OddPart, items: &[u8]) -> u8
         odd.bids,
         odd.offers,
         odd.time,
-    );
-    let offer_judged = offers.judged;
-    let Judged::Pass = offer_judged else {
-        return levels::number(offer_judged);
-    };
-    slots::put_side(page, letter, Side::Bid, bids.levels);
-    slots::put_side(page, letter, Side::Offer, offers.levels);
-    0
+    )?;
+    slots::put_side(page, letter, Side::Bid, bids);
+    slots::put_side(page, letter, Side::Offer, offers);
+    Ok(())
 }
 
-// An odd part on its letter's levels, and its code. A side that it doesn't touch is neither read nor written, and a refused part writes nothing.
-fn put_odd(page: &mut [u8], letter: u8, odd: OddPart, items: &[u8]) -> u8
+// An odd part on its letter's levels. A side that it doesn't touch is neither read nor written, and a rejected part writes nothing.
+fn put_odd(page: &mut [u8], letter: u8, odd: OddPart, items: &[u8]) -> Result<(), Rejection>
     requires page_len { (length page.old ≡ page_length) × (upper letter ≡ true) }
     requires len { length items.now ≡ items_length odd }
-    ensures { (result ≡ odd_code_on letter (odd_with odd items.now) page.old) × (page.new ≡ odd_taken letter (odd_with odd items.now) page.old) }
+    ensures { (coded result ≡ odd_code_on letter (odd_with odd items.now) page.old) × (page.new ≡ odd_taken letter (odd_with odd items.now) page.old) }
 {
     let lot = field::get8(page, Page::LOT) as u32;
-    let judged = oddpart::judge_part(odd.mark, odd.bids, odd.offers, lot, items);
-    let Judged::Pass = judged else {
-        return levels::number(judged);
-    };
+    oddpart::judge_part(odd.mark, odd.bids, odd.offers, lot, items)?;
     let bids = oddpart::is_touched(Side::Bid, odd.mark, odd.bids);
     let offers = oddpart::is_touched(Side::Offer, odd.mark, odd.offers);
-    if bids {
-        if offers {
-            return put_both(page, letter as usize, odd, items);
-        }
-        return put_one(page, letter as usize, Side::Bid, odd, items, 0, odd.bids);
+    let letter = letter as usize;
+    match (bids, offers) {
+        (true, true) => put_both(page, letter, odd, items),
+        (true, false) => put_one(page, letter, Side::Bid, odd, items, 0, odd.bids),
+        (false, true) => put_one(page, letter, Side::Offer, odd, items, odd.bids, odd.offers),
+        (false, false) => Ok(()),
     }
-    if offers {
-        return put_one(
-            page,
-            letter as usize,
-            Side::Offer,
-            odd,
-            items,
-            odd.bids,
-            odd.offers,
-        );
-    }
-    0
 }
 
 // Whether an odd part asks for nothing. Most of a Q K do, so this is asked first.
@@ -142,10 +116,7 @@ fn is_idle(odd: OddPart, items: &[u8]) -> bool
     requires { length items.now ≡ items_length odd }
     ensures { result ≡ idle_odd (odd_with odd items.now) }
 {
-    if odd.mark == b' ' {
-        return items.len() == 0;
-    }
-    false
+    odd.mark == b' ' && items.is_empty()
 }
 
 /// A Q K on the page of its symbol: its round part, then its odd part, whose items are lent. A refused odd part does nothing, and the round part stays.
@@ -172,8 +143,10 @@ pub fn round_lot(
     if is_idle(odd, items) {
         return renewed(page, 0);
     }
-    let code = put_odd(page, letter, odd, items);
-    renewed(page, code)
+    match put_odd(page, letter, odd, items) {
+        Ok(()) => renewed(page, 0),
+        Err(rejection) => renewed(page, rejection.code()),
+    }
 }
 
 /// A Q M or Q T on the page of its symbol. A refused odd part does nothing.
@@ -182,11 +155,13 @@ pub fn odd_lot(page: &mut [u8], letter: u8, odd: OddPart, items: &[u8]) -> Effec
     requires len { length items.now ≡ items_length odd }
     ensures { record { effect = result; page = page.new } ≡ odd_lot_on letter (odd_with odd items.now) page.old }
 {
-    let code = put_odd(page, letter, odd, items);
-    if code != 0 {
-        return Effect { code, flags: 0 };
+    match put_odd(page, letter, odd, items) {
+        Ok(()) => renewed(page, 0), // taken whole
+        Err(rejection) => Effect {
+            code: rejection.code(),
+            flags: 0,
+        },
     }
-    renewed(page, 0)
 }
 
 /// A Q U on the page of its symbol.
@@ -201,7 +176,7 @@ pub fn maker_quote(page: &mut [u8], fault: u8, name: u32, quote: Quote) -> Effec
         };
     }
     let known = makers::maker_place(page, name);
-    if let Found::At(k) = known {
+    if let Some(k) = known {
         makers::put_cell_over(page, k, name, quote);
         return renewed(page, 0);
     }
@@ -209,7 +184,7 @@ pub fn maker_quote(page: &mut [u8], fault: u8, name: u32, quote: Quote) -> Effec
         return renewed(page, 0);
     }
     let free = makers::free_place(page);
-    let Found::At(k) = free else {
+    let Some(k) = free else {
         return Effect { code: 49, flags: 0 };
     };
     makers::put_cell(page, k, name, quote);

@@ -1,11 +1,9 @@
 -- Checks 78 and 79, by computing (document 02, T-11): each rule of source document 000 broken alone, and its nearest good neighbour.
 -- Assumes nothing.
-use Prim.Native.Nat.{ℕ, zero, suc, ◌+◌, ◌*◌}
+use Prim.Native.Nat.{ℕ, suc, ◌+◌}
 use mathlib.Core.Path.{◌≡◌, refl}
-use mathlib.Core.Bool.{cond}
 use mathlib.Core.List.{List, [], ◌∷◌, ◌++◌, map}
-use lib.Dec.{eqb}
-use lib.ListN.{length, replicate, set}
+use lib.ListN.{length, replicate}
 use Rattle.field.specs.Field.{be, part, field, splice, be_bytes}
 use Rattle.lists.specs.Lists.{member, every, all, sum}
 use Rattle.text.specs.Form.{padded}

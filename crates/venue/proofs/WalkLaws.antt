@@ -2,20 +2,21 @@
 -- Assumes nothing.
 use Prim.Native.Nat.{ℕ, ◌+◌, ◌-◌, ◌≤◌, ◌<◌}
 use mathlib.Core.Path.{◌≡◌, refl, sym, ap, ◌∙◌}
-use mathlib.Core.Bool.{Bool, true, false, ◌&&◌, cond}
+use mathlib.Core.Bool.{Bool, true, false, ◌&&◌}
 use mathlib.Core.List.{List, [], ◌∷◌}
 use native.Mathlib.Omega.{arith}
 use native.Mathlib.Nat.{sub-zero}
 use lib.Dec.{leb}
 use lib.ListN.{length, take, drop}
-use borrow.Author.Tests.{le-leb, lt-leb, leb-true}
+use borrow.Author.Tests.{le-leb, leb-true}
 use Rattle.field.specs.Field.{part, field}
 use Rattle.field.proofs.Laws.{length_part}
 use Rattle.lists.proofs.Tests.{and-true}
 use Rattle.lists.proofs.Searches.{less_one}
 use Rattle.venueform.specs.Form.{venue_header}
 use Rattle.venuerules.specs.Rules.{message_good, message_placed}
-use Rattle.venue.specs.Venue.{venue_first, lies_at, ends_at, laid_from, next_at, venue_from, messages_good, messages_placed}
+use Rattle.venue.specs.code.Each.{all_by}
+use Rattle.venue.specs.Venue.{lies_at, ends_at, laid_from, next_at, venue_from, messages_good, messages_placed}
 
 -- a whole message stands at p
 pub record Lies (b : List ℕ) (p : ℕ) : Type 0 where
@@ -30,29 +31,11 @@ module _ (b : List ℕ) (p : ℕ) where
       let l = and-true (leb venue_header (field b p 2)) (leb (p + field b p 2) (length b)) h.1 in
       record { header = leb-true (p + venue_header) (length b) h.0; long = leb-true venue_header (field b p 2) l.0; inside = leb-true (p + field b p 2) (length b) l.1 }
 
-  pub lies-header : length b < p + venue_header → false ≡ lies_at b p
-  lies-header h = rw (lt-leb (p + venue_header) (length b) h)
-
-  pub lies-short : p + venue_header ≤ length b → field b p 2 < venue_header → false ≡ lies_at b p
-  lies-short h l = rw (le-leb (p + venue_header) (length b) h, lt-leb venue_header (field b p 2) l)
-
-  pub lies-inside : (t : Bool) → p + venue_header ≤ length b → venue_header ≤ field b p 2 → t ≡ leb (p + field b p 2) (length b) → t ≡ lies_at b p
-  lies-inside t h l e = rw (le-leb (p + venue_header) (length b) h, le-leb venue_header (field b p 2) l) e
-
   -- ---- where the next one starts
 
-  pub next-none : length b < p + 2 → length b ≡ next_at b p
+  next-whole : p + 2 ≤ length b → p + field b p 2 ≤ length b → p + field b p 2 ≡ next_at b p
   unfolding next_at
-  next-none h = rw (lt-leb (p + 2) (length b) h)
-
-  module _ (h : p + 2 ≤ length b) where
-    pub next-cut : length b < p + field b p 2 → length b ≡ next_at b p
-    unfolding next_at
-    next-cut l = rw (le-leb (p + 2) (length b) h, lt-leb (p + field b p 2) (length b) l)
-
-    pub next-whole : p + field b p 2 ≤ length b → p + field b p 2 ≡ next_at b p
-    unfolding next_at
-    next-whole l = rw (le-leb (p + 2) (length b) h, le-leb (p + field b p 2) (length b) l)
+  next-whole h l = rw (le-leb (p + 2) (length b) h, le-leb (p + field b p 2) (length b) l)
 
   pub next-is : Lies b p → next_at b p ≡ p + field b p 2
   next-is s = sym (next-whole (omega (arith, s.header)) s.inside)
@@ -107,41 +90,35 @@ module _ (b : List ℕ) (c i p : ℕ) where
       let z : c - i ≡ 0 = omega arith in
       rw z
 
-  -- ---- 78 of each message
+  -- ---- a rule of each message
 
-  module _ (s : ℕ) (w : Bool) (inv : messages_good c s i (venue_from b p (c - i)) ≡ w) where
-    good-step : (e : ℕ) → i < c → laid_from b p (c - i) ≡ true → e ≡ next_at b p
-        → (message_good c s i (take (e - p) (drop p b)) && messages_good c s (i + 1) (venue_from b e (c - (i + 1)))) ≡ w
-    unfolding messages_good
-    good-step e h l n = sym (ap (messages_good c s i) (messages-step e h l n)) ∙ inv
+  module _ (rule : ℕ → List ℕ → Bool) (w : Bool) (inv : all_by rule i (venue_from b p (c - i)) ≡ w) where
+    all-step : (e : ℕ) → i < c → laid_from b p (c - i) ≡ true → e ≡ next_at b p
+        → (rule i (take (e - p) (drop p b)) && all_by rule (i + 1) (venue_from b e (c - (i + 1)))) ≡ w
+    unfolding all_by
+    all-step e h l n = sym (ap (all_by rule i) (messages-step e h l n)) ∙ inv
 
-    pub good-fails : (e : ℕ) → i < c → laid_from b p (c - i) ≡ true → e ≡ next_at b p → message_good c s i (take (e - p) (drop p b)) ≡ false → false ≡ w
-    good-fails e h l n g = sym (ap (λ (t : Bool). t && messages_good c s (i + 1) (venue_from b e (c - (i + 1)))) g) ∙ good-step e h l n
+    pub all-fails : (e : ℕ) → i < c → laid_from b p (c - i) ≡ true → e ≡ next_at b p → rule i (take (e - p) (drop p b)) ≡ false → false ≡ w
+    all-fails e h l n g = sym (ap (λ (t : Bool). t && all_by rule (i + 1) (venue_from b e (c - (i + 1)))) g) ∙ all-step e h l n
 
-    pub good-again : (e : ℕ) → i < c → laid_from b p (c - i) ≡ true → e ≡ next_at b p → message_good c s i (take (e - p) (drop p b)) ≡ true
-        → messages_good c s (i + 1) (venue_from b e (c - (i + 1))) ≡ w
-    good-again e h l n g = sym (ap (λ (t : Bool). t && messages_good c s (i + 1) (venue_from b e (c - (i + 1)))) g) ∙ good-step e h l n
+    pub all-again : (e : ℕ) → i < c → laid_from b p (c - i) ≡ true → e ≡ next_at b p → rule i (take (e - p) (drop p b)) ≡ true
+        → all_by rule (i + 1) (venue_from b e (c - (i + 1))) ≡ w
+    all-again e h l n g = sym (ap (λ (t : Bool). t && all_by rule (i + 1) (venue_from b e (c - (i + 1)))) g) ∙ all-step e h l n
 
-    pub good-end : c ≤ i → true ≡ w
-    unfolding messages_good
-    good-end h = sym (ap (messages_good c s i) (messages-none h)) ∙ inv
+    pub all-end : c ≤ i → true ≡ w
+    unfolding all_by
+    all-end h = sym (ap (all_by rule i) (messages-none h)) ∙ inv
 
-  -- ---- 79 of each message
+-- 78 and 79 of each message
+pub all-good : (c s i : ℕ) (ms : List (List ℕ)) → all_by (message_good c s) i ms ≡ messages_good c s i ms
+unfolding all_by messages_good
+all-good c s i [] = refl
+all-good c s i (m ∷ ms) = ap (λ (t : Bool). message_good c s i m && t) (all-good c s (i + 1) ms)
 
-  module _ (w : Bool) (inv : messages_placed (venue_from b p (c - i)) ≡ w) where
-    placed-step : (e : ℕ) → i < c → laid_from b p (c - i) ≡ true → e ≡ next_at b p → (message_placed (take (e - p) (drop p b)) && messages_placed (venue_from b e (c - (i + 1)))) ≡ w
-    unfolding messages_placed
-    placed-step e h l n = sym (ap messages_placed (messages-step e h l n)) ∙ inv
-
-    pub placed-fails : (e : ℕ) → i < c → laid_from b p (c - i) ≡ true → e ≡ next_at b p → message_placed (take (e - p) (drop p b)) ≡ false → false ≡ w
-    placed-fails e h l n g = sym (ap (λ (t : Bool). t && messages_placed (venue_from b e (c - (i + 1)))) g) ∙ placed-step e h l n
-
-    pub placed-again : (e : ℕ) → i < c → laid_from b p (c - i) ≡ true → e ≡ next_at b p → message_placed (take (e - p) (drop p b)) ≡ true → messages_placed (venue_from b e (c - (i + 1))) ≡ w
-    placed-again e h l n g = sym (ap (λ (t : Bool). t && messages_placed (venue_from b e (c - (i + 1)))) g) ∙ placed-step e h l n
-
-    pub placed_end : c ≤ i → true ≡ w
-    unfolding messages_placed
-    placed_end h = sym (ap messages_placed (messages-none h)) ∙ inv
+pub all-placed : (i : ℕ) (ms : List (List ℕ)) → all_by (λ j. message_placed) i ms ≡ messages_placed ms
+unfolding all_by messages_placed
+all-placed i [] = refl
+all-placed i (m ∷ ms) = ap (λ (t : Bool). message_placed m && t) (all-placed (i + 1) ms)
 
 -- nothing is taken off at the start
 pub from_start : {A : Type 0} (f : ℕ → A) (c : ℕ) → f (c - 0) ≡ f c

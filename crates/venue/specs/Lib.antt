@@ -1,1 +1,2 @@
 pub mod Venue
+pub mod code

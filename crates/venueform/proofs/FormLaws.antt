@@ -1,12 +1,12 @@
 -- The table of forms: each row's places are sums of the lengths that source document 000 gives, and every field lies in its message.
 -- Assumes nothing.
-use Prim.Native.Nat.{ℕ, ◌+◌, ◌*◌, ◌≤◌, ◌<◌}
+use Prim.Native.Nat.{ℕ, ◌+◌, ◌≤◌, ◌<◌}
 use mathlib.Core.Path.{◌≡◌, refl}
 use mathlib.Core.Bool.{Bool, true, false}
 use native.Mathlib.Omega.{arith}
-use Rattle.ranking.specs.declared.Side.TheVariants.{Bid, Offer}
+use Rattle.ranking.specs.declared.Side.TheVariants.{Offer}
 use Rattle.venueform.specs.declared.Form.{Form}
-use Rattle.venueform.specs.Form.{venue_header, short_round, long_round, short_odd, long_odd, symbol_bytes, price_bytes, size_bytes, side_bytes, bid_at, clear_at, side_at, item_bytes, item_at}
+use Rattle.venueform.specs.Form.{venue_header, short_round, long_round, short_odd, long_odd, symbol_bytes, side_bytes, bid_at, clear_at, side_at, item_bytes, item_at}
 
 -- ---- 000's totals: 16, 55, 8 and 14 bytes behind the header; 3 and 9 for an appendage
 

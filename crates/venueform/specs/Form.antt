@@ -1,7 +1,7 @@
 -- A message in the form of source document 000: its header (5.0) and the four quotes that are read (6.3.2.1, 6.3.2.2, 6.3.3.1, 6.3.3.2).
 -- Numbers like 5.4 are sections of 000. Every field is said once, of any form: short and long share it.
 -- Assumes nothing.
-use Rattle.std.specs.Prelude.{ℕ, ◌+◌, ◌*◌, ◌-◌, Bool, true, false, ◌&&◌, cond, List, ◌++◌, eqb, replicate}
+use Rattle.std.specs.Prelude.{ℕ, ◌+◌, ◌*◌, ◌-◌, Bool, true, false, cond, List, ◌++◌, eqb, replicate, Option, Some, None}
 use Rattle.field.specs.Field.{part, field}
 use Rattle.field.specs.Ascii.{space, D, K, M, P, Q, R}
 use Rattle.lists.specs.Lists.{at}
@@ -9,8 +9,6 @@ use Rattle.text.specs.Form.{symbol_length}
 use Rattle.ranking.specs.declared.Side.{Side}
 use Rattle.ranking.specs.declared.Side.TheVariants.{Bid, Offer}
 use Rattle.venueform.specs.declared.Form.{Form}
-use Rattle.venueform.specs.declared.Layout.{Layout}
-use Rattle.venueform.specs.declared.Layout.TheVariants.{Quote, Other}
 
 -- ---- header (5.0), 26 bytes: message length 2, category, type, participant, timestamp 1 of 4 and 4, message ID, reserved 4, reference number 8
 
@@ -72,14 +70,14 @@ abbrev pub long_odd : Form
 long_odd = record { round = false; long = true }
 
 -- Q P, Q K, Q R, Q M; of other types the header alone is read
-unfoldable pub layout_of : List ℕ → Layout
+unfoldable pub layout_of : List ℕ → Option Form
 layout_of m =
     cond (eqb (category_in m) Q)
-    (cond (eqb (type_in m) P) (Quote short_round)
-    (cond (eqb (type_in m) K) (Quote long_round)
-    (cond (eqb (type_in m) R) (Quote short_odd)
-    (cond (eqb (type_in m) M) (Quote long_odd) Other))))
-    Other
+    (cond (eqb (type_in m) P) (Some short_round)
+    (cond (eqb (type_in m) K) (Some long_round)
+    (cond (eqb (type_in m) R) (Some short_odd)
+    (cond (eqb (type_in m) M) (Some long_odd) None))))
+    None
 
 -- a column of the table: what the short forms have, and the long ones
 abbrev pub by_width : Form → ℕ → ℕ → ℕ

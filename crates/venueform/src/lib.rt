@@ -48,44 +48,38 @@ impl Venue {
 }
 
 /// A form of quote: round lot or odd lot, long or short.
-#[derive(Clone, Copy)]
+#[derive(Clone, Copy, Debug, PartialEq, Eq)]
 pub struct Form {
     pub round: bool,
     pub long: bool,
 }
 
-/// How a message is read: as a quote of this form, or its header alone.
-#[derive(Clone, Copy)]
-pub enum Layout {
-    Quote(Form),
-    Other,
-}
-
-/// The layout of a message, by its category and type. Any bytes.
-pub fn layout_of(msg: &[u8]) -> Layout
+/// The form of the quote that a message is, by its category and type; of any other message the header alone is read. Any bytes.
+#[tactic(auto, unfolding(crate::specs::Form::layout_of))]
+pub fn layout_of(msg: &[u8]) -> Option<Form>
     ensures { result ≡ layout_of msg.now }
 {
     if field::byte(msg, Venue::CATEGORY) != b'Q' {
-        return Layout::Other;
+        return None;
     }
     match field::byte(msg, Venue::TYPE) {
-        b'P' => Layout::Quote(Form {
+        b'P' => Some(Form {
             round: true,
             long: false,
         }),
-        b'K' => Layout::Quote(Form {
+        b'K' => Some(Form {
             round: true,
             long: true,
         }),
-        b'R' => Layout::Quote(Form {
+        b'R' => Some(Form {
             round: false,
             long: false,
         }),
-        b'M' => Layout::Quote(Form {
+        b'M' => Some(Form {
             round: false,
             long: true,
         }),
-        _ => Layout::Other,
+        _ => None,
     }
 }
 
@@ -94,52 +88,36 @@ pub fn layout_of(msg: &[u8]) -> Layout
 pub fn symbol_len(form: Form) -> usize
     ensures { (result ≡ symbol_bytes form) × (result ≤ 11) }
 {
-    if form.long {
-        return 11;
-    }
-    5
+    if form.long { 11 } else { 5 }
 }
 
 pub fn price_len(form: Form) -> usize
     ensures { (result ≡ price_bytes form) × (result ≤ 8) }
 {
-    if form.long {
-        return 8;
-    }
-    2
+    if form.long { 8 } else { 2 }
 }
 
 pub fn side_len(form: Form) -> usize
     ensures { (result ≡ side_bytes form) × (result ≤ 12) }
 {
-    if form.long {
-        return 12;
-    }
-    4
+    if form.long { 12 } else { 4 }
 }
 
 pub fn bid_at(form: Form) -> usize
     ensures { (result ≡ bid_at form) × (result ≤ 38) }
 {
-    if form.long {
-        return 38;
-    }
-    31
+    if form.long { 38 } else { 31 }
 }
 
 pub fn clear_at(form: Form) -> usize
     ensures { (result ≡ clear_at form) × (result ≤ 78) }
 {
-    if form.round {
-        if form.long {
-            return 78;
-        }
-        return 39;
+    match (form.round, form.long) {
+        (true, false) => 39,
+        (true, true) => 78,
+        (false, false) => 31,
+        (false, true) => 37,
     }
-    if form.long {
-        return 37;
-    }
-    31
 }
 
 // ---- fields
@@ -152,7 +130,7 @@ pub fn price(msg: &[u8], at: usize, form: Form) -> u64
     if form.long {
         return field::get64(msg, at);
     }
-    (field::get16(msg, at) as u64) * 10000
+    u64::from(field::get16(msg, at)) * 10000
 }
 
 /// The round-lot size at `at`, in shares.
@@ -163,7 +141,7 @@ pub fn shares(msg: &[u8], at: usize, form: Form) -> u32
     if form.long {
         return field::get32(msg, at);
     }
-    field::get16(msg, at) as u32
+    u32::from(field::get16(msg, at))
 }
 
 /// How many appendages the counts tell, bids and offers together. Any bytes.
@@ -171,13 +149,7 @@ pub fn item_count(msg: &[u8], form: Form) -> usize
     ensures { (result ≡ item_count form msg.now) × (result ≤ 510) }
 {
     let clear = clear_at(form);
-    wide(field::byte(msg, clear + 1)) + wide(field::byte(msg, clear + 2))
-}
-
-fn wide(x: u8) -> usize
-    ensures { (result ≡ x) × (result < 256) }
-{
-    x as usize
+    usize::from(field::byte(msg, clear + 1)) + usize::from(field::byte(msg, clear + 2))
 }
 
 /// Where appendage i starts.

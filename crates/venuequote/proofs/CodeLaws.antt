@@ -2,10 +2,9 @@
 -- Assumes nothing.
 use Prim.Native.Nat.{ℕ, ◌+◌, ◌*◌}
 use mathlib.Core.Path.{◌≡◌, refl, sym, ap, ◌∙◌}
-use mathlib.Core.Bool.{Bool, true, false, not, ◌&&◌, ◌||◌, cond}
+use mathlib.Core.Bool.{Bool, true, false, not, ◌&&◌, cond}
 use mathlib.Core.List.{List, [], ◌∷◌, ◌++◌}
-use mathlib.Core.Option.{Option, none, some}
-use native.Mathlib.Omega.{arith}
+use Rattle.std.specs.Prelude.{Option, None, Some}
 use lib.Dec.{leb, eqb}
 use lib.ListN.{length}
 use borrow.Author.Tests.{eq-eqb}
@@ -21,11 +20,11 @@ use Rattle.message.specs.declared.Kind.TheVariants as kind
 use Rattle.message.specs.declared.Message.{Message}
 use Rattle.message.specs.declared.Message.TheVariants as says
 use Rattle.message.specs.declared.OddPart.{OddPart}
-use Rattle.message.specs.Message.{quote_kind, kind_of, symbol_text, quote_at, round_lot_odd, odd_lot_odd, odd_of, odd_length, side_bad, round_conditions, price_fault, quote_fault, is_d, header_zero, read_round_lot, misplaced, read_odd_lot, read_by, is_unknown, message_of, Known, code_by, code_of}
+use Rattle.message.specs.Message.{quote_kind, kind_of, symbol_text, quote_at, round_lot_odd, odd_lot_odd, odd_of, odd_length, side_bad, round_conditions, price_fault, quote_fault, is_d, read_round_lot, read_odd_lot, read_by, is_unknown, message_of, Known, code_by, code_of}
 use Rattle.ranking.specs.declared.Side.TheVariants.{Bid, Offer}
 use Rattle.venueform.specs.declared.Form.{Form}
 use Rattle.venueform.specs.Form.{participant_in, from_finra, condition_in, mark_in, count_in, item_count}
-use Rattle.venuerules.specs.Rules.{length_good, sender_good, symbol_formed, mark_good, quote_good, our_length, condition_held, quote_placed}
+use Rattle.venuerules.specs.Rules.{length_good, sender_good, symbol_formed, mark_good, quote_good, condition_held, quote_placed}
 use Rattle.venuequote.specs.Quote.{converted_as}
 use Rattle.venuequote.proofs.WriteLaws.{length-converted}
 use Rattle.venuequote.proofs.ReadLaws.{reads-category, reads_type, reads-letter, reads-zero, reads-quote, reads-round-odd, reads-round-zero, reads-odd, reads-odd-zeros}
@@ -83,8 +82,8 @@ items_left lot [] = left-0
 items_left lot (x ∷ xs) = either (eqb x.price 0) 62 _ left-62 (either (leb lot x.shares) 63 _ left-63 (items_left lot xs))
 
 fifth-left : (o : Option Standing) → Left (fifth o)
-fifth-left none = left-64
-fifth-left (some v) = left-0
+fifth-left None = left-64
+fifth-left (Some v) = left-0
 
 odd-left : (lot : ℕ) (v : Standing) (o : Odd) → member clear_marks o.mark ≡ true → Left (odd_code lot v o)
 unfolding odd_code odd_bad

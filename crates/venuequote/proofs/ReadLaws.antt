@@ -3,7 +3,7 @@
 use Prim.Native.Nat.{ℕ, zero, suc, ◌+◌, ◌*◌, ◌/◌, ◌^◌, ◌≤◌, ◌<◌}
 use mathlib.Core.Path.{◌≡◌, refl, sym, ap, ◌∙◌}
 use mathlib.Core.Bool.{Bool, true, false, cond}
-use mathlib.Core.List.{List, [], ◌∷◌, ◌++◌, append_assoc, append-nil}
+use mathlib.Core.List.{List, [], ◌∷◌, ◌++◌, append_assoc}
 use native.Mathlib.Omega.{arith}
 use native.Mathlib.Nat.{div-le_self}
 use lib.ListN.{length, drop, get_or, replicate, length-append}
@@ -11,21 +11,18 @@ use lib.Seq.{drop_at, get_or-drop}
 use lib.Dec.{eqb}
 use Rattle.field.specs.Field.{Bytes, be, part, field, be_bytes}
 use Rattle.field.specs.Ascii.{K, M, Q}
-use Rattle.field.proofs.Laws.{be-be_bytes, field_lt, length-be_bytes}
+use Rattle.field.proofs.Laws.{be-be_bytes, field_lt}
 use Rattle.field.proofs.JoinLaws.{part-front, part-after, part-whole}
 use Rattle.lists.specs.Lists.{at}
 use Rattle.ranking.specs.declared.Side.{Side}
 use Rattle.ranking.specs.declared.Side.TheVariants.{Bid, Offer}
 use Rattle.quote.specs.declared.Level.{Level}
-use Rattle.quote.specs.declared.Quote.{Quote}
-use Rattle.levels.specs.declared.Item.{Item}
 use Rattle.levels.specs.Levels.{item_length}
 use Rattle.levels.specs.Levels as levels
-use Rattle.message.specs.declared.OddPart.{OddPart}
 use Rattle.message.specs.Message.{time_of, symbol_text, level_at, quote_at, odd_at, round_lot_odd, odd_lot_odd, round_lot_items, odd_lot_items}
 use Rattle.text.specs.Form.{symbol_length}
 use Rattle.venueform.specs.declared.Form.{Form}
-use Rattle.venueform.specs.Form.{venue_header, participant_in, seconds_in, nanos_in, time_in, symbol_in, price_bytes, size_bytes, side_bytes, side_at, bid_at, price_at, price_in, shares_in, condition_in, mark_in, count_in, item_count, item_bytes, item_at, item_price, item_shares}
+use Rattle.venueform.specs.Form.{participant_in, time_in, symbol_in, price_bytes, size_bytes, side_bytes, side_at, price_at, price_in, shares_in, condition_in, mark_in, count_in, item_count, item_bytes, item_at, item_price, item_shares}
 use Rattle.venuerules.specs.Rules.{length_good}
 use Rattle.venuerules.proofs.QuoteLaws.{symbol-in, sides-in, item_in}
 use Rattle.venuequote.specs.Quote.{divided, our_kind, our_header, our_side_at, our_round, our_marks, our_item_at, our_items, converted_as}

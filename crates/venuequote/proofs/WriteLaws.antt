@@ -1,17 +1,18 @@
 -- The writes of a quote in our form, joined one behind the other, over plain values.
 -- Assumes nothing.
+use Rattle.std.specs.Prelude.{Option, Some, None}
 use Prim.Native.Nat.{ℕ, zero, suc, ◌+◌, ◌*◌, ◌-◌, ◌/◌, ◌≤◌, ◌<◌}
 use mathlib.Core.Path.{◌≡◌, refl, sym, ap, ◌∙◌}
 use mathlib.Core.Bool.{Bool, true, false, cond}
 use mathlib.Core.List.{List, [], ◌∷◌, ◌++◌, append-nil}
 use native.Mathlib.Omega.{arith}
-use native.Mathlib.Nat.{add-zero}
-use lib.ListN.{length, replicate, drop, length-append, drop_of_length-le}
+use lib.ListN.{length, replicate, set, take, drop, length-append, drop_of_length-le}
 use Rattle.field.specs.Field.{Bytes, part, field, splice, be_bytes}
-use Rattle.field.proofs.Laws.{splice-join, be_bytes-field, part_join, length_part, length-be_bytes}
+use Rattle.field.proofs.Laws.{splice-join, splice-one, be_bytes-field, lent_back, length_part, length-be_bytes, length-splice}
 use Rattle.field.proofs.ZeroLaws.{splice-nothing}
 use Rattle.field.specs.Ascii.{K, M, Q}
 use borrow.Author.Tests.{eq-eqb, ne_eqb}
+use borrow.Rule.Slice.PartMut.{put_mid}
 use Rattle.lists.specs.Lists.{at}
 use Rattle.lists.proofs.Tests.{clash, and-true}
 use Rattle.lists.proofs.Searches.{less_one}
@@ -19,9 +20,7 @@ use Rattle.ranking.specs.declared.Side.TheVariants.{Bid, Offer}
 use Rattle.text.specs.Form.{symbol_length}
 use Rattle.levels.specs.Levels.{item_length}
 use Rattle.venueform.specs.declared.Form.{Form}
-use Rattle.venueform.specs.declared.Layout.{Layout}
-use Rattle.venueform.specs.declared.Layout.TheVariants.{Quote, Other}
-use Rattle.venueform.specs.Form.{layout_of, venue_header, participant_in, time_in, reference_in, symbol_bytes, symbol_in, price_bytes, size_bytes, side_bytes, bid_at, side_at, price_at, condition_in, mark_in, count_in, clear_at, item_count, item_at}
+use Rattle.venueform.specs.Form.{layout_of, venue_header, participant_in, time_in, reference_in, symbol_bytes, symbol_in, price_bytes, size_bytes, side_bytes, bid_at, price_at, condition_in, mark_in, count_in, clear_at, item_count, item_at}
 use Rattle.venuerules.specs.Rules.{length_good, our_length}
 use Rattle.venuerules.proofs.QuoteLaws.{symbol-in}
 use Rattle.venuequote.specs.Quote.{divided, our_kind, our_header, our_side_at, our_round, our_marks, our_item_at, our_items, converted_as, converted_by, converted, length_by, converted_length}
@@ -48,14 +47,6 @@ pub divide-some : (lot shares : ℕ) → (lot ≡ 0 → ⊥) → shares / lot �
 unfolding divided
 divide-some lot shares e = rw (ne_eqb lot 0 e)
 
-pub spaces-is : (to : ℕ) (o o1 o2 : List ℕ) → o1 ≡ splice o to (be_bytes 4 538976288) → o2 ≡ splice o1 (to + 4) (be_bytes 2 8224) → o2 ≡ splice o to (32 ∷ 32 ∷ 32 ∷ 32 ∷ 32 ∷ 32 ∷ [])
-unfolding be_bytes
-spaces-is to o o1 o2 e1 e2 = then to 4 o o1 o2 (32 ∷ 32 ∷ 32 ∷ 32 ∷ []) (32 ∷ 32 ∷ []) refl e1 e2
-
-pub marks-room : (t : Bool) (to n : ℕ) → to + cond t 4 5 ≤ n → to + 4 ≤ n
-marks-room true to n h = h
-marks-room false to n h = omega arith
-
 pub marks-room-odd : (t : Bool) (to n : ℕ) → t ≡ false → to + cond t 4 5 ≤ n → to + 5 ≤ n
 marks-room-odd t to n e h = rw e at h
 
@@ -76,41 +67,38 @@ module _ (f : Form) (m : List ℕ) (n : ℕ) (e : n ≡ our_length f m) where
 
 -- ---- by the layout
 
-module _ (m : List ℕ) (l : Layout) (e : l ≡ layout_of m) where
-  pub len-quote : (f : Form) (n : ℕ) → l ≡ Quote f → n ≡ our_length f m → n ≡ converted_length m
+module _ (m : List ℕ) (l : Option Form) (e : l ≡ layout_of m) where
+  pub len-quote : (f : Form) (n : ℕ) → l ≡ Some f → n ≡ our_length f m → n ≡ converted_length m
   unfolding converted_length
   len-quote f n q h = h ∙ ap (length_by m) (sym q ∙ e)
 
-  pub len-other : l ≡ Other → 0 ≡ converted_length m
+  pub len-other : l ≡ None → 0 ≡ converted_length m
   unfolding converted_length
   len-other q = ap (length_by m) (sym q ∙ e)
 
   -- a message that can be converted is a quote as long as its counts say
-  pub ready-quote : (f : Form) → l ≡ Quote f → ready m ≡ true → length_good f m ≡ true
+  pub ready-quote : (f : Form) → l ≡ Some f → ready m ≡ true → length_good f m ≡ true
   unfolding ready
   ready-quote f q r = (and-true (length_good f m) _ (ap (ready_by m) (sym q ∙ e) ∙ r)).0
 
-  pub ready-other : {A : Type 0} → l ≡ Other → ready m ≡ true → A
+  pub ready-other : {A : Type 0} → l ≡ None → ready m ≡ true → A
   unfolding ready
   ready-other q r = clash (sym (ap (ready_by m) (sym q ∙ e) ∙ r))
 
-  pub length-quote : (f : Form) (n : ℕ) → l ≡ Quote f → n ≡ converted_length m → n ≡ our_length f m
+  pub length-quote : (f : Form) (n : ℕ) → l ≡ Some f → n ≡ converted_length m → n ≡ our_length f m
   unfolding converted_length
   length-quote f n q h = h ∙ sym (ap (length_by m) (sym q ∙ e))
 
-  pub quote-is : (f : Form) (lot : ℕ) (o : List ℕ) → l ≡ Quote f → o ≡ converted_as lot f m → o ≡ converted lot m
+  pub quote-is : (f : Form) (lot : ℕ) (o : List ℕ) → l ≡ Some f → o ≡ converted_as lot f m → o ≡ converted lot m
   unfolding converted
   quote-is f lot o q h = h ∙ ap (converted_by lot m) (sym q ∙ e)
 
 module _ (f : Form) (m : List ℕ) where
   -- ---- header
 
-  pub kind-is : (o o1 o2 o3 o4 : List ℕ) (k p : ℕ) → o1 ≡ splice o 0 (Q ∷ []) → o2 ≡ splice o1 1 (k ∷ []) → k ≡ cond f.round K M
-      → o3 ≡ splice o2 2 (p ∷ []) → p ≡ participant_in m → o4 ≡ splice o3 3 (0 ∷ []) → o4 ≡ splice o 0 (our_kind f m)
+  pub kind-is : (o z : List ℕ) (k p : ℕ) → k ≡ cond f.round K M → p ≡ participant_in m → z ≡ Q ∷ k ∷ p ∷ 0 ∷ [] → put_mid 0 4 o z ≡ splice o 0 (our_kind f m)
   unfolding our_kind
-  kind-is o o1 o2 o3 o4 k p e1 e2 ek e3 ep e4 =
-      then 0 3 o o3 o4 (Q ∷ k ∷ p ∷ []) (0 ∷ []) refl (then 0 2 o o2 o3 (Q ∷ k ∷ []) (p ∷ []) refl (then 0 1 o o1 o2 (Q ∷ []) (k ∷ []) refl e1 e2) e3) e4
-      ∙ (λ i. splice o 0 (Q ∷ ek i ∷ ep i ∷ 0 ∷ []))
+  kind-is o z k p ek ep e = lent_back 0 4 o z (ap length e) ∙ ap (splice o 0) e ∙ (λ i. splice o 0 (Q ∷ ek i ∷ ep i ∷ 0 ∷ []))
 
   pub header_is : (o o1 o2 o3 : List ℕ) (t r : ℕ) → venue_header ≤ length m → Bytes m → o1 ≡ splice o 0 (our_kind f m) → t ≡ time_in m → o2 ≡ splice o1 4 (be_bytes 8 t)
       → r ≡ field m 18 8 → o3 ≡ splice o2 12 (be_bytes 8 r) → o3 ≡ splice o 0 (our_header f m)
@@ -122,31 +110,20 @@ module _ (f : Form) (m : List ℕ) where
 
   -- ---- symbol
 
-  pub symbol-long : (to : ℕ) (o o1 o2 o3 : List ℕ) (x y z : ℕ) → f.long ≡ true → length_good f m ≡ true → Bytes m
-      → x ≡ field m 26 8 → o1 ≡ splice o to (be_bytes 8 x) → y ≡ field m 34 2 → o2 ≡ splice o1 (to + 8) (be_bytes 2 y)
-      → z ≡ field m 36 1 → o3 ≡ splice o2 (to + 10) (be_bytes 1 z) → o3 ≡ splice o to (symbol_in f m)
-  symbol-long to o o1 o2 o3 x y z l g w ex e1 ey e2 ez e3 =
+  pub symbol-long : (to n : ℕ) (o z : List ℕ) → n ≡ 11 → f.long ≡ true → length_good f m ≡ true → z ≡ take 11 (drop 26 m) → put_mid to n o z ≡ splice o to (symbol_in f m)
+  unfolding part
+  symbol-long to n o z en l g e =
       let h : 37 ≤ length m = rw l at (symbol-in f m g) in
-      let s : be_bytes 8 x ++ be_bytes 2 y ++ be_bytes 1 z ≡ part m 26 11 =
-      (λ i. (ap (be_bytes 8) ex ∙ be_bytes-field m 26 8 (omega arith) w) i ++ (ap (be_bytes 2) ey ∙ be_bytes-field m 34 2 (omega arith) w) i
-      ++ (ap (be_bytes 1) ez ∙ be_bytes-field m 36 1 (omega arith) w) i)
-      ∙ ap (λ (p : List ℕ). p ++ part m 36 1) (sym (part_join m 26 8 2)) ∙ sym (part_join m 26 10 1) in
-      then to 10 o o2 o3 (be_bytes 8 x ++ be_bytes 2 y) (be_bytes 1 z) (length-append (be_bytes 8 x) (be_bytes 2 y) ∙ (λ i. length-be_bytes 8 x i + length-be_bytes 2 y i))
-      (then to 8 o o1 o2 (be_bytes 8 x) (be_bytes 2 y) (length-be_bytes 8 x) e1 e2) e3
-      ∙ ap (splice o to) (s ∙ sym (rw l (append-nil (part m 26 11))))
+      lent_back to n o z (ap length e ∙ length_part m 26 11 h ∙ sym en) ∙ ap (splice o to) (e ∙ sym (rw l (append-nil (part m 26 11))))
 
-  pub symbol-short : (to : ℕ) (o o1 o2 o3 : List ℕ) (x y : ℕ) → f.long ≡ false → length_good f m ≡ true → Bytes m
-      → x ≡ field m 26 4 → o1 ≡ splice o to (be_bytes 4 x) → y ≡ field m 30 1 → o2 ≡ splice o1 (to + 4) (be_bytes 1 y)
-      → o3 ≡ splice o2 (to + 5) (32 ∷ 32 ∷ 32 ∷ 32 ∷ 32 ∷ 32 ∷ []) → o3 ≡ splice o to (symbol_in f m)
-  symbol-short to o o1 o2 o3 x y l g w ex e1 ey e2 e3 =
-      let six : List ℕ = 32 ∷ 32 ∷ 32 ∷ 32 ∷ 32 ∷ 32 ∷ [] in
+  pub symbol-short : (to n k : ℕ) (o z y : List ℕ) → n ≡ 5 → k ≡ 6 → f.long ≡ false → length_good f m ≡ true → z ≡ take 5 (drop 26 m) → y ≡ replicate 6 32
+      → put_mid (to + 5) k (put_mid to n o z) y ≡ splice o to (symbol_in f m)
+  unfolding part
+  symbol-short to n k o z y en ek l g e ey =
       let h : 31 ≤ length m = rw l at (symbol-in f m g) in
-      let s : be_bytes 4 x ++ be_bytes 1 y ≡ part m 26 5 =
-      (λ i. (ap (be_bytes 4) ex ∙ be_bytes-field m 26 4 (omega arith) w) i ++ (ap (be_bytes 1) ey ∙ be_bytes-field m 30 1 (omega arith) w) i)
-      ∙ sym (part_join m 26 4 1) in
-      then to 5 o o2 o3 (be_bytes 4 x ++ be_bytes 1 y) six (length-append (be_bytes 4 x) (be_bytes 1 y) ∙ (λ i. length-be_bytes 4 x i + length-be_bytes 1 y i))
-      (then to 4 o o1 o2 (be_bytes 4 x) (be_bytes 1 y) (length-be_bytes 4 x) e1 e2) e3
-      ∙ ap (λ (p : List ℕ). splice o to (p ++ six)) s ∙ sym (rw l refl)
+      let five : length z ≡ 5 = ap length e ∙ length_part m 26 5 h in
+      then to 5 o (put_mid to n o z) (put_mid (to + 5) k (put_mid to n o z) y) z y five (lent_back to n o z (five ∙ sym en)) (lent_back (to + 5) k (put_mid to n o z) y (ap length ey ∙ sym ek))
+      ∙ (λ i. splice o to (e i ++ ey i)) ∙ sym (rw l refl)
 
   -- ---- round part
 
@@ -170,21 +147,22 @@ module _ (f : Form) (m : List ℕ) where
 
   -- ---- odd part
 
-  module _ (to k x y z : ℕ) (o o1 o2 o3 o4 : List ℕ) (ek : k ≡ clear_at f) (ex : x ≡ at m k) (e1 : o1 ≡ splice o to (x ∷ [])) (ey : y ≡ at m (k + 1)) (e2 : o2 ≡ splice o1 (to + 1) (y ∷ []))
-      (ez : z ≡ at m (k + 2)) (e3 : o3 ≡ splice o2 (to + 2) (z ∷ [])) (e4 : o4 ≡ splice o3 (to + 3) (0 ∷ [])) where
-    four : o4 ≡ splice o to (mark_in f m ∷ count_in f Bid m ∷ count_in f Offer m ∷ 0 ∷ [])
+  module _ (to n k x y z : ℕ) (o zs : List ℕ) (en : n ≡ 4) (ek : k ≡ clear_at f) (ex : x ≡ at m k) (ey : y ≡ at m (k + 1)) (ez : z ≡ at m (k + 2)) (e : zs ≡ x ∷ y ∷ z ∷ 0 ∷ []) where
+    four : put_mid to n o zs ≡ splice o to (mark_in f m ∷ count_in f Bid m ∷ count_in f Offer m ∷ 0 ∷ [])
     four =
-        then to 3 o o3 o4 (x ∷ y ∷ z ∷ []) (0 ∷ []) refl (then to 2 o o2 o3 (x ∷ y ∷ []) (z ∷ []) refl (then to 1 o o1 o2 (x ∷ []) (y ∷ []) refl e1 e2) e3) e4
+        lent_back to n o zs (ap length e ∙ sym en) ∙ ap (splice o to) e
         ∙ (λ j. splice o to (ex j ∷ ey j ∷ ez j ∷ 0 ∷ []))
         ∙ (λ j. splice o to (at m (ek j) ∷ at m (ek j + 1) ∷ at m (ek j + 2) ∷ 0 ∷ []))
 
-    pub marks-round : f.round ≡ true → o4 ≡ splice o to (our_marks f m)
+    pub marks-round : f.round ≡ true → put_mid to n o zs ≡ splice o to (our_marks f m)
     unfolding our_marks
     marks-round r = four ∙ sym (rw r refl)
 
-    pub marks-odd : (o5 : List ℕ) → f.round ≡ false → o5 ≡ splice o4 (to + 4) (0 ∷ []) → o5 ≡ splice o to (our_marks f m)
+    pub marks-odd : to + 5 ≤ length o → f.round ≡ false → set (put_mid to n o zs) (to + 4) 0 ≡ splice o to (our_marks f m)
     unfolding our_marks
-    marks-odd o5 r e5 = then to 4 o o4 o5 (mark_in f m ∷ count_in f Bid m ∷ count_in f Offer m ∷ 0 ∷ []) (0 ∷ []) refl four e5 ∙ sym (rw r refl)
+    marks-odd h r =
+        let l : length (put_mid to n o zs) ≡ length o = ap length four ∙ length-splice o to (mark_in f m ∷ count_in f Bid m ∷ count_in f Offer m ∷ 0 ∷ []) (omega arith) in
+        then to 4 o (put_mid to n o zs) (set (put_mid to n o zs) (to + 4) 0) (mark_in f m ∷ count_in f Bid m ∷ count_in f Offer m ∷ 0 ∷ []) (0 ∷ []) refl four (splice-one (put_mid to n o zs) (to + 4) 0 (omega (arith, l))) ∙ sym (rw r refl)
 
   pub item-is : (to i n s p : ℕ) (o o1 o2 : List ℕ) → n ≡ price_bytes f → s ≡ at m (i + n) → p ≡ price_at f m i → o1 ≡ splice o to (be_bytes 8 p)
       → o2 ≡ splice o1 (to + 8) (be_bytes 4 s) → o2 ≡ splice o to (our_item_at f m i)

@@ -1,14 +1,11 @@
 -- A quote of source document 000 in our form (document 02, T-11): P and K become our Q K, R and M our Q M.
 -- Assumes nothing.
-use Rattle.std.specs.Prelude.{ℕ, zero, suc, ◌+◌, ◌/◌, Bool, cond, List, [], ◌∷◌, ◌++◌, eqb, replicate}
+use Rattle.std.specs.Prelude.{ℕ, zero, suc, ◌+◌, ◌/◌, cond, List, [], ◌∷◌, ◌++◌, eqb, replicate, Option, Some, None}
 use Rattle.field.specs.Field.{be, field, be_bytes}
 use Rattle.field.specs.Ascii.{K, M, Q}
 use Rattle.lists.specs.Lists.{at}
-use Rattle.ranking.specs.declared.Side.{Side}
 use Rattle.ranking.specs.declared.Side.TheVariants.{Bid, Offer}
 use Rattle.venueform.specs.declared.Form.{Form}
-use Rattle.venueform.specs.declared.Layout.{Layout}
-use Rattle.venueform.specs.declared.Layout.TheVariants.{Quote, Other}
 use Rattle.venueform.specs.Form.{participant_in, time_in, reference_in, layout_of, symbol_in, price_bytes, size_bytes, price_at, side_at, condition_in, mark_in, count_in, item_count, item_at}
 use Rattle.venuerules.specs.Rules.{our_length}
 
@@ -52,25 +49,25 @@ converted_as lot f m = our_header f m ++ symbol_in f m ++ cond f.round (our_roun
 
 -- ---- a message, by its layout: one that is no quote has no place here
 
-abbrev pub converted_by : ℕ → List ℕ → Layout → List ℕ
-converted_by lot m (Quote f) = converted_as lot f m
-converted_by lot m Other = []
+abbrev pub converted_by : ℕ → List ℕ → Option Form → List ℕ
+converted_by lot m (Some f) = converted_as lot f m
+converted_by lot m None = []
 
 unfoldable pub converted : ℕ → List ℕ → List ℕ
 converted lot m = converted_by lot m (layout_of m)
 
 -- its length in our form, without writing it
-abbrev pub length_by : List ℕ → Layout → ℕ
-length_by m (Quote f) = our_length f m
-length_by m Other = 0
+abbrev pub length_by : List ℕ → Option Form → ℕ
+length_by m (Some f) = our_length f m
+length_by m None = 0
 
 unfoldable pub converted_length : List ℕ → ℕ
 converted_length m = length_by m (layout_of m)
 
 -- the symbol that it names, as one number
-abbrev pub named_by : List ℕ → Layout → ℕ
-named_by m (Quote f) = be (symbol_in f m)
-named_by m Other = 0
+abbrev pub named_by : List ℕ → Option Form → ℕ
+named_by m (Some f) = be (symbol_in f m)
+named_by m None = 0
 
 unfoldable pub symbol_named : List ℕ → ℕ
 symbol_named m = named_by m (layout_of m)

@@ -38,10 +38,8 @@ pub fn put_message(output: &mut [u8], msg: &[u8], lot: u8)
     requires { (ready msg.now ≡ true) × (length output.old ≡ converted_length msg.now) }
     ensures { output.new ≡ converted lot msg.now }
 {
-    let layout = venueform::layout_of(msg);
-    match layout {
-        venueform::Layout::Quote(form) => put_quote(output, msg, form, lot),
-        venueform::Layout::Other => {}
+    if let Some(form) = venueform::layout_of(msg) {
+        put_quote(output, msg, form, lot);
     }
 }
 
@@ -49,19 +47,13 @@ pub fn put_message(output: &mut [u8], msg: &[u8], lot: u8)
 pub fn converted_len(msg: &[u8]) -> usize
     ensures { (result ≡ converted_length msg.now) × (result ≤ 6180) }
 {
-    let layout = venueform::layout_of(msg);
-    match layout {
-        venueform::Layout::Quote(form) => venuerules::our_len(msg, form),
-        venueform::Layout::Other => 0,
-    }
+    let Some(form) = venueform::layout_of(msg) else {
+        return 0;
+    };
+    venuerules::our_len(msg, form)
 }
 
-fn put_byte(output: &mut [u8], to: usize, v: u8)
-    requires { to + 1 ≤ length output.old }
-    ensures { output.new ≡ splice output.old to (v ∷ []) }
-{
-    output[to] = v;
-}
+// msg and form stay two parameters: what is asked of them differs, from nothing over a header's or a side's bytes to a whole quote's length.
 
 // ---- header
 
@@ -78,19 +70,14 @@ fn put_kind(output: &mut [u8], msg: &[u8], form: Form)
     requires { header_length ≤ length output.old }
     ensures { output.new ≡ splice output.old 0 (our_kind form msg.now) }
 {
-    put_byte(output, 0, b'Q');
-    put_byte(output, 1, kind(form));
-    put_byte(output, 2, field::byte(msg, Venue::PARTICIPANT));
-    put_byte(output, 3, 0);
+    let letter = field::byte(msg, Venue::PARTICIPANT);
+    output[0..4].copy_from_slice(&[b'Q', kind(form), letter, 0]);
 }
 
 fn kind(form: Form) -> u8
     ensures { result ≡ cond form.round K M }
 {
-    if form.round {
-        return b'K';
-    }
-    b'M'
+    if form.round { b'K' } else { b'M' }
 }
 
 // Nanoseconds since the epoch.
@@ -98,8 +85,8 @@ fn time(msg: &[u8]) -> u64
     requires { venue_header ≤ length msg.now }
     ensures { result ≡ time_in msg.now }
 {
-    let seconds = field::get32(msg, Venue::SECONDS) as u64;
-    seconds * 1000000000 + (field::get32(msg, Venue::NANOS) as u64)
+    let seconds = u64::from(field::get32(msg, Venue::SECONDS));
+    seconds * 1000000000 + u64::from(field::get32(msg, Venue::NANOS))
 }
 
 /// Writes a quote's symbol at `to`, filled up to eleven bytes.
@@ -108,23 +95,11 @@ pub fn put_symbol(output: &mut [u8], to: usize, msg: &[u8], form: Form)
     ensures { output.new ≡ splice output.old to (symbol_in form msg.now) }
 {
     if form.long {
-        field::put64(output, to, field::get64(msg, Venue::HEADER));
-        field::put16(output, to + 8, field::get16(msg, Venue::HEADER + 8));
-        field::put8(output, to + 10, field::get8(msg, Venue::HEADER + 10));
+        output[to..to + 11].copy_from_slice(&msg[Venue::HEADER..Venue::HEADER + 11]);
     } else {
-        field::put32(output, to, field::get32(msg, Venue::HEADER));
-        field::put8(output, to + 4, field::get8(msg, Venue::HEADER + 4));
-        put_spaces(output, to + 5);
+        output[to..to + 5].copy_from_slice(&msg[Venue::HEADER..Venue::HEADER + 5]);
+        output[to + 5..to + 11].fill(b' ');
     }
-}
-
-// Six spaces.
-fn put_spaces(output: &mut [u8], to: usize)
-    requires { to + 6 ≤ length output.old }
-    ensures { output.new ≡ splice output.old to (32 ∷ 32 ∷ 32 ∷ 32 ∷ 32 ∷ 32 ∷ []) }
-{
-    field::put32(output, to, 0x20202020);
-    field::put16(output, to + 4, 0x2020);
 }
 
 // ---- round part
@@ -134,7 +109,7 @@ fn put_round(output: &mut [u8], msg: &[u8], form: Form, lot: u8)
     ensures { output.new ≡ splice output.old 31 (our_round lot form msg.now) }
 {
     let at = venueform::bid_at(form);
-    put_byte(output, Layout::CONDITION, condition(msg, form));
+    output[Layout::CONDITION] = condition(msg, form);
     put_side(output, Layout::BID, msg, at, form, lot);
     put_side(
         output,
@@ -150,9 +125,10 @@ fn condition(msg: &[u8], form: Form) -> u8
     ensures { result ≡ condition_in form msg.now }
 {
     if form.long {
-        return field::byte(msg, Venue::CONDITION);
+        field::byte(msg, Venue::CONDITION)
+    } else {
+        b'R'
     }
-    b'R'
 }
 
 // The side at `at`.
@@ -172,7 +148,7 @@ fn divide(lot: u8, shares: u32) -> u32
     if lot == 0 {
         return shares;
     }
-    shares / (lot as u32)
+    shares / u32::from(lot)
 }
 
 // ---- odd part
@@ -182,20 +158,20 @@ fn put_marks(output: &mut [u8], to: usize, msg: &[u8], form: Form)
     ensures { output.new ≡ splice output.old to (our_marks form msg.now) }
 {
     let clear = venueform::clear_at(form);
-    put_byte(output, to, field::byte(msg, clear));
-    put_byte(output, to + 1, field::byte(msg, clear + 1));
-    put_byte(output, to + 2, field::byte(msg, clear + 2));
-    put_byte(output, to + 3, 0);
-    if form.round {
-        return;
+    let mark = field::byte(msg, clear);
+    let bids = field::byte(msg, clear + 1);
+    let offers = field::byte(msg, clear + 2);
+    output[to..to + 4].copy_from_slice(&[mark, bids, offers, 0]);
+    if !form.round {
+        output[to + 4] = 0;
     }
-    put_byte(output, to + 4, 0);
 }
 
 fn put_items(output: &mut [u8], to: usize, msg: &[u8], form: Form)
     requires { (to + item_length * item_count form msg.now ≤ length output.old) × (length_good form msg.now ≡ true) }
     ensures { output.new ≡ splice output.old to (our_items form msg.now 0 (item_count form msg.now)) }
 {
+    // i is a place in both forms: where an item is read, and where it is written.
     let n = venueform::item_count(msg, form);
     for i in 0..n {
         put_item(
@@ -213,13 +189,7 @@ fn put_item(output: &mut [u8], to: usize, msg: &[u8], at: usize, form: Form)
     requires { (to + item_length ≤ length output.old) × ((at ≤ 4671) × (at + item_bytes form ≤ length msg.now)) }
     ensures { output.new ≡ splice output.old to (our_item_at form msg.now at) }
 {
-    let shares = wide(field::byte(msg, at + venueform::price_len(form)));
+    let shares = u32::from(field::byte(msg, at + venueform::price_len(form)));
     field::put64(output, to, venueform::price(msg, at, form));
     field::put32(output, to + 8, shares);
-}
-
-fn wide(x: u8) -> u32
-    ensures { (result ≡ x) × (result < 256) }
-{
-    x as u32
 }

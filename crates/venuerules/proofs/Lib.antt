@@ -1,3 +1,2 @@
-pub mod LoopLaws
 pub mod HeaderLaws
 pub mod QuoteLaws

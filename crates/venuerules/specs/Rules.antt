@@ -1,7 +1,7 @@
 -- The rules of a message in the form of source document 000: what check 78 asks of it, and check 79 (document 02, T-11).
 -- Numbers like 5.4 are sections of 000; H1, Q1, R1 and so on name the rules.
 -- Assumes nothing.
-use Rattle.std.specs.Prelude.{ℕ, ◌+◌, ◌*◌, Bool, true, false, not, ◌&&◌, ◌||◌, cond, List, [], ◌∷◌, ltb, leb, eqb, length}
+use Rattle.std.specs.Prelude.{ℕ, ◌+◌, ◌*◌, Bool, true, false, not, ◌&&◌, ◌||◌, cond, List, [], ◌∷◌, ltb, leb, eqb, length, Option, Some, None}
 use Rattle.field.specs.Field.{part, field}
 use Rattle.field.specs.Ascii.{A, B, C, E, F, H, I, K, L, M, N, O, P, Q, R, S, T, U, W, X, Z, four, five, space}
 use Rattle.lists.specs.Lists.{member, every, all, between, upper}
@@ -11,8 +11,6 @@ use Rattle.message.specs.Message.{round_lot_items, odd_lot_items, round_conditio
 use Rattle.block.specs.Block.{block_longest, offset_at}
 use Rattle.ranking.specs.declared.Side.TheVariants.{Bid, Offer}
 use Rattle.venueform.specs.declared.Form.{Form}
-use Rattle.venueform.specs.declared.Layout.{Layout}
-use Rattle.venueform.specs.declared.Layout.TheVariants.{Quote, Other}
 use Rattle.venueform.specs.Form.{category_in, type_in, participant_in, seconds_in, nanos_in, nanos_in_second, id_in, reserved_in, from_finra, long_round, layout_of, symbol_part, price_in, condition_in, market_in, retail_in, settlement_in, maker_in, indicator_in, second_time_in, second_nanos_in, mark_in, item_count, item_at, item_price}
 
 -- ---- 5.0: the header
@@ -154,9 +152,9 @@ quote_good f m =
     && (items_good f m
     && cond f.round (round_good f m) (odd_good f m)))))
 
-abbrev pub layout_good : List ℕ → Layout → Bool
-layout_good m (Quote f) = quote_good f m
-layout_good m Other = true
+abbrev pub layout_good : List ℕ → Option Form → Bool
+layout_good m (Some f) = quote_good f m
+layout_good m None = true
 
 -- 78, of message i of a block of `count` messages under that number
 unfoldable pub message_good : ℕ → ℕ → ℕ → List ℕ → Bool
@@ -178,9 +176,9 @@ quote_placed f m =
     letter_good (participant_in m) && (not (from_finra m) && (condition_held f m && leb (offset_at 1 + our_length f m) block_longest))
 
 -- U1
-abbrev pub placed_by : List ℕ → Layout → Bool
-placed_by m (Quote f) = quote_placed f m
-placed_by m Other = false
+abbrev pub placed_by : List ℕ → Option Form → Bool
+placed_by m (Some f) = quote_placed f m
+placed_by m None = false
 
 unfoldable pub message_placed : List ℕ → Bool
 message_placed m = placed_by m (layout_of m)

@@ -1,10 +1,9 @@
 -- The needed length as the code works it out, message by message, and each `return` of the checks.
 -- Assumes nothing.
-use Rattle.std.proofs.Common.{◌≡◌, ℕ, ◌+◌, ◌-◌, ◌*◌, ◌<◌, ◌≤◌, Bool, true, false, cond, eqb, ltb, List, [], ◌∷◌, map, length, take, drop, sym, refl, ap, ◌∙◌, arith, le-ltb, lt-ltb, eq-eqb, ne_eqb}
+use Rattle.std.proofs.Common.{◌≡◌, ℕ, ◌+◌, ◌-◌, ◌*◌, ◌<◌, ◌≤◌, Bool, true, false, cond, eqb, ltb, List, ◌∷◌, map, take, drop, sym, refl, ap, ◌∙◌, arith, le-ltb, lt-ltb, eq-eqb}
 use Rattle.block.specs.Block.{block_longest, offset_at}
 use Rattle.venuequote.specs.Quote.{converted_length}
-use Rattle.venue.specs.Venue.{venue_first, venue_count, next_at, venue_from, venue_messages, venue_number}
-use Rattle.venue.proofs.BlockLaws.{Sound}
+use Rattle.venue.specs.Venue.{venue_first, venue_count, next_at, venue_number}
 use Rattle.venuerun.specs.declared.Fill.{Fill}
 use Rattle.venuerun.specs.Run.{with_one, fill_into, filled, needed_of, needed_told, convert_number}
 use Rattle.venuerun.specs.code.Walk.{stands, lengths_from, filled_with}
@@ -76,13 +75,13 @@ module _ (b : List ℕ) (c : ℕ) (f : Fill) (p i : ℕ) (g : Needing b c f p i)
 
 -- ---- 78, 79
 
-pub told-refused : (b : List ℕ) (n : ℕ) → n ≡ venue_number b → (n ≡ 0 → ⊥) → 0 ≡ needed_told b
+pub told-refused : (b : List ℕ) (n : ℕ) → n ≡ venue_number b → eqb n 0 ≡ false → 0 ≡ needed_told b
 unfolding needed_told
-told-refused b n e h = rw (← e, ne_eqb n 0 h)
+told-refused b n e h = rw (← e, h)
 
-pub told-done : (b : List ℕ) (n l : ℕ) → n ≡ venue_number b → n ≡ 0 → l ≡ needed_of b → l ≡ needed_told b
+pub told-done : (b : List ℕ) (l : ℕ) → 0 ≡ venue_number b → l ≡ needed_of b → l ≡ needed_told b
 unfolding needed_told
-told-done b n l e h q = rw (← e, eq-eqb n 0 h) q
+told-done b l e q = rw (← e) q
 
 -- ---- 80
 
@@ -90,9 +89,9 @@ module _ (b : List ℕ) (room n l : ℕ) (en : n ≡ venue_number b) (el : l ≡
   abbrev Judged : ℕ → ℕ → Type 0
   Judged k m = (k ≡ convert_number b room) × (m ≡ cond (eqb (convert_number b room) 0) (needed_of b) 0)
 
-  number-refused : (n ≡ 0 → ⊥) → convert_number b room ≡ n
+  number-refused : eqb n 0 ≡ false → convert_number b room ≡ n
   unfolding convert_number
-  number-refused h = rw (← en, ne_eqb n 0 h)
+  number-refused h = rw (← en, h)
 
   needed-is : n ≡ 0 → l ≡ needed_of b
   unfolding needed_told
@@ -102,8 +101,8 @@ module _ (b : List ℕ) (room n l : ℕ) (en : n ≡ venue_number b) (el : l ≡
   unfolding convert_number
   number-good h t q = rw (← en, eq-eqb n 0 h, ← needed-is h, q)
 
-  pub judge-refused : (n ≡ 0 → ⊥) → Judged n l
-  judge-refused h = (sym (number-refused h), rw (number-refused h, ne_eqb n 0 h) (el ∙ sym (told-refused b n en h)))
+  pub judge-refused : eqb n 0 ≡ false → Judged n 0
+  judge-refused h = (sym (number-refused h), rw (number-refused h, h))
 
   pub judge-short : n ≡ 0 → room < l → Judged 80 0
   judge-short h s =

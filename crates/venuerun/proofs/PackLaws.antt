@@ -1,6 +1,6 @@
 -- Packing, block by block: the first block has as many messages as fit, and the rest is packed alike; likewise the length worked out first.
 -- Assumes nothing.
-use Rattle.std.proofs.Common.{◌≡◌, ℕ, zero, suc, ◌+◌, ◌*◌, ◌<◌, ◌≤◌, Bool, true, false, cond, leb, List, [], ◌∷◌, ◌++◌, map, length, take, drop, sym, refl, ap, ◌∙◌, append_assoc, append-nil, add-zero, arith, length-take-le, le-leb, leb-true}
+use Rattle.std.proofs.Common.{◌≡◌, ℕ, suc, ◌+◌, ◌*◌, ◌<◌, ◌≤◌, Bool, true, false, cond, leb, List, [], ◌∷◌, ◌++◌, map, length, take, drop, sym, refl, ap, ◌∙◌, append_assoc, append-nil, arith, length-take-le, le-leb, leb-true}
 use borrow.Author.Tests.{lt-leb}
 use Rattle.lists.specs.Lists.{sum}
 use Rattle.block.specs.Block.{block_longest, offset_at}

@@ -1,6 +1,6 @@
 -- Venues' blocks and the runs that they become, by computing (document 02, T-11): whole blocks, byte for byte.
 -- Assumes nothing.
-use Rattle.std.proofs.Common.{◌≡◌, ℕ, ◌+◌, ◌*◌, cond, eqb, List, [], ◌∷◌, ◌++◌, map, length, replicate, refl}
+use Rattle.std.proofs.Common.{◌≡◌, ℕ, ◌+◌, cond, eqb, List, [], ◌∷◌, ◌++◌, map, length, replicate, refl}
 use Rattle.field.specs.Field.{be, part, field, be_bytes}
 use Rattle.lists.specs.Lists.{member, every, all, sum}
 use Rattle.text.specs.Form.{padded}

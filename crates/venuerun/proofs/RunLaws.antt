@@ -1,9 +1,9 @@
 -- A run of blocks: its messages, its numbers, that each block passes checks 30 to 34 and is as full as it can be, and its length.
 -- Assumes nothing.
-use Rattle.std.proofs.Common.{◌≡◌, ℕ, suc, ◌+◌, ◌*◌, ◌<◌, ◌≤◌, Bool, true, false, cond, ◌&&◌, leb, List, [], ◌∷◌, ◌++◌, map, length, sym, refl, ap, ◌∙◌, append_assoc, append-nil, mod-lt, arith, lit<, length-append, le-leb, leb-false, leb-true}
+use Rattle.std.proofs.Common.{◌≡◌, ℕ, ◌+◌, ◌*◌, ◌<◌, ◌≤◌, Bool, true, false, cond, ◌&&◌, leb, List, [], ◌∷◌, ◌++◌, map, length, refl, ap, ◌∙◌, append_assoc, mod-lt, arith, lit<, length-append, le-leb, leb-false, leb-true}
 use Rattle.lists.specs.Lists.{every, gather}
-use Rattle.block.specs.Block.{block_longest, message_shortest, messages_most, offset_at, sequence_in, messages_of, is_control, checked, checksum_of}
-use Rattle.block.specs.declared.Checked.TheVariants.{Pass}
+use Rattle.block.specs.Block.{block_longest, message_shortest, offset_at, sequence_in, messages_of, is_control, checked, checksum_of}
+use Rattle.std.specs.Prelude.{Ok}
 use Rattle.block.specs.Sequence.{next_of}
 use Rattle.block.specs.Written.{joined, length_with, front, written, any_control, control_mixed}
 use Rattle.block.proofs.WrittenLaws.{Carried, length-framed, framed-sequence, written_back, written-passes}
@@ -132,7 +132,7 @@ filling-carried used p f =
 -- what a run of blocks under this number is: each passes checks 30 to 34 and has the number that follows on the one before it
 pub data Follows : ℕ → List (List ℕ) → Type 0 where
   end : {s : ℕ} → Follows s []
-  next : {s c : ℕ} {x : List ℕ} {xs : List (List ℕ)} → checked x ≡ Pass c → sequence_in x ≡ s → Follows (next_of s c) xs → Follows s (x ∷ xs)
+  next : {s c : ℕ} {x : List ℕ} {xs : List (List ℕ)} → checked x ≡ Ok c → sequence_in x ≡ s → Follows (next_of s c) xs → Follows s (x ∷ xs)
 
 pub data AllCarried : List (List (List ℕ)) → Type 0 where
   no_block : AllCarried []

@@ -1,18 +1,17 @@
 -- Messages of a venue's block that stand from a place on: the first, the rest, the first k of them and those behind, and what each is in our form.
 -- Assumes nothing.
-use Rattle.std.proofs.Common.{◌≡◌, ℕ, zero, suc, ◌+◌, ◌-◌, ◌*◌, ◌<◌, ◌≤◌, Bool, true, false, cond, not, ◌&&◌, eqb, leb, List, [], ◌∷◌, ◌++◌, map, length, take, drop, sym, refl, ap, ◌∙◌, arith, eqb-true, leb-true}
+use Rattle.std.specs.Prelude.{Option, Some, None}
+use Rattle.std.proofs.Common.{◌≡◌, ℕ, zero, suc, ◌+◌, ◌-◌, ◌*◌, ◌<◌, ◌≤◌, Bool, true, false, cond, not, ◌&&◌, List, [], ◌∷◌, map, length, take, drop, sym, refl, ap, ◌∙◌, arith, leb-true}
 use Rattle.field.specs.Field.{part, field}
 use Rattle.lists.specs.Lists.{at, sum}
 use Rattle.lists.proofs.Tests.{clash, and-true}
 use Rattle.lists.proofs.Searches.{less_one}
 use Rattle.block.specs.Block.{block_longest, offset_at}
 use Rattle.venueform.specs.declared.Form.{Form}
-use Rattle.venueform.specs.declared.Layout.{Layout}
-use Rattle.venueform.specs.declared.Layout.TheVariants.{Quote, Other}
 use Rattle.text.specs.Form.{letter_good}
 use Rattle.venueform.specs.Form.{participant_in, from_finra, layout_of, item_count}
-use Rattle.venuerules.specs.Rules.{length_good, sender_good, symbol_formed, mark_good, quote_good, layout_good, header_good, control_good, message_good, our_length, condition_held, quote_placed, placed_by, message_placed}
-use Rattle.venuequote.specs.Quote.{converted_as, converted_by, converted, length_by, converted_length}
+use Rattle.venuerules.specs.Rules.{length_good, quote_good, layout_good, header_good, control_good, message_good, our_length, condition_held, quote_placed, placed_by, message_placed}
+use Rattle.venuequote.specs.Quote.{converted_by, converted, length_by, converted_length}
 use Rattle.venuequote.specs.code.Ready.{ready_by, ready}
 use Rattle.venuequote.proofs.WriteLaws.{length-converted}
 use Rattle.venue.specs.Venue.{venue_first, venue_count, venue_sequence, lies_at, laid_from, block_good, next_at, venue_from, venue_messages, messages_good, messages_placed, venue_number}
@@ -26,31 +25,31 @@ pub ready-length : (m : List ℕ) → ready m ≡ true → (lot : ℕ) → lengt
 unfolding ready converted converted_length
 ready-length m r lot = go (layout_of m) r
   where
-    go : (l : Layout) → ready_by m l ≡ true → length (converted_by lot m l) ≡ length_by m l
-    go (Quote f) e = length-converted f m (and-true (length_good f m) _ e).0 lot
-    go Other e = refl
+    go : (l : Option Form) → ready_by m l ≡ true → length (converted_by lot m l) ≡ length_by m l
+    go (Some f) e = length-converted f m (and-true (length_good f m) _ e).0 lot
+    go None e = refl
 
 -- 36 bytes at least, and no more than a block can carry
 pub ready-fits : (m : List ℕ) → ready m ≡ true → (36 ≤ converted_length m) × (offset_at 1 + converted_length m ≤ block_longest)
 unfolding ready converted_length
 ready-fits m r = go (layout_of m) r
   where
-    go : (l : Layout) → ready_by m l ≡ true → (36 ≤ length_by m l) × (offset_at 1 + length_by m l ≤ block_longest)
-    go (Quote f) e = (low f.round (item_count f m), leb-true (offset_at 1 + our_length f m) block_longest (and-true (length_good f m) _ e).1)
+    go : (l : Option Form) → ready_by m l ≡ true → (36 ≤ length_by m l) × (offset_at 1 + length_by m l ≤ block_longest)
+    go (Some f) e = (low f.round (item_count f m), leb-true (offset_at 1 + our_length f m) block_longest (and-true (length_good f m) _ e).1)
       where
         low : (t : Bool) (n : ℕ) → 36 ≤ cond t 60 36 + 12 * n
         low true n = omega arith
         low false n = omega arith
-    go Other e = clash (sym e)
+    go None e = clash (sym e)
 
 -- 78 and 79 passed
 message-ready : (c s i : ℕ) (m : List ℕ) → message_good c s i m ≡ true → message_placed m ≡ true → ready m ≡ true
 unfolding message_good message_placed ready quote_good quote_placed
 message-ready c s i m g p = go (layout_of m) (and-true (control_good c s m) _ (and-true (header_good i m) _ g).1).1 p
   where
-    go : (l : Layout) → layout_good m l ≡ true → placed_by m l ≡ true → ready_by m l ≡ true
-    go (Quote f) a b = rw (and-true (length_good f m) _ a).0 (and-true (condition_held f m) _ (and-true (not (from_finra m)) _ (and-true (letter_good (participant_in m)) _ b).1).1).1
-    go Other a b = b
+    go : (l : Option Form) → layout_good m l ≡ true → placed_by m l ≡ true → ready_by m l ≡ true
+    go (Some f) a b = rw (and-true (length_good f m) _ a).0 (and-true (condition_held f m) _ (and-true (not (from_finra m)) _ (and-true (letter_good (participant_in m)) _ b).1).1).1
+    go None a b = b
 
 stands-all : (b : List ℕ) (c s k i p : ℕ) → laid_from b p k ≡ true → messages_good c s i (venue_from b p k) ≡ true → messages_placed (venue_from b p k) ≡ true → stands b p k ≡ true
 unfolding laid_from messages_good messages_placed venue_from stands

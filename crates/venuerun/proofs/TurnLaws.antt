@@ -1,11 +1,11 @@
 -- The loops that write a run, turn by turn, over plain values.
 -- Assumes nothing.
-use Rattle.std.proofs.Common.{◌≡◌, ℕ, zero, suc, ◌+◌, ◌-◌, ◌*◌, ◌<◌, ◌≤◌, Bool, true, false, cond, leb, List, [], ◌∷◌, ◌++◌, map, length, get_or, take, drop, set, replicate, sym, refl, ap, ◌∙◌, append_assoc, append-nil, arith, length-append, length-drop, length-set, drop_of_length-le, length-take, length-take-le, take_at, drop_at, le-leb}
+use Rattle.std.proofs.Common.{◌≡◌, ℕ, zero, suc, ◌+◌, ◌-◌, ◌*◌, ◌<◌, ◌≤◌, Bool, true, cond, leb, List, [], ◌∷◌, ◌++◌, map, length, get_or, take, drop, set, replicate, sym, refl, ap, ◌∙◌, append_assoc, append-nil, arith, length-append, length-drop, length-set, drop_of_length-le, length-take-le, drop_at, le-leb}
 use lib.ListN.{length-map}
 use borrow.Author.Tests.{lt-leb}
 use borrow.Rule.Slice.PartMut.{put_mid}
-use Rattle.field.specs.Field.{part, field, splice}
-use Rattle.field.proofs.Laws.{splice-join, splice-one, lent_back, length-splice, take-splice, length_part}
+use Rattle.field.specs.Field.{splice}
+use Rattle.field.proofs.Laws.{splice-join, splice-one, lent_back, length-splice, take-splice}
 use Rattle.field.proofs.ZeroLaws.{splice-nothing}
 use Rattle.lists.specs.Lists.{at, sum}
 use Rattle.block.specs.Block.{block_longest, messages_most, offset_at}

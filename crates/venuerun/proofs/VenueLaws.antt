@@ -1,28 +1,27 @@
 -- The run of a venue's block: its length worked out first is the length written, each block passes checks 30 to 34, the messages are the
 -- converted ones in their order, numbers follow on, each block is as full as it can be, and no run is longer than 3,600 bytes.
 -- Assumes nothing.
-use Rattle.std.proofs.Common.{◌≡◌, ℕ, zero, suc, ◌+◌, ◌*◌, ◌<◌, ◌≤◌, Bool, true, false, cond, leb, List, [], ◌∷◌, map, length, sym, refl, ap, ◌∙◌, arith, leb-true}
+use Rattle.std.specs.Prelude.{Option, Some, None}
+use Rattle.std.proofs.Common.{◌≡◌, ℕ, zero, suc, ◌+◌, ◌*◌, ◌≤◌, Bool, true, false, cond, leb, List, [], ◌∷◌, map, length, sym, refl, ap, ◌∙◌, arith, leb-true}
 use lib.ListN.{length-map}
 use Rattle.field.specs.Field.{Bytes, part, field}
 use Rattle.field.proofs.Laws.{field_lt, length_part}
-use Rattle.lists.specs.Lists.{at, sum, gather}
+use Rattle.lists.specs.Lists.{sum, gather}
 use Rattle.lists.proofs.Tests.{clash, and-true}
 use Rattle.block.specs.Block.{block_longest, offset_at, messages_of, is_control}
 use Rattle.block.specs.Written.{joined}
 use Rattle.venueform.specs.declared.Form.{Form}
-use Rattle.venueform.specs.declared.Layout.{Layout}
-use Rattle.venueform.specs.declared.Layout.TheVariants.{Quote, Other}
-use Rattle.venueform.specs.Form.{layout_of, item_count, item_at}
-use Rattle.venuerules.specs.Rules.{length_good, our_length}
+use Rattle.venueform.specs.Form.{layout_of, item_count}
+use Rattle.venuerules.specs.Rules.{length_good}
 use Rattle.venuerules.proofs.QuoteLaws.{length-is}
 use Rattle.venuequote.specs.Quote.{our_kind, our_header, converted_as, converted_by, converted, length_by, converted_length, symbol_named, converted_for}
 use Rattle.venuequote.specs.code.Ready.{ready_by, ready}
 use Rattle.venue.specs.Venue.{venue_first, venue_sequence, venue_count, lies_at, venue_from, venue_messages, venue_number}
 use Rattle.venue.proofs.BlockLaws.{Sound}
 use Rattle.venue.proofs.WalkLaws.{lies-is}
-use Rattle.venuerun.specs.Run.{with_one, packed, run_of, converted_in, fill_into, filled, needed_of, venue_run}
+use Rattle.venuerun.specs.Run.{with_one, packed, converted_in, fill_into, filled, needed_of, venue_run}
 use Rattle.venuerun.specs.code.Walk.{stands, lengths_from}
-use Rattle.venuerun.proofs.StandLaws.{ready-length, ready-fits, Ready, ready-is, length_from}
+use Rattle.venuerun.proofs.StandLaws.{ready-length, ready-fits, ready-is, length_from}
 use Rattle.venuerun.proofs.RunLaws.{filled-is-written, Carriable, AllCarriable, no_message, and_message, Follows, run-follows, run-messages, Full, run-full}
 
 -- ---- each message
@@ -31,9 +30,9 @@ ready-quote : (m : List ℕ) → ready m ≡ true → (lot : ℕ) → is_control
 unfolding ready converted converted_as our_header our_kind
 ready-quote m r lot = go (layout_of m) r
   where
-    go : (l : Layout) → ready_by m l ≡ true → is_control (converted_by lot m l) ≡ false
-    go (Quote f) e = refl
-    go Other e = clash (sym e)
+    go : (l : Option Form) → ready_by m l ≡ true → is_control (converted_by lot m l) ≡ false
+    go (Some f) e = refl
+    go None e = clash (sym e)
 
 ready-carriable : (lots : ℕ → ℕ) (m : List ℕ) → ready m ≡ true → Carriable (converted_for lots m)
 unfolding converted_for
@@ -47,15 +46,15 @@ ready-short : (m : List ℕ) → ready m ≡ true → converted_length m + 100 �
 unfolding ready converted_length
 ready-short m r = go (layout_of m) r
   where
-    go : (l : Layout) → ready_by m l ≡ true → length_by m l + 100 ≤ 4 * length m
-    go (Quote f) e = rw (length-is f m (and-true (length_good f m) _ e).0) (forms f.round f.long (item_count f m))
+    go : (l : Option Form) → ready_by m l ≡ true → length_by m l + 100 ≤ 4 * length m
+    go (Some f) e = rw (length-is f m (and-true (length_good f m) _ e).0) (forms f.round f.long (item_count f m))
       where
         forms : (t u : Bool) (n : ℕ) → cond t 60 36 + 12 * n + 100 ≤ 4 * (cond t (cond u 78 39) (cond u 37 31) + 3 + (cond u 8 2 + 1) * n)
         forms true true n = omega arith
         forms true false n = omega arith
         forms false true n = omega arith
         forms false false n = omega arith
-    go Other e = clash (sym e)
+    go None e = clash (sym e)
 
 -- ---- the messages of a block
 

@@ -1,6 +1,6 @@
 -- A venue's block as a run of our blocks (document 02, T-11): as many messages to a block as fit, numbers following on; and its length, worked out first.
 -- Assumes nothing.
-use Rattle.std.specs.Prelude.{ℕ, ◌+◌, Bool, cond, List, [], ◌∷◌, ◌++◌, map, length, ◌==◌, nat_le, nat_lt}
+use Rattle.std.specs.Prelude.{ℕ, ◌+◌, cond, List, [], ◌∷◌, ◌++◌, map, length, ◌==◌, nat_le, nat_lt}
 use Rattle.block.specs.Block.{block_longest, offset_at}
 use Rattle.block.specs.Sequence.{next_of}
 use Rattle.block.specs.Written.{written}

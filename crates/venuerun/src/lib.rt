@@ -2,6 +2,8 @@
 #![tactic(auto)]
 
 ghost use Rattle.std.specs.Prelude.{◌≡◌, ◌+◌, ◌*◌, ◌<◌, ◌≤◌, true, map, length, if◌then◌else◌, nat_eq};
+ghost use Rattle.std.specs.Result.{result_unwrap_or};
+ghost use Rattle.numbers.specs.Numbers.{answered};
 ghost use Rattle.field.specs.Field.{splice};
 ghost use Rattle.lists.specs.Lists.{sum};
 ghost use Rattle.block.specs.Block.{block_longest, offset_at};
@@ -11,39 +13,26 @@ ghost use Rattle.venuerun.specs.Run.{run_of, needed_of, needed_told, convert_num
 ghost use Rattle.venuerun.specs.code.Walk.{stands, lengths_from, converted_from, filled_with, fit_of};
 
 use block::Block;
+use numbers::Refusal;
 use venue::Venues;
 
-/// What a conversion answers: 0 and the bytes of the run, or the number of the check that refuses and 0.
-#[derive(Clone, Copy)]
-pub struct Converted {
-    pub number: u8,
-    pub len: usize,
+/// Tells how many bytes `convert` writes, or why the block is refused.
+pub fn convert_len(block: &[u8]) -> Result<usize, Refusal>
+    ensures { (answered result ≡ venue_number block.now) × (result_unwrap_or result 0 ≡ needed_told block.now) }
+{
+    venue::judge(block)?;
+    Ok(needed(block))
 }
 
-/// Tells how many bytes `convert` writes.
-pub fn convert_len(block: &[u8]) -> Converted
-    ensures { (result.number ≡ venue_number block.now) × (result.len ≡ needed_told block.now) }
+/// Checks 78, 79 and 80 of a conversion into an output of `room` bytes; else the bytes of the run.
+pub fn judge(block: &[u8], room: usize) -> Result<usize, Refusal>
+    ensures { (answered result ≡ convert_number block.now room) × (result_unwrap_or result 0 ≡ (if nat_eq (convert_number block.now room) 0 then needed_of block.now else 0)) }
 {
-    let number = venue::judge(block);
-    if number != 0 {
-        return Converted { number, len: 0 };
+    let len = convert_len(block)?;
+    if room < len {
+        return Err(Refusal::ConvertShort);
     }
-    let len = needed(block);
-    Converted { number: 0, len }
-}
-
-/// Checks 78, 79 and 80 of a conversion into an output of `room` bytes.
-pub fn judge(block: &[u8], room: usize) -> Converted
-    ensures { (result.number ≡ convert_number block.now room) × (result.len ≡ (if nat_eq (convert_number block.now room) 0 then needed_of block.now else 0)) }
-{
-    let told = convert_len(block);
-    if told.number != 0 {
-        return told;
-    }
-    if room < told.len {
-        return Converted { number: 80, len: 0 };
-    }
-    told
+    Ok(len)
 }
 
 // The block that is being filled, and the bytes of those before it.
@@ -65,10 +54,7 @@ impl Fill {
     {
         let used = self.used + 2 + n;
         if used <= Block::LONGEST {
-            return Fill {
-                used,
-                closed: self.closed,
-            };
+            return Fill { used, ..self };
         }
         Fill {
             used: Block::HEADER + 2 + n,
@@ -84,6 +70,7 @@ fn needed(block: &[u8]) -> usize
 {
     let c = venue::count(block);
     let mut fill = Fill::NONE;
+    // p walks beside i: a message's own length says where the next one starts, and an iterator of them would hold the same two.
     let mut p = Venues::FIRST;
     for i in 0..c {
         let e = venue::next(block, p);
@@ -107,6 +94,7 @@ fn fit_from(block: &[u8], first: usize, left: usize) -> Fit
     requires { stands block.now first left ≡ true }
     ensures { result ≡ fit_of block.now first left }
 {
+    // p beside i, as in `needed`; i is the answer.
     let mut p = first;
     let mut used = Block::HEADER;
     for i in 0..left {
@@ -138,6 +126,7 @@ pub fn write_run(output: &mut [u8], block: &[u8], lots: &[u8])
     let c = venue::count(block);
     let mut sequence = field::get32(block, Venues::SEQUENCE);
     let mut p = Venues::FIRST;
+    // A `while`: each turn takes as many messages as fit one block.
     let mut i = 0;
     let mut at = 0;
     while i < c {
@@ -148,11 +137,12 @@ pub fn write_run(output: &mut [u8], block: &[u8], lots: &[u8])
         sequence = std::num::wrapping_add_u32(sequence, k as u32);
         at = e;
         p = f.next;
-        i = i + k;
+        i += k;
     }
 }
 
-// One block of the run, which fills the output: the k messages from p on, the first of them message i.
+// One block of the run, which fills the output: the k messages from p on, the first of them message i. No struct holds p, i and k: it would be made
+// and taken apart for this one call.
 fn write_one(
     output: &mut [u8],
     block: &[u8],
@@ -183,6 +173,7 @@ fn put_messages(
     requires { (stands block.now first k ≡ true) × ((i + k ≤ 255) × ((k ≤ length lengths.old) × ((length output.old ≤ block_longest) × (offset_at k + sum (lengths_from block.now first k) ≡ length output.old)))) }
     ensures { (output.new ≡ splice output.old (offset_at k) (joined (converted_from lots.now i (venue_from block.now first k)))) × (lengths.new ≡ splice lengths.old 0 (lengths_from block.now first k)) }
 {
+    // p beside j, as in `needed`; j is a message's place in both `lots` and `lengths`.
     let mut p = first;
     let mut at = Block::HEADER + 2 * k;
     for j in 0..k {

@@ -4,7 +4,7 @@ use Prim.Native.Nat.{ℕ, zero, suc, ◌+◌, ◌-◌, ◌^◌, ◌≤◌, ◌<�
 use mathlib.Core.Path.{◌≡◌, refl, sym, ap, ap₂, ◌∙◌}
 use mathlib.Core.Bool.{Bool, true, false, not, ◌&&◌, cond}
 use mathlib.Core.List.{List}
-use mathlib.Core.Option.{Option, none, some}
+use Rattle.std.specs.Prelude.{Option, None, Some}
 use native.Mathlib.Omega.{arith}
 use lib.Dec.{eqb, ltb}
 use borrow.Author.Tests.{eqb-true, eq-eqb, ne_eqb, lt-ltb, le-ltb, ltb-true, ltb-false}
@@ -19,7 +19,7 @@ use Rattle.ranking.specs.declared.Compared.{Compared}
 use Rattle.ranking.specs.declared.Sides.{Sides}
 use Rattle.ranking.specs.Held.{no_candidate, or_none, no_sides}
 use Rattle.ranking.specs.code.Choice.{rank_of, live, by_rest, by_rank, choose, step_sides, sides_from}
-use Rattle.ranking.proofs.ChoiceLaws.{rank-zero, rank-some, rank-more, rank-tie, rest-larger, rest-smaller, rest-earlier, rest-later, rest-name, choose-priceless, choose-sizeless, choose-by, choose-behind, choose-live}
+use Rattle.ranking.proofs.ChoiceLaws.{rank-zero, rank-some, rank-more, rank-tie, rest-size, rest-earlier, rest-later, rest-name, choose-priceless, choose-sizeless, choose-by, choose-behind, choose-live}
 use Rattle.quote.specs.Quote.{admits, counts, candidate_of}
 use Rattle.quote.proofs.QuoteLaws.{level-at}
 use Rattle.page.specs.Layout.{maker_count, cell_at, in_quote}
@@ -52,7 +52,7 @@ module _ (p : List ℕ) (k : ℕ) (e : field p (cell_at k + name_length) 1 ≡ 8
       cell : ℕ → ℕ → Candidate
       cell v z = record { name = field p (cell_at k) 4; price = v; size = z; time = low p (cell_at k + name_length + in_quote s + 12) 8; condition = 82 }
 
-      go : (v z : ℕ) → cond (ltb 0 v && ltb 0 z && true) (some (cell v z)) none ≡ cond (eqb v 0) none (cond (eqb z 0) none (some (cell v z)))
+      go : (v z : ℕ) → cond (ltb 0 v && ltb 0 z && true) (Some (cell v z)) None ≡ cond (eqb v 0) None (cond (eqb z 0) None (Some (cell v z)))
       go zero z = refl
       go (suc v) zero = rw (lt-ltb 0 (suc v) (omega arith), ne_eqb (suc v) 0 (λ e. omega arith))
       go (suc v) (suc z) = rw (lt-ltb 0 (suc v) (omega arith), ne_eqb (suc v) 0 (λ e. omega arith), lt-ltb 0 (suc z) (omega arith), ne_eqb (suc z) 0 (λ e. omega arith))
@@ -69,13 +69,9 @@ module _ (p : List ℕ) (s : Side) (k z : ℕ) (b : BestCell) where
   abbrev old : Candidate
   old = in_cell p s b.cell (rank_of s b.rank) b.size
 
-  pub before-smaller : z < b.size → false ≡ goes_before p s k z b
+  pub before-size : (z ≡ b.size → ⊥) → ltb b.size z ≡ goes_before p s k z b
   unfolding goes_before in_cell
-  before-smaller h = ap (λ (c : Compared). c.ahead) (rest-smaller new old h)
-
-  pub before-larger : b.size < z → true ≡ goes_before p s k z b
-  unfolding goes_before in_cell
-  before-larger h = ap (λ (c : Compared). c.ahead) (rest-larger new old h)
+  before-size n = ap (λ (c : Compared). c.ahead) (rest-size new old n)
 
   module _ (h : b.size ≤ z) (l : z ≤ b.size) (i j o t u : ℕ) (ei : i ≡ cell_at k) (ej : j ≡ cell_at b.cell) (eo : o ≡ in_quote s)
       (et : t ≡ low p (i + name_length + o + 12) 8) (eu : u ≡ low p (j + name_length + o + 12) 8)
@@ -223,7 +219,7 @@ module _ (p : List ℕ) (s : Side) (k : ℕ) (b : BestCell) (v r : ℕ) (g : Pri
 
 -- ---- walk_makers
 
-abbrev pub held_sides : List ℕ → BestCell → BestCell → Sides
+abbrev pub held_sides : List ℕ → BestCell → BestCell → Sides Candidate
 held_sides p b o = record { bid = best_cell p Bid b; offer = best_cell p Offer o }
 
 -- both sides after cell k, of b and o before it
@@ -251,5 +247,5 @@ module _ (p : List ℕ) (k : ℕ) (b o : BestCell) (a : ℕ) (ea : a ≡ cell_at
   pub cells_free : (c ≡ 82 → ⊥) → Kept b → Kept o → (y z : BestCell) → y ≡ b → z ≡ o → Next p k b o y z
   cells_free n kb ko y z ey ez = rw (ey, ez) (kb, ko, maker-free p k (held_sides p b o) a ea c ec n)
 
-pub cells-end : (p : List ℕ) (b o : BestCell) (w : Sides) (x y : Candidate) → held_sides p b o ≡ w → x ≡ best_cell p Bid b → y ≡ best_cell p Offer o → record { bid = x; offer = y } ≡ w
+pub cells-end : (p : List ℕ) (b o : BestCell) (w : Sides Candidate) (x y : Candidate) → held_sides p b o ≡ w → x ≡ best_cell p Bid b → y ≡ best_cell p Offer o → record { bid = x; offer = y } ≡ w
 cells-end p b o w x y e f g = (λ i. record { bid = f i; offer = g i }) ∙ e

@@ -4,7 +4,7 @@ use Prim.Native.Nat.{ℕ, zero, suc, ◌+◌, ◌-◌, ◌^◌, ◌≤◌, ◌<�
 use mathlib.Core.Path.{◌≡◌, refl, sym, ap, ◌∙◌, subst}
 use mathlib.Core.Bool.{Bool, true, false, cond}
 use mathlib.Core.List.{List, []}
-use mathlib.Core.Option.{Option, none, some}
+use Rattle.std.specs.Prelude.{Option, None, Some}
 use native.Mathlib.Omega.{arith}
 use lib.Dec.{eqb, ltb, lit≤}
 use borrow.Author.Tests.{eqb-true, eqb-false, eq-eqb, ne_eqb, lt-ltb, ltb-true, ltb-false}
@@ -64,7 +64,7 @@ module _ (s : Side) (c : ℕ → Candidate) (n : ℕ) (q : Counts (c n)) (fits :
       ∙ ap (λ (z : ℕ). best_chosen s c only z (suc (k - (n - i) - 1)) no_candidate) en
       ∙ best-chosen-nobody s c only (n + 1) (k - (n - i) - 1) (cond (eqb n n) (choose s no_candidate (c n)) no_candidate) (λ j a b e. absurd (behind j a e))
       ∙ ap (λ (t : Bool). cond t (choose s no_candidate (c n)) no_candidate) (eq-eqb n n refl)
-      ∙ choose-either s none (c n) tt fits
+      ∙ choose-either s None (c n) tt fits
       ∙ ap (λ (o : Option Candidate). or_none o) (live-counts (c n) q)
     where
       only : ℕ → Bool
@@ -127,10 +127,10 @@ module _ (p : List ℕ) (s : Side) (fb : Option Candidate) (l : ℕ) (h : A ≤ 
   abbrev stored : Level
   stored = level_in (part p (slot_at l + quote_length + in_levels s) level_length)
 
-  first-of : first_of (side_levels s (levels_in (part p (slot_at l + quote_length) levels_length))) ≡ cond (empty_cell stored) none (some stored)
+  first-of : first_of (side_levels s (levels_in (part p (slot_at l + quote_length) levels_length))) ≡ cond (empty_cell stored) None (Some stored)
   first-of =
       ap first_of (side-at p l s) ∙ first_cell s (part p (slot_at l + quote_length + in_levels s) side_length)
-      ∙ ap (λ (u : Level). cond (empty_cell u) none (some u)) (ap level_in (front p (slot_at l + quote_length + in_levels s) level_length side_length (lit≤ tt)))
+      ∙ ap (λ (u : Level). cond (empty_cell u) None (Some u)) (ap level_in (front p (slot_at l + quote_length + in_levels s) level_length side_length (lit≤ tt)))
 
   first-stored : Counts (or_none (first_by p s fb l)) → or_none (first_by p s fb l) ≡ level_candidate l 32 stored
   unfolding first_by first_in letter_levels agreed_side
@@ -141,11 +141,11 @@ module _ (p : List ℕ) (s : Side) (fb : Option Candidate) (l : ℕ) (h : A ≤ 
       cells : List Level
       cells = side_levels s (levels_in (part p (slot_at l + quote_length) levels_length))
 
-      by : (t : Bool) → Counts (or_none (map_option (level_candidate l 32) (cond t none (some stored)))) → or_none (map_option (level_candidate l 32) (cond t none (some stored))) ≡ level_candidate l 32 stored
+      by : (t : Bool) → Counts (or_none (map_option (level_candidate l 32) (cond t None (Some stored)))) → or_none (map_option (level_candidate l 32) (cond t None (Some stored))) ≡ level_candidate l 32 stored
       by true c = absurd (c.price refl)
       by false c = refl
 
-      go : (t r o : Bool) (vs : List Level) → first_of vs ≡ cond (empty_cell stored) none (some stored)
+      go : (t r o : Bool) (vs : List Level) → first_of vs ≡ cond (empty_cell stored) None (Some stored)
           → Counts (or_none (map_option (level_candidate l 32) (first_of (cond t [] (cond r (cond o vs []) [])))))
           → or_none (map_option (level_candidate l 32) (first_of (cond t [] (cond r (cond o vs []) [])))) ≡ level_candidate l 32 stored
       go true r o vs e = λ c. absurd (c.price refl)
@@ -197,8 +197,8 @@ module _ (p : List ℕ) (b : Bytes p) (s : Side) (f : Candidate) where
   told-first l h k = go (first_by p s (live f) l) refl (first-counts p b s (live f) l)
     where
       go : (o : Option Candidate) → first_by p s (live f) l ≡ o → OrCounting o → Told (or_none o)
-      go none e c = told_none
-      go (some x) e c =
+      go None e c = told_none
+      go (Some x) e c =
           let d : first l ≡ x = ap or_none e in
           subst Told d (told-counts l h k (subst Counts (sym d) (record { price = c.price; size = c.size })))
 
@@ -290,8 +290,8 @@ module _ (p : List ℕ) (b : Bytes p) (s : Side) (f : Candidate) where
           counts = go (first_by p s (live f) (A + i)) refl (first-counts p b s (live f) (A + i))
             where
               go : (o : Option Candidate) → first_by p s (live f) (A + i) ≡ o → OrCounting o → Counts (first (A + i))
-              go none e c = absurd (nx (ap (λ (y : Candidate). y.price) (ex ∙ ap or_none e)))
-              go (some y) e c = subst Counts (sym (ap or_none e)) (record { price = c.price; size = c.size })
+              go None e c = absurd (nx (ap (λ (y : Candidate). y.price) (ex ∙ ap or_none e)))
+              go (Some y) e c = subst Counts (sym (ap or_none e)) (record { price = c.price; size = c.size })
 
   -- ---- beyond the national best, of the whole page
 

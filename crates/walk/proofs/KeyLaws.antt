@@ -1,13 +1,12 @@
 -- Only letters with the highest key can lead, and only levels with a key above the national best's are beyond it.
 -- Assumes nothing.
-use Prim.Native.Nat.{ℕ, zero, suc, ◌+◌, ◌*◌, ◌-◌, ◌/◌, ◌%◌, ◌^◌, ◌≤◌, ◌<◌}
+use Prim.Native.Nat.{ℕ, zero, suc, ◌+◌, ◌-◌, ◌/◌, ◌%◌, ◌^◌, ◌≤◌, ◌<◌}
 use mathlib.Core.Path.{◌≡◌, refl, sym, ap, ◌∙◌, subst}
 use mathlib.Core.Bool.{Bool, true, false, ◌&&◌, cond}
 use mathlib.Core.List.{List, [], ◌∷◌}
-use mathlib.Core.Option.{Option, none, some}
+use Rattle.std.specs.Prelude.{Option, None, Some}
 use native.Mathlib.Omega.{arith}
 use lib.Dec.{eqb, ltb}
-use lib.ListN.{length}
 use borrow.Author.Tests.{eqb-true, eqb-false, eq-eqb, ne_eqb, ltb-false}
 use Rattle.lists.specs.Lists.{map_option, is_some}
 use Rattle.lists.proofs.Searches.{less_one}
@@ -35,7 +34,7 @@ use Rattle.keysets.proofs.SetLaws.{set-has, set-lt, with-has}
 use Rattle.levels.specs.Levels.{side_levels, levels_in, levels_length}
 use Rattle.entries.specs.Entries.{as_d, ranks, letter_levels}
 use Rattle.page.specs.Layout.{page_length, slot_at, quote_keys_at, quote_key_at, first_keys_at, first_key_at}
-use Rattle.page.specs.Page.{agreed, agreed_side, first_key, quotes_in, levels_for}
+use Rattle.page.specs.Page.{agreed, agreed_side, first_key, quotes_in}
 use Rattle.slots.specs.code.Slots.{first_of, first_in}
 use Rattle.slots.proofs.ReadLaws.{quote-sides, quote-condition, side-here}
 use Rattle.walk.specs.code.Walk.{asked_of, standing_at, first_by, d_place, lead_step, odd_step, another, ahead_of_all}
@@ -101,7 +100,7 @@ module _ (p : List ℕ) (l : ℕ) (h : A ≤ l) (k : l ≤ Z) (s : Side) where
   quote-candidate : (t : Bool) → counts s (quotes_in p l) ≡ t → Counts (or_none (candidate_of s l (quotes_in p l))) → key_of s (or_none (candidate_of s l (quotes_in p l))).price ≡ low p (quote_key_at s l) key_length
   unfolding candidate_of
   quote-candidate true e c = rw e (quote-key e)
-  quote-candidate false e c = absurd (none-counts (subst (λ (t : Bool). Counts (or_none (cond t (some (level_candidate l (quotes_in p l).condition (side_of s (quotes_in p l)))) none))) e c))
+  quote-candidate false e c = absurd (none-counts (subst (λ (t : Bool). Counts (or_none (cond t (Some (level_candidate l (quotes_in p l).condition (side_of s (quotes_in p l)))) None))) e c))
     where
       none-counts : Counts no_candidate → ⊥
       none-counts c = c.price refl
@@ -124,8 +123,8 @@ module _ (p : List ℕ) (l : ℕ) (h : A ≤ l) (k : l ≤ Z) (s : Side) where
     standing-name = go (eqb l D) refl (eqb l S) (counts s (quotes_in p l))
       where
         go : (d : Bool) → eqb l D ≡ d → (t u : Bool)
-            → Counts (cond d (record { name = D; price = f.price; size = f.size; time = f.time; condition = f.condition }) (cond t no_candidate (or_none (cond u (some (level_candidate l (quotes_in p l).condition (side_of s (quotes_in p l)))) none))))
-            → (cond d (record { name = D; price = f.price; size = f.size; time = f.time; condition = f.condition }) (cond t no_candidate (or_none (cond u (some (level_candidate l (quotes_in p l).condition (side_of s (quotes_in p l)))) none)))).name ≡ l
+            → Counts (cond d (record { name = D; price = f.price; size = f.size; time = f.time; condition = f.condition }) (cond t no_candidate (or_none (cond u (Some (level_candidate l (quotes_in p l).condition (side_of s (quotes_in p l)))) None))))
+            → (cond d (record { name = D; price = f.price; size = f.size; time = f.time; condition = f.condition }) (cond t no_candidate (or_none (cond u (Some (level_candidate l (quotes_in p l).condition (side_of s (quotes_in p l)))) None)))).name ≡ l
         go true e t u c = sym (eqb-true l D e)
         go false e true u c = absurd (c.price refl)
         go false e false true c = refl

@@ -1,13 +1,13 @@
 -- The leader among letters of one price is found by size, time and letter alone: steps, then the whole.
 -- Assumes nothing.
-use Prim.Native.Nat.{ℕ, zero, suc, ◌+◌, ◌*◌, ◌-◌, ◌^◌, ◌≤◌, ◌<◌}
+use Prim.Native.Nat.{ℕ, zero, suc, ◌+◌, ◌-◌, ◌^◌, ◌≤◌, ◌<◌}
 use mathlib.Core.Path.{◌≡◌, refl, sym, ap, ◌∙◌, subst}
 use mathlib.Core.Bool.{Bool, true, false, ◌&&◌, cond}
 use mathlib.Core.List.{List}
-use mathlib.Core.Option.{Option, none, some}
+use Rattle.std.specs.Prelude.{None, Some}
 use native.Mathlib.Omega.{arith}
 use lib.Dec.{eqb, ltb}
-use borrow.Author.Tests.{eqb-true, eqb-false, eq-eqb, ne_eqb, lt-ltb, le-ltb, ltb-true, ltb-false}
+use borrow.Author.Tests.{eqb-true, eqb-false, eq-eqb, ne_eqb, lt-ltb, le-ltb, ltb-true}
 use Rattle.lists.proofs.Tests.{clash, and-true, Cut, equal, apart, cut}
 use Rattle.field.specs.Field.{Bytes}
 use Rattle.field.specs.Ascii.{A, D, S, Z}
@@ -16,13 +16,11 @@ use Rattle.ranking.specs.declared.Side.TheVariants.{Bid, Offer}
 use Rattle.ranking.specs.declared.Candidate.{Candidate}
 use Rattle.ranking.specs.declared.Sides.{Sides}
 use Rattle.ranking.specs.declared.Lead.{Lead}
-use Rattle.ranking.specs.declared.Leads.{Leads}
-use Rattle.ranking.specs.declared.Reason.TheVariants.{Price, Size, Time, Name}
+use Rattle.ranking.specs.declared.Reason.TheVariants.{Size, Time, Name}
 use Rattle.ranking.specs.Ranking.{decide}
-use Rattle.ranking.specs.Held.{no_candidate, or_none, no_lead, lateness}
-use Rattle.ranking.specs.code.Choice.{rank_of, by_rest, by_rank, later, lead_by, lead_with, lead_from}
+use Rattle.ranking.specs.Held.{no_candidate, or_none, no_lead}
+use Rattle.ranking.specs.code.Choice.{rank_of, by_rest, by_rank, lead_by, lead_with, lead_from}
 use Rattle.ranking.specs.code.Chosen.{any_other}
-use Rattle.ranking.proofs.ChosenLaws.{Counts}
 use Rattle.quote.specs.declared.Quote.{Quote}
 use Rattle.quote.specs.Quote.{side_of, admits, counts, level_candidate, candidate_of}
 use Rattle.keys.specs.Keys.{full_key, short_of, key_of}
@@ -320,7 +318,7 @@ sized : (p : List ℕ) (s : Side) (f : Candidate) (j : ℕ) → (j ≡ D → ⊥
 unfolding standing_at candidate_of
 sized p s f j n = rw (ne_eqb j D n) (go (eqb j S) (counts s (quotes_in p j)) refl)
   where
-    go : (t u : Bool) → counts s (quotes_in p j) ≡ u → ((cond t no_candidate (or_none (cond u (some (own_of p s j)) none))).size ≡ 0 → ⊥) → (cond t no_candidate (or_none (cond u (some (own_of p s j)) none))).price ≡ 0 → ⊥
+    go : (t u : Bool) → counts s (quotes_in p j) ≡ u → ((cond t no_candidate (or_none (cond u (Some (own_of p s j)) None))).size ≡ 0 → ⊥) → (cond t no_candidate (or_none (cond u (Some (own_of p s j)) None))).price ≡ 0 → ⊥
     go true u e nz z = nz refl
     go false true e nz z = counts-price s (quotes_in p j) e z
     go false false e nz z = nz refl
@@ -388,15 +386,15 @@ pub all-is : (p : List ℕ) (s : Side) (l : ℕ) (x f : Candidate) (a r : Lead) 
 all-is p s l x f a r ex ea er = er ∙ ea ∙ ap (λ (x : Candidate). lead_from s (standing_at p s x) A (l + 1 - A) no_lead) ex
 
 -- both sides
-pub leaders-bid : (p : List ℕ) (l : ℕ) (f : Sides) (r : Leads) → r ≡ leaders_of p l f → r.bid ≡ lead_from Bid (standing_at p Bid f.bid) A (l + 1 - A) no_lead
+pub leaders-bid : (p : List ℕ) (l : ℕ) (f : Sides Candidate) (r : Sides Lead) → r ≡ leaders_of p l f → r.bid ≡ lead_from Bid (standing_at p Bid f.bid) A (l + 1 - A) no_lead
 unfolding leaders_of
-leaders-bid p l f r e = ap (λ (r : Leads). r.bid) e
+leaders-bid p l f r e = ap (λ (r : Sides Lead). r.bid) e
 
-pub leaders-offer : (p : List ℕ) (l : ℕ) (f : Sides) (r : Leads) → r ≡ leaders_of p l f → r.offer ≡ lead_from Offer (standing_at p Offer f.offer) A (l + 1 - A) no_lead
+pub leaders-offer : (p : List ℕ) (l : ℕ) (f : Sides Candidate) (r : Sides Lead) → r ≡ leaders_of p l f → r.offer ≡ lead_from Offer (standing_at p Offer f.offer) A (l + 1 - A) no_lead
 unfolding leaders_of
-leaders-offer p l f r e = ap (λ (r : Leads). r.offer) e
+leaders-offer p l f r e = ap (λ (r : Sides Lead). r.offer) e
 
-pub leaders-both : (p : List ℕ) (l : ℕ) (f : Sides) (b o : Lead) → b ≡ lead_from Bid (standing_at p Bid f.bid) A (l + 1 - A) no_lead → o ≡ lead_from Offer (standing_at p Offer f.offer) A (l + 1 - A) no_lead
-    → ◌≡◌ {A = Leads} (record { bid = b; offer = o }) (leaders_of p l f)
+pub leaders-both : (p : List ℕ) (l : ℕ) (f : Sides Candidate) (b o : Lead) → b ≡ lead_from Bid (standing_at p Bid f.bid) A (l + 1 - A) no_lead → o ≡ lead_from Offer (standing_at p Offer f.offer) A (l + 1 - A) no_lead
+    → ◌≡◌ {A = Sides Lead} (record { bid = b; offer = o }) (leaders_of p l f)
 unfolding leaders_of
 leaders-both p l f b o eb eo = λ i. record { bid = eb i; offer = eo i }

@@ -4,11 +4,10 @@ use Prim.Native.Nat.{ℕ, zero, suc, ◌+◌}
 use mathlib.Core.Path.{◌≡◌, refl, sym, ap, ◌∙◌, fun_ext}
 use mathlib.Core.Bool.{Bool, true, false, cond}
 use mathlib.Core.List.{List, []}
-use mathlib.Core.Option.{Option, none, some}
+use Rattle.std.specs.Prelude.{Option, None, Some}
 use lib.Dec.{eqb, ltb}
 use Rattle.field.specs.Ascii.{A, D, S}
 use Rattle.lists.specs.Lists.{is_some}
-use Rattle.lists.proofs.Tests.{clash}
 use Rattle.ranking.specs.declared.Side.{Side}
 use Rattle.ranking.specs.declared.Candidate.{Candidate}
 use Rattle.ranking.specs.Held.{no_candidate, or_none}
@@ -70,7 +69,7 @@ d-some : (f : Candidate) → is_some (live (as_d f)) ≡ is_some (live f)
 unfolding live as_d
 d-some f = go (eqb f.price 0) (eqb f.size 0) (record { name = D; price = f.price; size = f.size; time = f.time; condition = f.condition })
   where
-    go : (a z : Bool) (d : Candidate) → is_some (cond a none (cond z none (some d))) ≡ is_some (cond a none (cond z none (some f)))
+    go : (a z : Bool) (d : Candidate) → is_some (cond a None (cond z None (Some d))) ≡ is_some (cond a None (cond z None (Some f)))
     go true z d = refl
     go false true d = refl
     go false false d = refl

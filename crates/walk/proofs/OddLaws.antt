@@ -4,7 +4,7 @@ use Prim.Native.Nat.{ℕ, ◌+◌, ◌^◌, ◌<◌}
 use mathlib.Core.Path.{◌≡◌, refl, sym, ap, ◌∙◌, fun_ext}
 use mathlib.Core.Bool.{Bool, true, false, cond}
 use mathlib.Core.List.{List, [], ◌∷◌, ◌++◌}
-use mathlib.Core.Option.{Option, none, some}
+use Rattle.std.specs.Prelude.{Option, None, Some}
 use lib.Dec.{eqb, ltb}
 use borrow.Author.Tests.{lt-ltb}
 use Rattle.lists.specs.Lists.{map_option, bind_option, cons_option, collect, gather, upper}
@@ -45,30 +45,30 @@ behind-chain : (s : Side) (p q : ℕ) (xs : List Level) → ahead s p q ≡ true
 behind-chain s p q [] e b = tt
 behind-chain s p q (x ∷ xs) e b = (ahead-chain s p q x.price e b.0, behind-chain s p q xs e b.1)
 
-ranked-behind : (s : Side) (y : Level) (xs : List Level) → Behind s y.price (ranked s (some y) xs)
+ranked-behind : (s : Side) (y : Level) (xs : List Level) → Behind s y.price (ranked s (Some y) xs)
 unfolding ranked
 ranked-behind s y [] = tt
 ranked-behind s y (x ∷ xs) = go (empty_cell x) (ahead s y.price x.price) refl (ranked-behind s x xs)
   where
-    go : (a b : Bool) → ahead s y.price x.price ≡ b → Behind s x.price (ranked s (some x) xs) → Behind s y.price (cond a [] (cond b (x ∷ ranked s (some x) xs) []))
+    go : (a b : Bool) → ahead s y.price x.price ≡ b → Behind s x.price (ranked s (Some x) xs) → Behind s y.price (cond a [] (cond b (x ∷ ranked s (Some x) xs) []))
     go true b e d = tt
-    go false true e d = (e, behind-chain s y.price x.price (ranked s (some x) xs) e d)
+    go false true e d = (e, behind-chain s y.price x.price (ranked s (Some x) xs) e d)
     go false false e d = tt
 
 ranked-falls : (s : Side) (y : Option Level) (xs : List Level) → Falling s (ranked s y xs)
 unfolding ranked
 ranked-falls s y [] = tt
-ranked-falls s y (x ∷ xs) = go (empty_cell x) (behind s y x) (ranked-falls s (some x) xs)
+ranked-falls s y (x ∷ xs) = go (empty_cell x) (behind s y x) (ranked-falls s (Some x) xs)
   where
-    go : (a b : Bool) → Falling s (ranked s (some x) xs) → Falling s (cond a [] (cond b (x ∷ ranked s (some x) xs) []))
+    go : (a b : Bool) → Falling s (ranked s (Some x) xs) → Falling s (cond a [] (cond b (x ∷ ranked s (Some x) xs) []))
     go true b d = tt
     go false true d = (ranked-behind s x xs, d)
     go false false d = tt
 
 pub levels-fall : (b : List ℕ) (s : Side) → Falling s (side_levels s (levels_in b))
 unfolding levels_in side_in
-levels-fall b Bid = ranked-falls Bid none (cells_in 4 (part b 0 side_length))
-levels-fall b Offer = ranked-falls Offer none (cells_in 4 (part b side_length side_length))
+levels-fall b Bid = ranked-falls Bid None (cells_in 4 (part b 0 side_length))
+levels-fall b Offer = ranked-falls Offer None (cells_in 4 (part b side_length side_length))
 
 -- also those of a side whose key is its own, or not
 side-falls : (s : Side) (k : ℕ) (vs : List Level) → Falling s vs → Falling s (agreed_side s k vs)
@@ -101,8 +101,8 @@ page-falls p s fb l = go (eqb l S) (ranks s (quotes_in p) fb l) (upper l)
 -- ---- the first level stands for its letter
 
 not_beyond : (s : Side) (nb : Option Candidate) (p q : ℕ) → ahead s p q ≡ true → beyond s nb p ≡ false → beyond s nb q ≡ false
-not_beyond s none p q e f = f
-not_beyond s (some c) p q e f = go (ahead s q c.price) refl
+not_beyond s None p q e f = f
+not_beyond s (Some c) p q e f = go (ahead s q c.price) refl
   where
     go : (t : Bool) → ahead s q c.price ≡ t → ahead s q c.price ≡ false
     go true h = clash (sym (ahead-chain s p q c.price e h) ∙ f)
@@ -120,7 +120,7 @@ module _ (s : Side) (nb : Option Candidate) (l : ℕ) where
   top-behind y (x ∷ xs) b = go (beyond s nb x.price) (top-behind y xs b.1)
     where
       go : (t : Bool) → Top (better s) (better-weak s) (level_candidate l 32 y) (collect (odd_candidate s nb l) xs)
-          → Top (better s) (better-weak s) (level_candidate l 32 y) (cons_option (cond t (some (level_candidate l 32 x)) none) (collect (odd_candidate s nb l) xs))
+          → Top (better s) (better-weak s) (level_candidate l 32 y) (cons_option (cond t (Some (level_candidate l 32 x)) None) (collect (odd_candidate s nb l) xs))
       go true d = (better-ahead s (level_candidate l 32 y) (level_candidate l 32 x) b.0, d)
       go false d = d
 
@@ -131,11 +131,11 @@ module _ (s : Side) (nb : Option Candidate) (l : ℕ) where
   one-letter (x ∷ xs) ys zs f e = go (beyond s nb x.price) refl
     where
       go : (t : Bool) → beyond s nb x.price ≡ t
-          → best (better s) (cons_option (cond t (some (level_candidate l 32 x)) none) (collect (odd_candidate s nb l) xs) ++ ys)
-          ≡ best (better s) (cons_option (cond t (some (level_candidate l 32 x)) none) zs)
+          → best (better s) (cons_option (cond t (Some (level_candidate l 32 x)) None) (collect (odd_candidate s nb l) xs) ++ ys)
+          ≡ best (better s) (cons_option (cond t (Some (level_candidate l 32 x)) None) zs)
       go true h =
           best-top (better s) (better-weak s) (level_candidate l 32 x) (collect (odd_candidate s nb l) xs) ys (top-behind x xs f.0)
-          ∙ ap (λ (o : Option Candidate). some (pick (better s) (level_candidate l 32 x) o)) e
+          ∙ ap (λ (o : Option Candidate). Some (pick (better s) (level_candidate l 32 x) o)) e
       go false h = rw (none-behind x.price xs h f.0) e
 
 -- ---- tested once
@@ -146,8 +146,8 @@ collect-bind {B = B} g k (x ∷ xs) = go (g x) (collect-bind g k xs)
   where
     go : (o : Option B) → collect k (collect g xs) ≡ collect (λ x. bind_option (g x) k) xs
         → collect k (cons_option o (collect g xs)) ≡ cons_option (bind_option o k) (collect (λ x. bind_option (g x) k) xs)
-    go none e = e
-    go (some y) e = ap (cons_option (k y)) e
+    go None e = e
+    go (Some y) e = ap (cons_option (k y)) e
 
 module _ (s : Side) (nb : Option Candidate) where
   abbrev pub far : Candidate → Bool
@@ -157,13 +157,13 @@ module _ (s : Side) (nb : Option Candidate) where
   far-up x y = go nb
     where
       go : (nb : Option Candidate) → better s y x ≡ false → beyond s nb y.price ≡ true → beyond s nb x.price ≡ true
-      go none e f = refl
-      go (some c) e f = ahead-up s x.price y.price c.price (better-not-ahead s y x e) f
+      go None e f = refl
+      go (Some c) e f = ahead-up s x.price y.price c.price (better-not-ahead s y x e) f
 
   odd_is : (l : ℕ) (o : Option Level) → bind_option o (odd_candidate s nb l) ≡ bind_option (map_option (level_candidate l 32) o) (keep far)
   unfolding odd_candidate
-  odd_is l none = refl
-  odd_is l (some v) = refl
+  odd_is l None = refl
+  odd_is l (Some v) = refl
 
   module _ (levels : ℕ → List Level) (f : (l : ℕ) → Falling s (levels l)) where
     first-only : (ls : List ℕ)
@@ -192,18 +192,18 @@ module _ (s : Side) (nb : Option Candidate) where
   beyond-rank r = go nb
     where
       go : (nb : Option Candidate) → OrCounting nb → (r ≡ 0 → ⊥) → r < 2 ^ 64 → ltb (rank_of s (or_none nb).price) (rank_of s r) ≡ beyond s nb r
-      go none h n f = rw (rank-zero s) (lt-ltb 0 (rank_of s r) (rank-some s r n f))
-      go (some d) h n f = rank-ahead s r d.price n h.price f h.fits
+      go None h n f = rw (rank-zero s) (lt-ltb 0 (rank_of s r) (rank-some s r n f))
+      go (Some d) h n f = rank-ahead s r d.price n h.price f h.fits
 
   pub beyond-is : (o : Option Candidate) → OrCounting nb → OrCounting o → beyond_of s (or_none nb) (or_none o) ≡ or_none (bind_option o (keep far))
   unfolding beyond_of
-  beyond-is none h k = same (ltb (rank_of s (or_none nb).price) (rank_of s 0))
+  beyond-is None h k = same (ltb (rank_of s (or_none nb).price) (rank_of s 0))
     where
       same : (t : Bool) → cond t no_candidate no_candidate ≡ no_candidate
       same true = refl
       same false = refl
-  beyond-is (some c) h k = rw (beyond-rank c.price h k.price k.fits) (by (beyond s nb c.price))
+  beyond-is (Some c) h k = rw (beyond-rank c.price h k.price k.fits) (by (beyond s nb c.price))
     where
-      by : (t : Bool) → cond t c no_candidate ≡ or_none (cond t (some c) none)
+      by : (t : Bool) → cond t c no_candidate ≡ or_none (cond t (Some c) None)
       by true = refl
       by false = refl

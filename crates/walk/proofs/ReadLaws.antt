@@ -4,27 +4,21 @@ use Prim.Native.Nat.{ℕ, ◌+◌, ◌≤◌}
 use mathlib.Core.Path.{◌≡◌, refl, sym, ap, ◌∙◌}
 use mathlib.Core.Bool.{Bool, true, false, cond}
 use mathlib.Core.List.{List, [], ◌∷◌}
-use mathlib.Core.Option.{Option, none, some}
+use Rattle.std.specs.Prelude.{None, Some}
 use native.Mathlib.Omega.{arith}
 use lib.Dec.{eqb, lit≤}
 use native.Mathlib.Nat.{add-zero}
-use lib.ListN.{take, drop}
-use borrow.Author.Tests.{ne_eqb}
-use Rattle.lists.specs.Lists.{member, upper, map_option}
-use Rattle.lists.proofs.Tests.{is-upper}
+use Rattle.lists.specs.Lists.{member, map_option}
 use Rattle.field.specs.Field.{part, field}
 use Rattle.field.proofs.Laws.{part-part, field-part, field-part-0}
 use Rattle.ranking.specs.declared.Side.{Side}
 use Rattle.ranking.specs.declared.Side.TheVariants.{Bid, Offer}
-use Rattle.ranking.specs.declared.Candidate.{Candidate}
 use Rattle.quote.specs.declared.Level.{Level}
 use Rattle.ranking.specs.code.Choice.{live}
 use Rattle.quote.specs.Quote.{level_candidate, side_of, level_in, quote_in, quote_length, level_length, bid_at, offer_at}
-use Rattle.levels.specs.Levels.{side_levels, empty_cell, ranked, cells_in, side_in, levels_in, side_length, levels_length}
-use Rattle.entries.specs.Entries.{ranks, letter_levels}
-use Rattle.page.specs.Page.{quotes_in, levels_for, maker_in}
-use Rattle.page.specs.Layout.{cell_length, slot_at, in_quote, in_levels}
-use Rattle.field.specs.Ascii.{A, S, Z}
+use Rattle.levels.specs.Levels.{empty_cell}
+use Rattle.page.specs.Page.{maker_in}
+use Rattle.page.specs.Layout.{cell_length, in_quote}
 use Rattle.text.specs.Form.{name_length}
 
 module _ (p : List ℕ) (at : ℕ) where
@@ -38,7 +32,7 @@ module _ (p : List ℕ) (at : ℕ) where
   quote-condition = sym (field-part-0 p at quote_length 1 (lit≤ tt))
 
   pub maker-at : maker_in (part p at cell_length)
-      ≡ cond (member (76 ∷ 82 ∷ []) (field p (at + name_length) 1)) (some (record { name = field p at 4; quote = quote_in (part p (at + name_length) quote_length) })) none
+      ≡ cond (member (76 ∷ 82 ∷ []) (field p (at + name_length) 1)) (Some (record { name = field p at 4; quote = quote_in (part p (at + name_length) quote_length) })) None
   unfolding maker_in
   maker-at =
       rw (field-part p at cell_length name_length 1 (lit≤ tt), field-part-0 p at cell_length 4 (lit≤ tt), part-part p at cell_length name_length quote_length (lit≤ tt))
@@ -47,11 +41,11 @@ module _ (p : List ℕ) (at : ℕ) where
   front w n h = part-part p at n 0 w (omega arith) ∙ ap (λ (a : ℕ). part p a w) (add-zero at)
 
 -- a cell that is not empty counts
-pub cell-live : (l : ℕ) (v : Level) → map_option (level_candidate l 32) (cond (empty_cell v) none (some v)) ≡ live (level_candidate l 32 v)
+pub cell-live : (l : ℕ) (v : Level) → map_option (level_candidate l 32) (cond (empty_cell v) None (Some v)) ≡ live (level_candidate l 32 v)
 unfolding live
 cell-live l v = go (eqb v.price 0) (eqb v.size 0)
   where
-    go : (t u : Bool) → map_option (level_candidate l 32) (cond (cond t true u) none (some v)) ≡ cond t none (cond u none (some (level_candidate l 32 v)))
+    go : (t u : Bool) → map_option (level_candidate l 32) (cond (cond t true u) None (Some v)) ≡ cond t None (cond u None (Some (level_candidate l 32 v)))
     go true u = refl
     go false true = refl
     go false false = refl

@@ -4,7 +4,7 @@ use Prim.Native.Nat.{ℕ, zero, suc, ◌+◌, ◌-◌, ◌≤◌, ◌<◌}
 use mathlib.Core.Path.{◌≡◌, refl, sym, ap, ◌∙◌}
 use mathlib.Core.Bool.{Bool, true, false, not, ◌&&◌, cond}
 use mathlib.Core.List.{List}
-use mathlib.Core.Option.{Option, none, some}
+use Rattle.std.specs.Prelude.{Option, None, Some}
 use native.Mathlib.Omega.{arith}
 use lib.Dec.{eqb, ltb}
 use borrow.Author.Tests.{eqb-true, eq-eqb, ne_eqb, lt-ltb}
@@ -31,7 +31,7 @@ use Rattle.slots.specs.code.Slots.{first_in}
 use Rattle.slots.proofs.ReadLaws.{quote-condition as kept-condition}
 use Rattle.walk.specs.code.Walk.{asked, maker_at, standing_at, first_by}
 use Rattle.walk.proofs.ReadLaws.{quote-side, quote-condition, maker-at}
-use Rattle.page.specs.Layout.{cell_length, slot_at, cell_at, in_quote, in_levels}
+use Rattle.page.specs.Layout.{cell_length, slot_at, cell_at, in_quote}
 use Rattle.field.specs.Ascii.{A, D, S, Z}
 use Rattle.text.specs.Form.{name_length}
 
@@ -54,7 +54,7 @@ module _ (s : Side) (n : ℕ) (p : List ℕ) (at o : ℕ) (eo : o ≡ in_quote s
       unfolding candidate_of counts
       quoted-sizeless h = rw (side-at, ← ez, h) (go (ltb 0 (low p (at + o) 8)) _)
         where
-          go : (u : Bool) (x : Candidate) → no_candidate ≡ or_none (cond (u && false && admits s quote.condition) (some x) none)
+          go : (u : Bool) (x : Candidate) → no_candidate ≡ or_none (cond (u && false && admits s quote.condition) (Some x) None)
           go true x = refl
           go false x = refl
 
@@ -64,7 +64,7 @@ module _ (s : Side) (n : ℕ) (p : List ℕ) (at o : ℕ) (eo : o ≡ in_quote s
         quoted-not h =
             go (ltb 0 (side_of s quote).price) (ltb 0 (side_of s quote).size) (admits s quote.condition) (ap (admits s) (sym (quote-condition p at) ∙ sym ec) ∙ sym et ∙ h)
           where
-            go : (u w a : Bool) → a ≡ false → no_candidate ≡ or_none (cond (u && w && a) (some (level_candidate n quote.condition (side_of s quote))) none)
+            go : (u w a : Bool) → a ≡ false → no_candidate ≡ or_none (cond (u && w && a) (Some (level_candidate n quote.condition (side_of s quote))) None)
             go true true true e = clash e
             go true true false e = refl
             go true false a e = refl
@@ -85,40 +85,40 @@ pub maker-r : (p : List ℕ) (a : ℕ) (s : Side) → field p (a + name_length) 
 unfolding maker_candidate member
 maker-r p a s e = rw (maker-at p a, e)
 
-closed : (s : Side) (n : ℕ) (q : Quote) → q.condition ≡ 76 → candidate_of s n q ≡ none
+closed : (s : Side) (n : ℕ) (q : Quote) → q.condition ≡ 76 → candidate_of s n q ≡ None
 unfolding candidate_of counts admits member
 closed s n q e = go (ltb 0 (side_of s q).price) (ltb 0 (side_of s q).size) (admits s q.condition) (ap (admits s) e)
   where
-    go : (u v t : Bool) → t ≡ false → cond (u && v && t) (some (level_candidate n q.condition (side_of s q))) none ≡ none
+    go : (u v t : Bool) → t ≡ false → cond (u && v && t) (Some (level_candidate n q.condition (side_of s q))) None ≡ None
     go false v t f = refl
     go true false t f = refl
     go true true true f = clash f
     go true true false f = refl
 
-pub maker-other : (p : List ℕ) (a : ℕ) (s : Side) → (field p (a + name_length) 1 ≡ 82 → ⊥) → bind_option (maker_in (part p a cell_length)) (maker_candidate s) ≡ none
+pub maker-other : (p : List ℕ) (a : ℕ) (s : Side) → (field p (a + name_length) 1 ≡ 82 → ⊥) → bind_option (maker_in (part p a cell_length)) (maker_candidate s) ≡ None
 unfolding maker_candidate member
 maker-other p a s n = rw (maker-at p a, ne_eqb (field p (a + name_length) 1) 82 n) (go (eqb (field p (a + name_length) 1) 76) refl)
   where
     go : (t : Bool) → eqb (field p (a + name_length) 1) 76 ≡ t
-        → bind_option (cond (cond t true false) (some (record { name = field p a 4; quote = quote_in (part p (a + name_length) quote_length) })) none) (maker_candidate s) ≡ none
+        → bind_option (cond (cond t true false) (Some (record { name = field p a 4; quote = quote_in (part p (a + name_length) quote_length) })) None) (maker_candidate s) ≡ None
     go true e = closed s (field p a 4) (quote_in (part p (a + name_length) quote_length)) (sym (quote-condition p (a + name_length)) ∙ eqb-true (field p (a + name_length) 1) 76 e)
     go false e = refl
 
 -- both sides of a step, each chosen
-pub sides-read : (f : Side → ℕ → Candidate) (k : ℕ) (t : Sides) (rb ro : Candidate) → rb ≡ choose Bid t.bid (f Bid k) → ro ≡ choose Offer t.offer (f Offer k)
-    → ◌≡◌ {A = Sides} (record { bid = rb; offer = ro }) (step_sides f k t)
+pub sides-read : (f : Side → ℕ → Candidate) (k : ℕ) (t : Sides Candidate) (rb ro : Candidate) → rb ≡ choose Bid t.bid (f Bid k) → ro ≡ choose Offer t.offer (f Offer k)
+    → ◌≡◌ {A = Sides Candidate} (record { bid = rb; offer = ro }) (step_sides f k t)
 unfolding step_sides
 sides-read f k t rb ro eb eo = λ i. record { bid = eb i; offer = eo i }
 
 -- a step in which neither side has a candidate
-sides-none : (f : Side → ℕ → Option Candidate) (k : ℕ) (t : Sides) → ((s : Side) → f s k ≡ none) → t ≡ step_sides (asked f) k t
+sides-none : (f : Side → ℕ → Option Candidate) (k : ℕ) (t : Sides Candidate) → ((s : Side) → f s k ≡ None) → t ≡ step_sides (asked f) k t
 unfolding step_sides
 sides-none f k t e = λ i. record { bid = one Bid t.bid i; offer = one Offer t.offer i }
   where
     one : (s : Side) (b : Candidate) → b ≡ choose s b (or_none (f s k))
     one s b = rw (e s) (choose-none s b)
 
-module _ (p : List ℕ) (k : ℕ) (t : Sides) (a : ℕ) (ea : a ≡ cell_at k) (c : ℕ) (ec : c ≡ field p (a + name_length) 1) where
+module _ (p : List ℕ) (k : ℕ) (t : Sides Candidate) (a : ℕ) (ea : a ≡ cell_at k) (c : ℕ) (ec : c ≡ field p (a + name_length) 1) where
   pub maker-free : (c ≡ 82 → ⊥) → t ≡ step_sides (asked (maker_at p)) k t
   unfolding maker_at
   maker-free n = sides-none (maker_at p) k t (λ s. rw (← ea) (maker-other p a s (λ e. n (ec ∙ e))))
@@ -144,7 +144,7 @@ lead-d : (s : Side) (l : Lead) (c : Candidate) → lead_with s l (as_d c) ≡ le
 unfolding live as_d
 lead-d s l c = lead-live s l (as_d c) ∙ ap (λ (o : Option Candidate). lead_with s l (or_none o)) (go (eqb c.price 0) (eqb c.size 0))
   where
-    go : (t u : Bool) → cond t none (cond u none (some (as_d c))) ≡ map_option as_d (cond t none (cond u none (some c)))
+    go : (t u : Bool) → cond t None (cond u None (Some (as_d c))) ≡ map_option as_d (cond t None (cond u None (Some c)))
     go true u = refl
     go false true = refl
     go false false = refl
@@ -155,7 +155,7 @@ module _ (p : List ℕ) (s : Side) (f : Candidate) where
   lead-standing t j = go (eqb j D) (eqb j S)
     where
       go : (d u : Bool) → lead_with s t (cond d (as_d f) (cond u no_candidate (or_none (candidate_of s j (quotes_in p j)))))
-          ≡ lead_with s t (or_none (cond d (map_option as_d (live f)) (cond u none (candidate_of s j (quotes_in p j)))))
+          ≡ lead_with s t (or_none (cond d (map_option as_d (live f)) (cond u None (candidate_of s j (quotes_in p j)))))
       go true u = lead-d s t f
       go false true = refl
       go false false = refl
@@ -177,7 +177,7 @@ pub stands_by : (c : Candidate) → (c.price ≡ 0 → ⊥) → not (eqb c.size 
 unfolding live
 stands_by c n = rw (ne_eqb c.price 0 n) (go (eqb c.size 0))
   where
-    go : (t : Bool) → not t ≡ is_some (cond t none (some c))
+    go : (t : Bool) → not t ≡ is_some (cond t None (Some c))
     go true = refl
     go false = refl
 

@@ -4,7 +4,7 @@ use Prim.Native.Nat.{ℕ, ◌+◌, ◌-◌, ◌^◌, ◌≤◌, ◌<◌}
 use mathlib.Core.Path.{◌≡◌, refl, sym, ap, ◌∙◌}
 use mathlib.Core.Bool.{Bool, true, false, ◌&&◌, cond}
 use mathlib.Core.List.{List, [], ◌∷◌, map}
-use mathlib.Core.Option.{Option, none, some}
+use Rattle.std.specs.Prelude.{Option, None, Some}
 use native.Mathlib.Omega.{arith}
 use native.Mathlib.Nat.{lt_of_lt_of_le, pow-le-pow_right, min-le_left}
 use lib.Dec.{eqb, ltb, lit≤}
@@ -22,8 +22,7 @@ use Rattle.ranking.specs.declared.Candidate.{Candidate}
 use Rattle.ranking.specs.declared.Sides.{Sides}
 use Rattle.ranking.specs.declared.Lead.{Lead}
 use Rattle.ranking.specs.Ranking.{better, best}
-use Rattle.ranking.specs.Held.{no_candidate, or_none, of_side, no_sides, lead_of, no_lead, lead_on}
-use Rattle.ranking.specs.declared.Leads.{Leads}
+use Rattle.ranking.specs.Held.{no_candidate, or_none, of_side, no_sides, lead_of, no_lead}
 use Rattle.ranking.specs.code.Choice.{live, best_from, sides_from, lead_from, beyond_of}
 use Rattle.ranking.proofs.OrderLaws.{keep}
 use Rattle.ranking.proofs.ChoiceLaws.{best-stops, lead-stops}
@@ -33,7 +32,7 @@ use Rattle.quote.specs.declared.Quote.{Quote}
 use Rattle.quote.specs.declared.Level.{Level}
 use Rattle.keys.specs.Keys.{key_length, quote_key}
 use Rattle.quote.specs.Quote.{no_level, no_quote, side_of, admits, counts, level_candidate, candidate_of, level_in, quote_in, quote_length, level_length}
-use Rattle.levels.specs.Levels.{empty_cell, side_levels, no_levels, side_in, levels_in, side_length, levels_length}
+use Rattle.levels.specs.Levels.{side_levels, no_levels, side_in, levels_in, side_length, levels_length}
 use Rattle.quote.proofs.QuoteLaws.{level-at}
 use Rattle.walk.specs.declared.BestEntries.{BestEntries}
 use Rattle.entries.specs.Entries.{Maker, Entries, letters, as_d, maker_candidate, finra_best, letter_candidate, national_best, national_reason, odd_candidate, ranks, letter_levels, odd_best, entries_by, entries_of}
@@ -76,7 +75,7 @@ unfolding candidate_of counts
 candidate-counts s n q h = go (ltb 0 (side_of s q).price) refl (ltb 0 (side_of s q).size) refl (admits s q.condition)
   where
     go : (u : Bool) → ltb 0 (side_of s q).price ≡ u → (v : Bool) → ltb 0 (side_of s q).size ≡ v → (t : Bool)
-        → OrCounting (cond (u && v && t) (some (level_candidate n q.condition (side_of s q))) none)
+        → OrCounting (cond (u && v && t) (Some (level_candidate n q.condition (side_of s q))) None)
     go false e v f t = tt
     go true e false f t = tt
     go true e true f false = tt
@@ -86,17 +85,17 @@ candidate-counts s n q h = go (ltb 0 (side_of s q).price) refl (ltb 0 (side_of s
         record { price = λ z. omega arith; size = λ z. omega arith; fits = h }
 
 -- a letter's candidate has its letter as its name
-pub letter-named : (s : Side) (quotes : ℕ → Quote) (o : Option Candidate) (j : ℕ) (c : Candidate) → letter_candidate s quotes o j ≡ some c → c.name ≡ j
+pub letter-named : (s : Side) (quotes : ℕ → Quote) (o : Option Candidate) (j : ℕ) (c : Candidate) → letter_candidate s quotes o j ≡ Some c → c.name ≡ j
 unfolding letter_candidate candidate_of as_d
 letter-named s quotes o j c h = go (eqb j D) refl (eqb j S) (counts s (quotes j)) o h
   where
-    named : (x : Candidate) → some x ≡ some c → x.name ≡ j → c.name ≡ j
+    named : (x : Candidate) → Some x ≡ Some c → x.name ≡ j → c.name ≡ j
     named x e n = sym (ap (λ (y : Option Candidate). (or_none y).name) e) ∙ n
 
     go : (t : Bool) → eqb j D ≡ t → (u v : Bool) (o : Option Candidate)
-        → cond t (map_option as_d o) (cond u none (cond v (some (level_candidate j (quotes j).condition (side_of s (quotes j)))) none)) ≡ some c → c.name ≡ j
-    go true e u v none h = clash (sym (ap is_some h))
-    go true e u v (some x) h = named (as_d x) h (sym (eqb-true j D e))
+        → cond t (map_option as_d o) (cond u None (cond v (Some (level_candidate j (quotes j).condition (side_of s (quotes j)))) None)) ≡ Some c → c.name ≡ j
+    go true e u v None h = clash (sym (ap is_some h))
+    go true e u v (Some x) h = named (as_d x) h (sym (eqb-true j D e))
     go false e true v o h = clash (sym (ap is_some h))
     go false e false true o h = named (level_candidate j (quotes j).condition (side_of s (quotes j))) h refl
     go false e false false o h = clash (sym (ap is_some h))
@@ -109,14 +108,14 @@ module _ (p : List ℕ) (b : Bytes p) where
   unfolding maker_at maker_candidate
   maker-counts s k = rw (maker-at p (cell_at k)) (go (member (76 ∷ 82 ∷ []) (field p (cell_at k + name_length) 1)))
     where
-      go : (t : Bool) → OrCounting (bind_option (cond t (some (record { name = field p (cell_at k) 4; quote = quote_in (part p (cell_at k + name_length) quote_length) })) none) (maker_candidate s))
+      go : (t : Bool) → OrCounting (bind_option (cond t (Some (record { name = field p (cell_at k) 4; quote = quote_in (part p (cell_at k + name_length) quote_length) })) None) (maker_candidate s))
       go true = quote-counts s (field p (cell_at k) 4) (cell_at k + name_length)
       go false = tt
 
   as-d-counts : (o : Option Candidate) → OrCounting o → OrCounting (map_option as_d o)
   unfolding as_d
-  as-d-counts none h = tt
-  as-d-counts (some c) h = record { price = h.price; size = h.size; fits = h.fits }
+  as-d-counts None h = tt
+  as-d-counts (Some c) h = record { price = h.price; size = h.size; fits = h.fits }
 
   -- a side of a quote whose key is its own, or not
   agreed-below : (s : Side) (kb ko at : ℕ) → (side_of s (agreed_quote kb ko (quote_in (part p at quote_length)))).price < 2 ^ 64
@@ -150,7 +149,7 @@ module _ (p : List ℕ) (b : Bytes p) where
   unfolding letter_candidate
   letter-counts s o l h = go (eqb l D) (eqb l S)
     where
-      go : (d t : Bool) → OrCounting (cond d (map_option as_d o) (cond t none (candidate_of s l (quotes_in p l))))
+      go : (d t : Bool) → OrCounting (cond d (map_option as_d o) (cond t None (candidate_of s l (quotes_in p l))))
       go true t = as-d-counts o h
       go false true = tt
       go false false = candidate-counts s l (quotes_in p l) (quotes-below s l)
@@ -163,8 +162,8 @@ module _ (p : List ℕ) (b : Bytes p) where
       go : (d t : Bool) (o : Option Candidate) → OrCounting o → (cond d (record { name = D; price = f.price; size = f.size; time = f.time; condition = f.condition }) (cond t no_candidate (or_none o))).price < 2 ^ 64
       go true t o k = h
       go false true o k = omega arith
-      go false false none k = omega arith
-      go false false (some x) k = k.fits
+      go false false None k = omega arith
+      go false false (Some x) k = k.fits
 
   -- the first of a side's levels counts
   side-counts : (s : Side) (l at : ℕ) → OrCounting (first_in l (side_in s (part p at side_length)))
@@ -245,10 +244,10 @@ module _ (p : List ℕ) (b : Bytes p) where
       (kept (best (better s) (collect (λ l. map_option (level_candidate l 32) (first_of (letter_levels s (quotes_in p) (fb s) (levels_for p) l))) letters)) (best-counts s (first_by p s (fb s)) (first-counts s (fb s)) letters))
     where
       kept : (o : Option Candidate) → OrCounting o → OrCounting (bind_option o (keep (far s (nb s))))
-      kept none h = tt
-      kept (some c) h = go (far s (nb s) c)
+      kept None h = tt
+      kept (Some c) h = go (far s (nb s) c)
         where
-          go : (t : Bool) → OrCounting (cond t (some c) none)
+          go : (t : Bool) → OrCounting (cond t (Some c) None)
           go true = h
           go false = tt
 
@@ -263,7 +262,7 @@ module _ (p : List ℕ) (w : length p ≡ page_length) (l : ℕ) (lo : A ≤ l) 
   unfolding finra_sides finra_best
   finra-none h = rw (cut-no-makers p w l lo hi h)
 
-  pub finra-walked : Bytes p → (r : Sides) → D ≤ l → r ≡ sides_from (asked (maker_at p)) 0 maker_count no_sides → r ≡ finra_sides (cut l p)
+  pub finra-walked : Bytes p → (r : Sides Candidate) → D ≤ l → r ≡ sides_from (asked (maker_at p)) 0 maker_count no_sides → r ≡ finra_sides (cut l p)
   unfolding finra_sides sides_from
   finra-walked b r h e = e ∙ (λ i. record { bid = side Bid i; offer = side Offer i })
     where
@@ -286,15 +285,15 @@ module _ (p : List ℕ) (w : length p ≡ page_length) (b : Bytes p) (l : ℕ) (
   unfolding letter_candidate
   national-here j a z = rw (cut-quote p w l lo hi j a z)
 
-  no-finra : l < D → fb c cb s ≡ none
+  no-finra : l < D → fb c cb s ≡ None
   unfolding finra_best
   no-finra h = rw (cut-no-makers p w l lo hi h)
 
-  national-behind : (j : ℕ) → l < j → j ≤ Z → letter_candidate s (quotes_in c) (fb c cb s) j ≡ none
+  national-behind : (j : ℕ) → l < j → j ≤ Z → letter_candidate s (quotes_in c) (fb c cb s) j ≡ None
   unfolding letter_candidate
   national-behind j a z = rw (cut-no-quote p w l lo hi j a z, no-candidate s j) (go (eqb j D) refl (eqb j S))
     where
-      go : (t : Bool) → eqb j D ≡ t → (u : Bool) → cond t (map_option as_d (fb c cb s)) (cond u none none) ≡ none
+      go : (t : Bool) → eqb j D ≡ t → (u : Bool) → cond t (map_option as_d (fb c cb s)) (cond u None None) ≡ None
       go true e u = let k : j ≡ D = eqb-true j D e in ap (map_option as_d) (no-finra (omega arith))
       go false e true = refl
       go false e false = refl
@@ -303,18 +302,18 @@ module _ (p : List ℕ) (w : length p ≡ page_length) (b : Bytes p) (l : ℕ) (
   unfolding first_by letter_levels ranks
   first-here o j a z = rw (cut-levels p w l lo hi j a z, cut-quote p w l lo hi j a z)
 
-  first-behind : (o : Option Candidate) (j : ℕ) → l < j → j ≤ Z → first_by c s o j ≡ none
+  first-behind : (o : Option Candidate) (j : ℕ) → l < j → j ≤ Z → first_by c s o j ≡ None
   unfolding first_by first_in letter_levels
   first-behind o j a z = rw (cut-no-levels p w l lo hi j a z) (go (eqb j S) (ranks s (quotes_in c) o j) s)
     where
-      go : (t r : Bool) (s : Side) → map_option (level_candidate j 32) (first_of (cond t [] (cond r (side_levels s no_levels) []))) ≡ none
+      go : (t r : Bool) (s : Side) → map_option (level_candidate j 32) (first_of (cond t [] (cond r (side_levels s no_levels) []))) ≡ None
       go true r s = refl
       go false false s = refl
       go false true Bid = refl
       go false true Offer = refl
 
   -- a walk that stops at l finds the best of the cut page
-  stops : (f g : ℕ → Option Candidate) → ((j : ℕ) → OrCounting (g j)) → ((j : ℕ) → A ≤ j → j ≤ l → f j ≡ g j) → ((j : ℕ) → l < j → j ≤ Z → g j ≡ none)
+  stops : (f g : ℕ → Option Candidate) → ((j : ℕ) → OrCounting (g j)) → ((j : ℕ) → A ≤ j → j ≤ l → f j ≡ g j) → ((j : ℕ) → l < j → j ≤ Z → g j ≡ None)
       → best_from s (λ j. or_none (f j)) A (l + 1 - A) no_candidate ≡ or_none (best (better s) (collect g letters))
   unfolding letters
   stops f g n e q =
@@ -322,7 +321,7 @@ module _ (p : List ℕ) (w : length p ≡ page_length) (b : Bytes p) (l : ℕ) (
       (λ j a z. ap or_none (e j a (omega arith))) (λ j a z. ap or_none (q j (omega arith) (omega arith)))
       ∙ side-best s g n A 26
 
-  module _ (f : Sides) (ef : f ≡ finra_sides c) where
+  module _ (f : Sides Candidate) (ef : f ≡ finra_sides c) where
     finra-side : of_side s f ≡ or_none (fb c cb s)
     unfolding finra_sides
     finra-side = ap (of_side s) ef ∙ go s
@@ -357,9 +356,9 @@ module _ (p : List ℕ) (w : length p ≡ page_length) (b : Bytes p) (l : ℕ) (
 
 -- ---- the whole
 
-module _ (p : List ℕ) (w : length p ≡ page_length) (b : Bytes p) (l : ℕ) (lo : A ≤ l) (hi : l ≤ Z) (f : Sides) (ef : f ≡ finra_sides (cut l p)) (n : Leads) (o : Sides)
-    (en : (s : Side) → lead_on s n ≡ lead_from s (standing_at p s (of_side s f)) A (l + 1 - A) no_lead)
-    (eo : (s : Side) → of_side s o ≡ beyond_of s (lead_on s n).best (best_from s (asked_of (first_by p s (live (of_side s f)))) A (l + 1 - A) no_candidate)) where
+module _ (p : List ℕ) (w : length p ≡ page_length) (b : Bytes p) (l : ℕ) (lo : A ≤ l) (hi : l ≤ Z) (f : Sides Candidate) (ef : f ≡ finra_sides (cut l p)) (n : Sides Lead) (o : Sides Candidate)
+    (en : (s : Side) → of_side s n ≡ lead_from s (standing_at p s (of_side s f)) A (l + 1 - A) no_lead)
+    (eo : (s : Side) → of_side s o ≡ beyond_of s (of_side s n).best (best_from s (asked_of (first_by p s (live (of_side s f)))) A (l + 1 - A) no_candidate)) where
   abbrev six : BestEntries
   six = record { national = n; finra = f; odd = o }
 
@@ -378,24 +377,24 @@ module _ (p : List ℕ) (w : length p ≡ page_length) (b : Bytes p) (l : ℕ) (
       finra : (s : Side) → of_side s f ≡ or_none (fb (cut l p) cc' s)
       finra s = finra-side p w b l lo hi s f ef
 
-      national : (s : Side) → lead_on s n ≡ lead_of (nb (cut l p) cc' s) (national_reason (quotes_in (cut l p)) (fb (cut l p) cc') s)
-      national s = national-side p w b l lo hi s f ef (lead_on s n) (en s)
+      national : (s : Side) → of_side s n ≡ lead_of (nb (cut l p) cc' s) (national_reason (quotes_in (cut l p)) (fb (cut l p) cc') s)
+      national s = national-side p w b l lo hi s f ef (of_side s n) (en s)
 
       odd : (s : Side) → of_side s o ≡ or_none (odd_best (quotes_in (cut l p)) (fb (cut l p) cc') (levels_for (cut l p)) (nb (cut l p) cc') s)
-      odd s = odd-side p w b l lo hi s f ef (lead_on s n).best (of_side s o) (ap (λ (x : Lead). x.best) (national s)) (eo s)
+      odd s = odd-side p w b l lo hi s f ef (of_side s n).best (of_side s o) (ap (λ (x : Lead). x.best) (national s)) (eo s)
 
 -- the same, side by side
-pub walked_both : (p : List ℕ) → length p ≡ page_length → Bytes p → (l : ℕ) → A ≤ l → l ≤ Z → (f : Sides) → f ≡ finra_sides (cut l p) → (nb na : Lead) (xb xa ob oa : Candidate)
+pub walked_both : (p : List ℕ) → length p ≡ page_length → Bytes p → (l : ℕ) → A ≤ l → l ≤ Z → (f : Sides Candidate) → f ≡ finra_sides (cut l p) → (nb na : Lead) (xb xa ob oa : Candidate)
     → nb ≡ lead_from Bid (standing_at p Bid f.bid) A (l + 1 - A) no_lead → na ≡ lead_from Offer (standing_at p Offer f.offer) A (l + 1 - A) no_lead
     → xb ≡ best_from Bid (asked_of (first_by p Bid (live f.bid))) A (l + 1 - A) no_candidate → ob ≡ beyond_of Bid nb.best xb
     → xa ≡ best_from Offer (asked_of (first_by p Offer (live f.offer))) A (l + 1 - A) no_candidate → oa ≡ beyond_of Offer na.best xa
     → ◌≡◌ {A = BestEntries} (record { national = record { bid = nb; offer = na }; finra = f; odd = record { bid = ob; offer = oa } }) (bests_of (page_entries (cut l p)))
 walked_both p w b l lo hi f ef nb na xb xa ob oa eb ea exb eob exa eoa = walked p w b l lo hi f ef (record { bid = nb; offer = na }) (record { bid = ob; offer = oa }) leads odds
   where
-    leads : (s : Side) → lead_on s (record { bid = nb; offer = na }) ≡ lead_from s (standing_at p s (of_side s f)) A (l + 1 - A) no_lead
+    leads : (s : Side) → of_side s (record { bid = nb; offer = na }) ≡ lead_from s (standing_at p s (of_side s f)) A (l + 1 - A) no_lead
     leads Bid = eb
     leads Offer = ea
 
-    odds : (s : Side) → of_side s (record { bid = ob; offer = oa }) ≡ beyond_of s (lead_on s (record { bid = nb; offer = na })).best (best_from s (asked_of (first_by p s (live (of_side s f)))) A (l + 1 - A) no_candidate)
+    odds : (s : Side) → of_side s (record { bid = ob; offer = oa }) ≡ beyond_of s (of_side s (record { bid = nb; offer = na })).best (best_from s (asked_of (first_by p s (live (of_side s f)))) A (l + 1 - A) no_candidate)
     odds Bid = eob ∙ ap (beyond_of Bid nb.best) exb
     odds Offer = eoa ∙ ap (beyond_of Offer na.best) exa

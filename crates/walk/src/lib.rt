@@ -4,7 +4,7 @@
 ghost use Rattle.std.specs.Prelude.{◌≡◌, true, false, cond, ◌+◌, ◌-◌, ◌^◌, ◌≤◌, ◌<◌, eqb, ltb, length};
 ghost use Rattle.field.specs.Field.{part};
 ghost use Rattle.field.specs.Ascii as ascii;
-ghost use Rattle.ranking.specs.Held.{no_candidate, or_none, no_sides, no_lead};
+ghost use Rattle.ranking.specs.Held.{no_candidate, or_none, no_sides, no_lead, lateness};
 ghost use Rattle.lists.specs.Lists.{is_some};
 ghost use Rattle.ranking.specs.declared.Side.TheVariants.{Bid, Offer};
 ghost use Rattle.ranking.specs.code.Chosen.{any_other};
@@ -22,21 +22,21 @@ ghost use Rattle.page.specs.Layout.{page_length, maker_count, quote_keys_at, fir
 
 use page::{Cell, Letter, Page, Slot};
 use quote::Level;
-use ranking::{Candidate, Lead, Leads, Side, Sides};
+use ranking::{Candidate, Lead, Reason, Side, Sides};
 
 /// The six best entries of a symbol; price 0 is none. A national one tells what put it ahead.
 #[derive(Clone, Copy)]
 pub struct BestEntries {
-    pub national: Leads,
-    pub finra: Sides,
-    pub odd: Sides,
+    pub national: Sides<Lead>,
+    pub finra: Sides<Candidate>,
+    pub odd: Sides<Candidate>,
 }
 
 impl BestEntries {
     pub const NONE: BestEntries = BestEntries {
-        national: Leads::NONE,
-        finra: Sides::NONE,
-        odd: Sides::NONE,
+        national: Sides::<Lead>::NONE,
+        finra: Sides::<Candidate>::NONE,
+        odd: Sides::<Candidate>::NONE,
     };
 }
 
@@ -91,21 +91,18 @@ fn is_before(page: &[u8], side: Side, k: usize, lots: u32, best: BestCell) -> bo
     requires k_lt_maker_count { (k < maker_count) × (best.cell < maker_count) }
     ensures { result ≡ goes_before page.now side k lots best }
 {
-    if lots < best.size {
-        return false;
-    }
-    if best.size < lots {
-        return true;
+    if lots != best.size {
+        return best.size < lots;
     }
     let at = page::cell_at(k);
     let to = page::cell_at(best.cell as usize);
     let level = page::in_quote(side);
     let time = field::low64(page, at + Cell::QUOTE + level + 12);
     let before = field::low64(page, to + Cell::QUOTE + level + 12);
-    if time == before {
-        return field::get32(page, at) < field::get32(page, to);
+    if time != before {
+        return time < before;
     }
-    time < before
+    field::get32(page, at) < field::get32(page, to)
 }
 
 // One cell more that counts by its condition. Most are behind by price, and nothing else of them is read.
@@ -126,13 +123,8 @@ fn with_cell(page: &[u8], side: Side, k: usize, best: BestCell) -> BestCell
     if lots == 0 {
         return best;
     }
-    if rank == best.rank {
-        if price == 0 {
-            return best;
-        }
-        if !is_before(page, side, k, lots, best) {
-            return best;
-        }
+    if rank == best.rank && (price == 0 || !is_before(page, side, k, lots, best)) {
+        return best;
     }
     BestCell {
         rank,
@@ -161,7 +153,7 @@ fn in_cell(page: &[u8], side: Side, best: BestCell) -> Candidate
 }
 
 // The best of the makers, both sides. Of the conditions of makers only R counts.
-fn walk_makers(page: &[u8]) -> Sides
+fn walk_makers(page: &[u8]) -> Sides<Candidate>
     requires { length page.now ≡ page_length }
     ensures { result ≡ sides_from (asked (maker_at page.now)) 0 maker_count no_sides }
 {
@@ -180,13 +172,13 @@ fn walk_makers(page: &[u8]) -> Sides
 }
 
 // The FINRA best of a walk that stops behind the letter `last`: none if D is behind it.
-fn walk_finra(page: &[u8], last: usize) -> Sides
+fn walk_finra(page: &[u8], last: usize) -> Sides<Candidate>
     requires page_len { length page.now ≡ page_length }
     requires a_le_last { (ascii.A ≤ last) × (last ≤ ascii.Z) }
     ensures { result ≡ finra_sides (cut last page.now) }
 {
     if last < Letter::D {
-        return Sides::NONE;
+        return Sides::<Candidate>::NONE;
     }
     walk_makers(page)
 }
@@ -197,10 +189,7 @@ pub fn as_d(c: Candidate) -> Candidate
 {
     Candidate {
         name: Letter::D as u32,
-        price: c.price,
-        size: c.size,
-        time: c.time,
-        condition: c.condition,
+        ..c
     }
 }
 
@@ -223,10 +212,7 @@ fn standing(page: &[u8], letter: usize, side: Side, finra: Candidate) -> Candida
 fn stands(c: Candidate) -> bool
     ensures { result ≡ is_some (live c) }
 {
-    if c.price == 0 {
-        return false;
-    }
-    c.size != 0
+    c.price != 0 && c.size != 0
 }
 
 // A candidate for D that counts, or none: where nothing else of D is asked, that is handed on, a plain number, in place of its FINRA best.
@@ -235,11 +221,9 @@ fn marked(d: bool) -> Candidate
 {
     if d {
         return Candidate {
-            name: 0,
             price: 1,
             size: 1,
-            time: 0,
-            condition: 0,
+            ..Candidate::NONE
         };
     }
     Candidate::NONE
@@ -343,7 +327,7 @@ fn members(same: u32, d: u32, top: u32) -> u32
 }
 
 // What the leader so far shows. Those with the highest key have one price, so that size, time and letter decide, and no more of them is kept.
-// Size 0 is none.
+// Size 0 is none. `decided` is a number as it is in `Lead`, of which the later counts.
 #[derive(Clone, Copy)]
 struct Shown {
     letter: u32,
@@ -376,22 +360,20 @@ fn show(page: &[u8], side: Side, i: u32, finra: Candidate) -> Shown
 }
 
 // A new leader, and what put it ahead.
-fn won(x: Shown, by: u32) -> Shown
-    ensures { result ≡ won_by x by }
+fn won(x: Shown, by: Reason) -> Shown
+    ensures { result ≡ won_by x (lateness by) }
 {
     Shown {
-        letter: x.letter,
-        size: x.size,
-        time: x.time,
-        decided: by,
+        decided: by as u32,
+        ..x
     }
 }
 
 // The leader beside one that lost: of the losers' comparisons the latest counts.
-fn kept(best: Shown, by: u32) -> Shown
-    ensures { result ≡ kept_by best by }
+fn kept(best: Shown, by: Reason) -> Shown
+    ensures { result ≡ kept_by best (lateness by) }
 {
-    if best.decided < by {
+    if best.decided < by as u32 {
         return won(best, by);
     }
     best
@@ -408,18 +390,18 @@ fn beside(best: Shown, x: Shown) -> Shown
         return x;
     }
     if best.size < x.size {
-        return won(x, 2);
+        return won(x, Reason::Size);
     }
     if x.size < best.size {
-        return kept(best, 2);
+        return kept(best, Reason::Size);
     }
     if x.time < best.time {
-        return won(x, 3);
+        return won(x, Reason::Time);
     }
     if best.time < x.time {
-        return kept(best, 3);
+        return kept(best, Reason::Time);
     }
-    kept(best, 4)
+    kept(best, Reason::Name)
 }
 
 // The leader among letters of one price.
@@ -443,10 +425,7 @@ fn is_another(page: &[u8], letter: usize, side: Side, finra: Candidate, leader: 
     requires a_le_letter { (ascii.A ≤ letter) × (letter ≤ ascii.Z) }
     ensures { result ≡ another page.now side finra leader letter }
 {
-    if letter as u32 == leader {
-        return false;
-    }
-    stands(standing(page, letter, side, finra))
+    letter as u32 != leader && stands(standing(page, letter, side, finra))
 }
 
 // Whether a letter other than the leader counts. Most often the first one asked does.
@@ -471,7 +450,7 @@ fn decided(page: &[u8], side: Side, d: bool, leader: u32, by: u32) -> u32
         return by;
     }
     if is_other(page, side, marked(d), leader) {
-        return 1;
+        return Reason::Price as u32;
     }
     0
 }
@@ -490,16 +469,7 @@ fn full(side: Side) -> u32
 fn is_hidden(side: Side, top: u32, same: u32, leader: Shown) -> bool
     ensures { result ≡ is_hidden side top same leader.size }
 {
-    if top == 0 {
-        return false;
-    }
-    if top == full(side) {
-        return true;
-    }
-    if has_d(same) {
-        return true;
-    }
-    leader.size == 0
+    top != 0 && (top == full(side) || has_d(same) || leader.size == 0)
 }
 
 // The leader as a candidate.
@@ -541,21 +511,23 @@ fn copied_lead(l: Lead) -> Lead
 }
 
 // Both sides' leaders of the letters A to `last`, every letter looked at.
-fn leaders_of_all(page: &[u8], last: usize, finra: Sides) -> Leads
+fn leaders_of_all(page: &[u8], last: usize, finra: Sides<Candidate>) -> Sides<Lead>
     requires page_len { length page.now ≡ page_length }
     requires a_le_last { (ascii.A ≤ last) × (last ≤ ascii.Z) }
     ensures { result ≡ leaders_of page.now last finra }
 {
     let bid = lead_all(page, Side::Bid, last, copied(finra.bid));
     let offer = lead_all(page, Side::Offer, last, copied(finra.offer));
-    Leads {
+    Sides {
         bid: copied_lead(bid),
         offer: copied_lead(offer),
     }
 }
 
 // Both sides' leaders of the letters A to `last`. Of a whole page only the letters with the highest key are compared.
-fn leaders(page: &[u8], last: usize, finra: Sides) -> Leads
+// Each step is written for both sides before the next: a function of one side, called twice, is no plainer, as it would have to give back all that the
+// tests of both sides ask first.
+fn leaders(page: &[u8], last: usize, finra: Sides<Candidate>) -> Sides<Lead>
     requires page_len { length page.now ≡ page_length }
     requires a_le_last { (ascii.A ≤ last) × (last ≤ ascii.Z) }
     ensures { result ≡ leaders_of page.now last finra }
@@ -581,7 +553,7 @@ fn leaders(page: &[u8], last: usize, finra: Sides) -> Leads
     let d_offer = stands(finra.offer);
     let bid_by = decided(page, Side::Bid, d_bid, bid.letter, bid.decided);
     let offer_by = decided(page, Side::Offer, d_offer, offer.letter, offer.decided);
-    Leads {
+    Sides {
         bid: led(page, Side::Bid, finra.bid, bid, bid_by),
         offer: led(page, Side::Offer, finra.offer, offer, offer_by),
     }
@@ -637,23 +609,13 @@ fn odd_price_at(side: Side) -> usize
     }
 }
 
-// One less, or 0.
-fn below(key: u32) -> u32
-    ensures { result ≡ key - 1 }
-{
-    if key == 0 {
-        return 0;
-    }
-    key - 1
-}
-
 // The bar, or one less than the key of the entry if that is higher.
 fn odd_floor(page: &[u8], side: Side, bar: u32) -> u32
     requires { length page.now ≡ page_length }
     ensures { bar ≤ result }
 {
     let price = field::get64(page, odd_price_at(side));
-    keysets::higher(bar, below(keys::key(side, price)))
+    keysets::higher(bar, keys::key(side, price).saturating_sub(1))
 }
 
 // The letter with the best odd lot among those with a key above `bar`, 0 if there is none.
@@ -712,7 +674,13 @@ fn odd_at(page: &[u8], side: Side, letter: usize) -> Candidate
 }
 
 // The best odd lots beyond the national bests, both sides.
-fn walk_odd(page: &[u8], last: usize, finra: Sides, bid: Candidate, offer: Candidate) -> Sides
+fn walk_odd(
+    page: &[u8],
+    last: usize,
+    finra: Sides<Candidate>,
+    bid: Candidate,
+    offer: Candidate,
+) -> Sides<Candidate>
     requires page_len { length page.now ≡ page_length }
     requires a_le_last { (ascii.A ≤ last) × (last ≤ ascii.Z) }
     ensures { (result.bid ≡ beyond_of Bid bid (best_from Bid (asked_of (first_by page.now Bid (live finra.bid))) ascii.A (last + 1 - ascii.A) no_candidate)) × (result.offer ≡ beyond_of Offer offer (best_from Offer (asked_of (first_by page.now Offer (live finra.offer))) ascii.A (last + 1 - ascii.A) no_candidate)) }

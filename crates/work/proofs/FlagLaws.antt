@@ -9,8 +9,7 @@ use native.Mathlib.Numerals.{add-one}
 use lib.Bits.{bit_or, or_zero_l, or_zero_r}
 use lib.ListN.{length}
 use Rattle.lists.specs.Lists.{range, upper}
-use Rattle.lists.specs.declared.Found.{Found}
-use Rattle.lists.specs.declared.Found.TheVariants.{At, Nothing}
+use Rattle.std.specs.Prelude.{Some, None, Option}
 use Rattle.lists.proofs.Tests.{Cut, equal, apart, cut}
 use Rattle.message.specs.declared.Message.{Message}
 use Rattle.message.specs.declared.Message.TheVariants as says
@@ -102,11 +101,11 @@ module _ (n : ℕ) (b : List ℕ) (sd : Sound n b) (h : List ℕ → List ℕ) (
       count : count_of (on_page s h b) ≡ count_of b
       count = kept-count b (on_page s h b) (on-kept n b sd s h keeps)
 
-      go : (r : Found) → page_place b s ≡ r → flags_of (publications (pages_in b)) (publications (pages_in (on_page s h b))) ≡ found_by (flags_by h b) 0 r
-      go (At k) e =
+      go : (r : Option ℕ) → page_place b s ≡ r → flags_of (publications (pages_in b)) (publications (pages_in (on_page s h b))) ≡ found_by (flags_by h b) 0 r
+      go (Some k) e =
           flags-one b (on_page s h b) count k (place-hit b s k e).0 (λ j z. on-other n b sd s h keeps j (λ y. z (at_same j k (sym y ∙ e))))
           ∙ ap (λ (p : List ℕ). change_flags (kept_on b k) (kept_entries p)) (on_same n b sd s h keeps k e)
-      go Nothing e = flags-nothing b (on_page s h b) count (λ j. on-other n b sd s h keeps j (λ y. nowhere j (sym e ∙ y)))
+      go None e = flags-nothing b (on_page s h b) count (λ j. on-other n b sd s h keeps j (λ y. nowhere j (sym e ∙ y)))
 
   pub flags-each : flags_of (publications (pages_in b)) (publications (pages_in (each_page h 0 (symbols_of b) b))) ≡ or_from (flags_by h b) 0 (count_of b)
   flags-each = flags-all b (each_page h 0 (symbols_of b) b) (kept-count b (each_page h 0 (symbols_of b) b) (each-kept n h keeps b sd)) ∙ or_same

@@ -11,7 +11,7 @@ use lib.Seq.{take_all}
 use borrow.Author.Tests.{lt-leb}
 use Rattle.field.specs.Field.{be, part, field}
 use Rattle.lists.specs.Lists.{upper}
-use Rattle.lists.specs.declared.Found.TheVariants.{At, Nothing}
+use Rattle.std.specs.Prelude.{Some, None}
 use Rattle.lists.proofs.Tests.{clash}
 use Rattle.quote.specs.declared.Quote.{Quote}
 use Rattle.text.specs.Form.{symbol_length}
@@ -139,7 +139,7 @@ module _ (b : List ℕ) (s : sound b ≡ true) where
   sd = sound-of b s
 
   -- the page that a search finds
-  module _ (y k : ℕ) (p : page_place b y ≡ At k) where
+  module _ (y k : ℕ) (p : page_place b y ≡ Some k) where
     below : k < symbols_of b
     below = omega (arith, (place-hit b y k p).0, sd.count)
 
@@ -166,12 +166,12 @@ module _ (b : List ℕ) (s : sound b ≡ true) where
         named = rw e h
 
         -- one whose symbol is not found
-        pub told-nowhere : page_place b (be (take symbol_length (drop header_length m))) ≡ Nothing → Done letter m b (record { code = 45; flags = 0; partly = false }) b
+        pub told-nowhere : page_place b (be (take symbol_length (drop header_length m))) ≡ None → Done letter m b (record { code = 45; flags = 0; partly = false }) b
         unfolding symbol_of field part partly_taken
         told-nowhere p = done 45 0 false b (worked-nowhere (symbols_of b) b sd letter u m p named) (partly-no 45 (kind_of m) refl)
 
         -- one whose symbol has page k: that page is lent, and comes back as the page's code left it
-        pub told_at : (k : ℕ) → page_place b (be (take symbol_length (drop header_length m))) ≡ At k → (code flags : ℕ) (page : List ℕ)
+        pub told_at : (k : ℕ) → page_place b (be (take symbol_length (drop header_length m))) ≡ Some k → (code flags : ℕ) (page : List ℕ)
             → record { effect = record { code = code; flags = flags }; page = page } ≡ updated_by letter m (lent b k) x
             → Done letter m b (record { code = code; flags = flags; partly = partly_as code x }) (back b k page)
         unfolding symbol_of field part

@@ -4,14 +4,12 @@ use Prim.Native.Nat.{ℕ, ◌+◌, ◌≤◌, ◌<◌}
 use mathlib.Core.Path.{◌≡◌, refl, sym, ap, ◌∙◌}
 use mathlib.Core.Bool.{true, false, cond}
 use mathlib.Core.List.{List, [], ◌∷◌}
-use mathlib.Core.Option.{none, some}
+use Rattle.std.specs.Prelude.{None, Some, Option}
 use native.Mathlib.Omega.{arith}
 use lib.Dec.{eqb}
 use lib.ListN.{length}
 use Rattle.field.specs.Field.{be, part, field}
 use Rattle.field.proofs.Laws.{splice-part}
-use Rattle.lists.specs.declared.Found.{Found}
-use Rattle.lists.specs.declared.Found.TheVariants.{At, Nothing}
 use Rattle.lists.proofs.Tests.{Cut, equal, apart, cut}
 use Rattle.message.specs.Message.{symbol_of, code_of}
 use Rattle.update.specs.Parts.{Reading, reading_of, known_of}
@@ -30,10 +28,10 @@ use Rattle.opening.specs.Layout.{page_start}
 
 -- ---- the search and the readings
 
-find-is : (s : ℕ) (rs : List Reading) → find_reading s rs ≡ first_by (λ r. eqb r.symbol s) some none rs
+find-is : (s : ℕ) (rs : List Reading) → find_reading s rs ≡ first_by (λ r. eqb r.symbol s) Some None rs
 unfolding find_reading
 find-is s [] = refl
-find-is s (r ∷ rs) = ap (cond (eqb r.symbol s) (some r)) (find-is s rs)
+find-is s (r ∷ rs) = ap (cond (eqb r.symbol s) (Some r)) (find-is s rs)
 
 listed-is : (s : ℕ) (rs : List Reading) → is_listed s (listed_of rs) ≡ first_by (λ r. eqb r.symbol s) (λ r. true) false rs
 unfolding is_listed listed_of
@@ -46,11 +44,11 @@ module _ (b : List ℕ) (s : ℕ) where
   unfolding pages_in first_place reading_of
   find-page one =
       ap (reading_at b) one ∙ go (first_place b s)
-      ∙ sym (find-is s (pages_in b) ∙ first-by (λ (r : Reading). eqb r.symbol s) (λ k. reading_of (page_at b k)) some none (count_of b) 0)
+      ∙ sym (find-is s (pages_in b) ∙ first-by (λ (r : Reading). eqb r.symbol s) (λ k. reading_of (page_at b k)) Some None (count_of b) 0)
     where
-      go : (r : Found) → reading_at b r ≡ found_by (λ k. some (reading_of (page_at b k))) none r
-      go (At k) = refl
-      go Nothing = refl
+      go : (r : Option ℕ) → reading_at b r ≡ found_by (λ k. Some (reading_of (page_at b k))) None r
+      go (Some k) = refl
+      go None = refl
 
   -- a symbol is listed exactly if its page is found
   pub listed_at : is_listed s (listed_of (pages_in b)) ≡ is_at (page_place b s)
@@ -58,20 +56,20 @@ module _ (b : List ℕ) (s : ℕ) where
   listed_at =
       listed-is s (pages_in b) ∙ first-by (λ (r : Reading). eqb r.symbol s) (λ k. reading_of (page_at b k)) (λ r. true) false (count_of b) 0 ∙ go (first_place b s) ∙ sym (place_at b s)
     where
-      go : (r : Found) → found_by (λ k. true) false r ≡ is_at r
-      go (At k) = refl
-      go Nothing = refl
+      go : (r : Option ℕ) → found_by (λ k. true) false r ≡ is_at r
+      go (Some k) = refl
+      go None = refl
 
 -- ---- a message is judged by its page alone
 
 module _ (letter : ℕ) (m : List ℕ) (b : List ℕ) where
-  pub code_at : (k : ℕ) → page_place b (symbol_of m) ≡ At k → code_on letter m b ≡ page_code letter m (page_at b k)
+  pub code_at : (k : ℕ) → page_place b (symbol_of m) ≡ Some k → code_on letter m b ≡ page_code letter m (page_at b k)
   unfolding known_of
-  code_at k e = ap (λ (r : Found). code_of (known_of (reading_at b r)) letter m) e
+  code_at k e = ap (λ (r : Option ℕ). code_of (known_of (reading_at b r)) letter m) e
 
   -- and one whose symbol is not listed by nothing
-  pub code-nowhere : page_place b (symbol_of m) ≡ Nothing → code_on letter m b ≡ code_of (known_of none) letter m
-  code-nowhere e = ap (λ (r : Found). code_of (known_of (reading_at b r)) letter m) e
+  pub code-nowhere : page_place b (symbol_of m) ≡ None → code_on letter m b ≡ code_of (known_of None) letter m
+  code-nowhere e = ap (λ (r : Option ℕ). code_of (known_of (reading_at b r)) letter m) e
 
 -- ---- a page changed twice
 
@@ -87,7 +85,7 @@ module _ (n : ℕ) (b : List ℕ) (sd : Sound n b) where
   unfolding set_page page_at
   set-none k h = splice-part b (page_start k) page_length (omega (arith, cell-order page_length k n h, page-room n b sd))
 
-  module _ (s k : ℕ) (e : page_place b s ≡ At k) where
+  module _ (s k : ℕ) (e : page_place b s ≡ Some k) where
     below : k < n
     below = omega (arith, (place-hit b s k e).0, sd.count)
 
@@ -99,7 +97,7 @@ module _ (n : ℕ) (b : List ℕ) (sd : Sound n b) where
     on-at g = rw e
 
     module _ (p : List ℕ) (kept : Kept (page_at b k) p) where
-      after-set : page_place (set_page b k p) s ≡ At k
+      after-set : page_place (set_page b k p) s ≡ Some k
       after-set = place_same (set_page b k p) s (set-kept n b sd k below p kept.size (λ y. kept.bytes (bytes-page b k y))) heads ∙ e
         where
           heads : (j at m : ℕ) → j < n → at + m ≤ head_length → part (page_at (set_page b k p) j) at m ≡ part (page_at b j) at m
@@ -120,6 +118,6 @@ module _ (n : ℕ) (b : List ℕ) (sd : Sound n b) where
     on-twice f g x w =
         rw (e, after-set (f (page_at b k)) x, set_same n b sd k below (f (page_at b k)) x.size) (over (f (page_at b k)) x (g (f (page_at b k))) w)
 
-  pub on-nowhere : (s : ℕ) → page_place b s ≡ Nothing → (g : List ℕ → List ℕ) → on_page s g b ≡ b
+  pub on-nowhere : (s : ℕ) → page_place b s ≡ None → (g : List ℕ → List ℕ) → on_page s g b ≡ b
   unfolding on_page
   on-nowhere s e g = rw e

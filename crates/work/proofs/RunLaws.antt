@@ -11,7 +11,7 @@ use Rattle.field.proofs.Laws.{splice-part}
 use Rattle.lists.specs.Lists.{upper}
 use Rattle.lists.proofs.Searches.{less_one}
 use Rattle.block.specs.Block.{count_in, start_at, message_at, messages_from, messages_of, checked}
-use Rattle.block.specs.declared.Checked.TheVariants.{Pass}
+use Rattle.std.specs.Prelude.{Ok}
 use Rattle.block.proofs.CheckLaws.{passed}
 use Rattle.block.proofs.StartLaws.{next_start, start-within}
 use Rattle.told.specs.declared.Tally.{Tally}
@@ -117,7 +117,7 @@ module _ (letter : ℕ) (block : List ℕ) (c : ℕ) (b₀ a₀ : List ℕ) wher
 
 -- ---- a message of a block that passed its checks
 
-pub message-place : (k : List ℕ) (c i a e : ℕ) → checked k ≡ Pass c → i < c → a ≡ start_at k i → e ≡ start_at k (i + 1) → (a ≤ e) × (e ≤ length k)
+pub message-place : (k : List ℕ) (c i a e : ℕ) → checked k ≡ Ok c → i < c → a ≡ start_at k i → e ≡ start_at k (i + 1) → (a ≤ e) × (e ≤ length k)
 message-place k c i a e p h ha he =
     let q = passed k c p in
     let n = next_start k q.table.apart i (omega (arith, q.counted)) in

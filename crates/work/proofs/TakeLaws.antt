@@ -4,9 +4,8 @@ use Prim.Native.Nat.{ℕ}
 use mathlib.Core.Path.{◌≡◌, refl, sym, ◌∙◌}
 use mathlib.Core.Bool.{Bool, true, false}
 use mathlib.Core.List.{List}
-use mathlib.Core.Option.{none}
+use Rattle.std.specs.Prelude.{None, Some}
 use Rattle.lists.specs.Lists.{upper}
-use Rattle.lists.specs.declared.Found.TheVariants.{At, Nothing}
 use Rattle.lists.proofs.Tests.{clash}
 use Rattle.message.specs.declared.Message.{Message}
 use Rattle.message.specs.declared.Message.TheVariants as says
@@ -48,7 +47,7 @@ module _ (n : ℕ) (b : List ℕ) (sd : Sound n b) (letter : ℕ) (u : upper let
     pub flags-are : flags_of (publications (pages_in b)) (publications (pages_in (message_on letter m b))) ≡ flags
     pub book-is : message_on letter m b ≡ after
 
-  module _ (k : ℕ) (e : page_place b (symbol_of m) ≡ At k) where
+  module _ (k : ℕ) (e : page_place b (symbol_of m) ≡ Some k) where
     abbrev page : List ℕ
     page = page_at b k
 
@@ -81,8 +80,8 @@ module _ (n : ℕ) (b : List ℕ) (sd : Sound n b) (letter : ℕ) (u : upper let
           book-is = message-on n b sd letter u m ∙ on-said (message_of letter m) h;
         })
 
-  module _ (e : page_place b (symbol_of m) ≡ Nothing) where
-    unlisted : (x : Message) → names x ≡ true → code_by (known_of none) letter m x ≡ 45
+  module _ (e : page_place b (symbol_of m) ≡ None) where
+    unlisted : (x : Message) → names x ≡ true → code_by (known_of None) letter m x ≡ 45
     unfolding known_of
     unlisted (says.Refused j) h = clash (sym h)
     unlisted says.Idle h = clash (sym h)

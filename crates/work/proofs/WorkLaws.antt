@@ -8,8 +8,7 @@ use native.Mathlib.Omega.{arith}
 use lib.Dec.{leb, eqb}
 use lib.ListN.{length}
 use Rattle.lists.specs.Lists.{upper}
-use Rattle.lists.specs.declared.Found.{Found}
-use Rattle.lists.specs.declared.Found.TheVariants.{At, Nothing}
+use Rattle.std.specs.Prelude.{Some, None, Option}
 use Rattle.quote.specs.declared.Quote.{Quote}
 use Rattle.levels.specs.Levels.{Odd}
 use Rattle.message.specs.declared.Message.{Message}
@@ -40,19 +39,19 @@ said_on letter m b (says.Status x) = on_page (symbol_of m) (page_after letter m 
 -- ---- the parts of a message, as one change of its symbol's page
 
 -- c is the code that the page gives
-module _ (n : ℕ) (b : List ℕ) (sd : Sound n b) (s : ℕ) (code : List ℕ → ℕ) (c : ℕ) (here : (k : ℕ) → page_place b s ≡ At k → code (page_at b k) ≡ c) where
+module _ (n : ℕ) (b : List ℕ) (sd : Sound n b) (s : ℕ) (code : List ℕ → ℕ) (c : ℕ) (here : (k : ℕ) → page_place b s ≡ Some k → code (page_at b k) ≡ c) where
   -- found at k, or nowhere
-  on-by : (g : List ℕ → List ℕ) (x : List ℕ) → ((k : ℕ) → page_place b s ≡ At k → x ≡ set_page b k (g (page_at b k))) → (page_place b s ≡ Nothing → x ≡ b) → x ≡ on_page s g b
+  on-by : (g : List ℕ → List ℕ) (x : List ℕ) → ((k : ℕ) → page_place b s ≡ Some k → x ≡ set_page b k (g (page_at b k))) → (page_place b s ≡ None → x ≡ b) → x ≡ on_page s g b
   on-by g x f h = go (page_place b s) refl
     where
-      go : (r : Found) → page_place b s ≡ r → x ≡ on_page s g b
-      go (At k) e = f k e ∙ sym (on-at n b sd s k e g)
-      go Nothing e = h e ∙ sym (on-nowhere n b sd s e g)
+      go : (r : Option ℕ) → page_place b s ≡ r → x ≡ on_page s g b
+      go (Some k) e = f k e ∙ sym (on-at n b sd s k e g)
+      go None e = h e ∙ sym (on-nowhere n b sd s e g)
 
-  below : (k : ℕ) → page_place b s ≡ At k → k < n
+  below : (k : ℕ) → page_place b s ≡ Some k → k < n
   below k e = omega (arith, (place-hit b s k e).0, sd.count)
 
-  stays : (k : ℕ) → page_place b s ≡ At k → b ≡ set_page b k (page_at b k)
+  stays : (k : ℕ) → page_place b s ≡ Some k → b ≡ set_page b k (page_at b k)
   stays k e = sym (set-none n b sd k (below k e))
 
   -- one part, with code 0
@@ -61,11 +60,11 @@ module _ (n : ℕ) (b : List ℕ) (sd : Sound n b) (s : ℕ) (code : List ℕ �
   one_on r g d =
       on-by (λ p. cond (eqb (code p) 0) (g p) p) (parts_on (cond (eqb c 0) (r ∷ []) []) b) (λ k e. rw (here k e) (found k e (eqb c 0))) (λ e. missing e (eqb c 0))
     where
-      found : (k : ℕ) → page_place b s ≡ At k → (t : Bool) → parts_on (cond t (r ∷ []) []) b ≡ set_page b k (cond t (g (page_at b k)) (page_at b k))
+      found : (k : ℕ) → page_place b s ≡ Some k → (t : Bool) → parts_on (cond t (r ∷ []) []) b ≡ set_page b k (cond t (g (page_at b k)) (page_at b k))
       found k e true = d ∙ on-at n b sd s k e g
       found k e false = stays k e
 
-      missing : page_place b s ≡ Nothing → (t : Bool) → parts_on (cond t (r ∷ []) []) b ≡ b
+      missing : page_place b s ≡ None → (t : Bool) → parts_on (cond t (r ∷ []) []) b ≡ b
       missing e true = d ∙ on-nowhere n b sd s e g
       missing e false = refl
 
@@ -79,7 +78,7 @@ module _ (n : ℕ) (b : List ℕ) (sd : Sound n b) (s : ℕ) (code : List ℕ �
       (parts_on (cond (eqb c 0) (round_part s l q ∷ odd_part s l o ∷ []) (cond (leb 60 c) (round_part s l q ∷ []) [])) b)
       (λ k e. rw (here k e) (found k e (eqb c 0) (leb 60 c))) (λ e. missing e (eqb c 0) (leb 60 c))
     where
-      found : (k : ℕ) → page_place b s ≡ At k → (t v : Bool)
+      found : (k : ℕ) → page_place b s ≡ Some k → (t v : Bool)
           → parts_on (cond t (round_part s l q ∷ odd_part s l o ∷ []) (cond v (round_part s l q ∷ []) [])) b
           ≡ set_page b k (cond t (odd_on_page l o (round_on l q (page_at b k))) (cond v (round_on l q (page_at b k)) (page_at b k)))
       found k e true v =
@@ -89,7 +88,7 @@ module _ (n : ℕ) (b : List ℕ) (sd : Sound n b) (s : ℕ) (code : List ℕ �
       found k e false true = on-at n b sd s k e (round_on l q)
       found k e false false = stays k e
 
-      missing : page_place b s ≡ Nothing → (t v : Bool) → parts_on (cond t (round_part s l q ∷ odd_part s l o ∷ []) (cond v (round_part s l q ∷ []) [])) b ≡ b
+      missing : page_place b s ≡ None → (t v : Bool) → parts_on (cond t (round_part s l q ∷ odd_part s l o ∷ []) (cond v (round_part s l q ∷ []) [])) b ≡ b
       missing e true v = ap (on_page s (odd_on_page l o)) (on-nowhere n b sd s e (round_on l q)) ∙ on-nowhere n b sd s e (odd_on_page l o)
       missing e false true = on-nowhere n b sd s e (round_on l q)
       missing e false false = refl
@@ -100,7 +99,7 @@ module _ (n : ℕ) (b : List ℕ) (sd : Sound n b) (letter : ℕ) (u : upper let
   abbrev e : Known
   e = known_of (reading_for b (symbol_of m))
 
-  message-by : (c : ℕ) → ((k : ℕ) → page_place b (symbol_of m) ≡ At k → page_code letter m (page_at b k) ≡ c)
+  message-by : (c : ℕ) → ((k : ℕ) → page_place b (symbol_of m) ≡ Some k → page_code letter m (page_at b k) ≡ c)
       → (x : Message) → code_by e letter m x ≡ c → Spoken letter m x → parts_on (parts_of c m) b ≡ said_on letter m b x
   unfolding parts_on part_on
   message-by c here x q (refused k lo hi) = rw (parts-refused c m (omega arith) (omega arith))

@@ -1,7 +1,6 @@
 -- What a message does to a book: its code, its parts on the pages, and what is told of it.
 -- Assumes nothing.
-use Rattle.std.specs.Prelude.{ℕ, Bool, true, false, cond, List, [], ◌∷◌, map, eqb}
-use Rattle.std.proofs.Math.Option.{Option, none, some}
+use Rattle.std.specs.Prelude.{ℕ, Bool, true, false, cond, List, [], ◌∷◌, map, eqb, Option, None, Some}
 use Rattle.std.specs.Int.Bits.{bit_or}
 use Rattle.message.specs.Message.{symbol_of, code_of, Part, round_part, odd_part, maker_part, finra_part, status_part, parts_of, partly_taken}
 use Rattle.entries.specs.Publication.{change_flags}
@@ -31,8 +30,8 @@ abbrev pub primary_of : ℕ → List Listed → ℕ
 primary_of s ls = listed_with (λ x. x.primary) s ls
 
 unfoldable pub find_reading : ℕ → List Reading → Option Reading
-find_reading s [] = none
-find_reading s (r ∷ rs) = cond (eqb r.symbol s) (some r) (find_reading s rs)
+find_reading s [] = None
+find_reading s (r ∷ rs) = cond (eqb r.symbol s) (Some r) (find_reading s rs)
 
 abbrev pub listing : Reading → Listed
 listing r = record { symbol = r.symbol; lot = r.lot; primary = r.primary }

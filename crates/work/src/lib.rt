@@ -9,12 +9,18 @@ ghost use Rattle.opening.specs.Opening.{sound};
 ghost use Rattle.work.specs.Work.{message_on};
 ghost use Rattle.work.specs.code.Steps.{told_one, ran};
 
-use block::Checked;
-use lists::Found;
 use message::{Layout, Message, OddPart};
 use opening::Book;
 use quote::Quote;
 use told::{Tally, Told};
+use update::Effect;
+
+// Taken, and no published entry changed.
+const QUIET: Told = Told {
+    code: 0,
+    flags: 0,
+    partly: false,
+};
 
 // A message that its line's letter sent, worked on the book.
 fn work(book: &mut [u8], letter: u8, msg: &[u8]) -> Told
@@ -23,23 +29,11 @@ fn work(book: &mut [u8], letter: u8, msg: &[u8]) -> Told
 {
     let said = message::read(msg, letter);
     match said {
-        Message::Refused(code) => Told {
-            code,
-            flags: 0,
-            partly: false,
-        },
-        Message::Idle => Told {
-            code: 0,
-            flags: 0,
-            partly: false,
-        },
+        Message::Refused(code) => Told { code, ..QUIET },
+        Message::Idle => QUIET,
         Message::Finra(condition) => {
             let flags = finra::finra_pages(book, condition);
-            Told {
-                code: 0,
-                flags,
-                partly: false,
-            }
+            Told { flags, ..QUIET }
         }
         Message::RoundLot { fault, quote, odd } => {
             work_round_lot(book, letter, msg, fault, quote, odd)
@@ -65,18 +59,24 @@ fn work_round_lot(
     requires msg_value { message_of letter msg.now ≡ Message.RoundLot fault quote odd }
     ensures { (result ≡ told_one letter msg.now book.old) × (book.new ≡ message_on letter msg.now book.old) }
 {
-    let place = opening::find(book, &msg[Layout::SYMBOL..Layout::CONDITION]);
-    let Found::At(k) = place else {
+    let Some(k) = opening::find(book, &msg[Layout::SYMBOL..Layout::CONDITION]) else {
         return Told::UNLISTED;
     };
     let a = Book::OPENING_LEN + k * Book::PAGE_LEN; // the page of its symbol
     let e = a + Book::PAGE_LEN;
     let items = odd.items;
-    let effect = update::round_lot(&mut book[a..e], letter, fault, quote, odd, &msg[items..]);
+    let Effect { code, flags } = update::round_lot(
+        &mut book[a..e],
+        letter,
+        fault,
+        quote,
+        odd,
+        &msg[items..],
+    );
     Told {
-        code: effect.code,
-        flags: effect.flags, // of the round part alone, where the odd part is refused
-        partly: 60 <= effect.code,
+        code,
+        flags, // of the round part alone, where the odd part is refused
+        partly: 60 <= code,
     }
 }
 
@@ -86,17 +86,16 @@ fn work_odd_lot(book: &mut [u8], letter: u8, msg: &[u8], odd: OddPart) -> Told
     requires msg_value { message_of letter msg.now ≡ Message.OddLot odd }
     ensures { (result ≡ told_one letter msg.now book.old) × (book.new ≡ message_on letter msg.now book.old) }
 {
-    let place = opening::find(book, &msg[Layout::SYMBOL..Layout::CONDITION]);
-    let Found::At(k) = place else {
+    let Some(k) = opening::find(book, &msg[Layout::SYMBOL..Layout::CONDITION]) else {
         return Told::UNLISTED;
     };
     let a = Book::OPENING_LEN + k * Book::PAGE_LEN;
     let e = a + Book::PAGE_LEN;
     let items = odd.items;
-    let effect = update::odd_lot(&mut book[a..e], letter, odd, &msg[items..]);
+    let Effect { code, flags } = update::odd_lot(&mut book[a..e], letter, odd, &msg[items..]);
     Told {
-        code: effect.code,
-        flags: effect.flags,
+        code,
+        flags,
         partly: false, // taken whole, or rejected
     }
 }
@@ -107,16 +106,15 @@ fn work_maker(book: &mut [u8], letter: u8, msg: &[u8], fault: u8, name: u32, quo
     requires msg_value { message_of letter msg.now ≡ Message.Maker fault name quote }
     ensures { (result ≡ told_one letter msg.now book.old) × (book.new ≡ message_on letter msg.now book.old) }
 {
-    let place = opening::find(book, &msg[Layout::SYMBOL..Layout::CONDITION]);
-    let Found::At(k) = place else {
+    let Some(k) = opening::find(book, &msg[Layout::SYMBOL..Layout::CONDITION]) else {
         return Told::UNLISTED;
     };
     let a = Book::OPENING_LEN + k * Book::PAGE_LEN;
     let e = a + Book::PAGE_LEN;
-    let effect = update::maker_quote(&mut book[a..e], fault, name, quote);
+    let Effect { code, flags } = update::maker_quote(&mut book[a..e], fault, name, quote);
     Told {
-        code: effect.code,
-        flags: effect.flags,
+        code,
+        flags,
         partly: false,
     }
 }
@@ -127,16 +125,15 @@ fn work_status(book: &mut [u8], letter: u8, msg: &[u8], status: u8) -> Told
     requires msg_value { message_of letter msg.now ≡ Message.Status status }
     ensures { (result ≡ told_one letter msg.now book.old) × (book.new ≡ message_on letter msg.now book.old) }
 {
-    let place = opening::find(book, &msg[Layout::SYMBOL..Layout::STATUS]);
-    let Found::At(k) = place else {
+    let Some(k) = opening::find(book, &msg[Layout::SYMBOL..Layout::STATUS]) else {
         return Told::UNLISTED;
     };
     let a = Book::OPENING_LEN + k * Book::PAGE_LEN;
     let e = a + Book::PAGE_LEN;
-    let effect = update::trading_status(&mut book[a..e], letter, status);
+    let Effect { code, flags } = update::trading_status(&mut book[a..e], letter, status);
     Told {
-        code: effect.code,
-        flags: effect.flags,
+        code,
+        flags,
         partly: false,
     }
 }
@@ -144,7 +141,7 @@ fn work_status(book: &mut [u8], letter: u8, msg: &[u8], status: u8) -> Told
 /// Every message of a block that passed its checks, in order.
 pub fn run(book: &mut [u8], letter: u8, block: &[u8], c: usize, answer: &mut [u8]) -> Tally
     requires book_value { (sound book.old ≡ true) × (upper letter ≡ true) }
-    requires block_value { checked block.now ≡ Checked.Pass c }
+    requires block_value { checked block.now ≡ Ok c }
     requires answer_length_in_bounds { answer_length ≤ length answer.old }
     ensures { record { book = book.exit.now; answer = answer.new; tally = result } ≡ ran letter block.now book.entry.now answer.old }
 {

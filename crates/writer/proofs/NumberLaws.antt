@@ -7,8 +7,11 @@ use mathlib.Core.List.{List}
 use native.Mathlib.Omega.{arith}
 use lib.Dec.{leb}
 use lib.ListN.{length}
-use borrow.Author.Tests.{le-leb, lt-leb, leb-true, ne_eqb}
+use borrow.Author.Tests.{le-leb, lt-leb, leb-true}
 use Rattle.block.specs.Written.{Out, length_with, cut_by, lengths_good, control_mixed, any_control, write_number, written_out}
+use Rattle.numbers.specs.declared.Refusal.{Refusal}
+use Rattle.numbers.specs.Numbers.{number_of}
+use Rattle.numbers.proofs.RefusalLaws.{never-zero}
 use Rattle.writer.proofs.GoodLaws.{Good, good-is, cut-count}
 
 module _ (ns b : List ℕ) where
@@ -60,6 +63,6 @@ module _ (ns b : List ℕ) where
         go false true v z = absurd (omega (arith, z))
 
   -- a refused call changes nothing of the output
-  pub refused : (s k : ℕ) (out : List ℕ) → k ≡ write_number ns b (length out) → (k ≡ 0 → ⊥) → ◌≡◌ {A = Out} (record { number = k; length = 0; output = out }) (written_out b ns s out)
+  pub refused : (s : ℕ) (r : Refusal) (out : List ℕ) → number_of r ≡ write_number ns b (length out) → ◌≡◌ {A = Out} (record { number = number_of r; length = 0; output = out }) (written_out b ns s out)
   unfolding written_out
-  refused s k out e z = rw (← e, ne_eqb k 0 z)
+  refused s r out e = rw (← e, never-zero r)

@@ -10,7 +10,7 @@ use lib.ListN.{length, length-append}
 use Rattle.field.specs.Field.{Bytes, splice}
 use Rattle.lists.specs.Lists.{sum}
 use Rattle.block.specs.Block.{block_longest, messages_most, sequence_in, messages_of, checked}
-use Rattle.block.specs.declared.Checked.TheVariants.{Pass}
+use Rattle.std.specs.Prelude.{Ok}
 use Rattle.block.specs.Written.{joined, length_with, cut_by, lengths_good, written, write_number, written_out}
 use Rattle.block.proofs.CheckLaws.{passed as passed_is}
 use Rattle.block.proofs.WrittenLaws.{whole_length, Carried, written_back, written-passes, written-again, passed-carried}
@@ -34,11 +34,11 @@ module _ (b ns : List ℕ) (s room : ℕ) (e : 0 ≡ write_number ns b room) whe
       }
 
   -- "any block written passes those checks and yields the same messages": those whose bytes and lengths were lent
-  pub written-round : (checked (written s (cut_by ns b)) ≡ Pass (length ns))
+  pub written-round : (checked (written s (cut_by ns b)) ≡ Ok (length ns))
       × ((messages_of (written s (cut_by ns b)) ≡ cut_by ns b)
       × ((joined (cut_by ns b) ≡ b) × (map length (cut_by ns b) ≡ ns)))
   written-round = (
-    written-passes s (cut_by ns b) can ∙ ap Pass (cut-count ns b),
+    written-passes s (cut_by ns b) can ∙ ap Ok (cut-count ns b),
     (
       written_back s (cut_by ns b) can,
       (cut-joined ns b good.adds, cut-lengths ns b (omega (arith, good.adds))),
@@ -54,7 +54,7 @@ length-lengths : (ms : List (List ℕ)) → length (map length ms) ≡ length ms
 length-lengths [] = refl
 length-lengths (m ∷ ms) = ap suc (length-lengths ms)
 
-module _ (b out : List ℕ) (c : ℕ) (y : Bytes b) (pass : checked b ≡ Pass c) (room : length b ≤ length out) where
+module _ (b out : List ℕ) (c : ℕ) (y : Bytes b) (pass : checked b ≡ Ok c) (room : length b ≤ length out) where
   abbrev ms : List (List ℕ)
   ms = messages_of b
 

@@ -3,50 +3,49 @@
 
 ghost use Rattle.std.specs.Prelude.{◌≡◌, true, ◌+◌, ◌*◌, ◌≤◌, ◌<◌, length, drop, leb};
 ghost use Rattle.field.specs.Field.{splice};
+ghost use Rattle.std.specs.Result.{result_unwrap_or};
 ghost use Rattle.lists.specs.Lists.{every, sum};
+ghost use Rattle.numbers.specs.Numbers.{answered};
 ghost use Rattle.block.specs.Block.{offset_at, block_longest, message_shortest, messages_most};
 ghost use Rattle.block.specs.Written.{offsets, cut_by, lengths_good, any_control, control_mixed, write_number, written, written_out};
 
 use block::Block;
+use numbers::Refusal;
 
 const SHORTEST: u32 = Block::MESSAGE_SHORTEST as u32;
 
-/// What the writer answers: 0 and the bytes written, or the number of the check that refuses and 0.
-#[derive(Clone, Copy)]
-pub struct Written {
-    pub number: u8,
-    pub len: usize,
-}
-
-/// Writes the block that carries these messages, laid end to end, under a sequence number. Bytes of the output behind it stay.
-pub fn write_block(messages: &[u8], lengths: &[u32], sequence: u32, output: &mut [u8]) -> Written
-    ensures { record { number = result.number; length = result.len; output = output.new } ≡ written_out messages.now lengths.now sequence output.old }
+/// Writes the block that carries these messages, laid end to end, under a sequence number, and tells its length. Bytes of the output behind
+/// it stay.
+pub fn write_block(
+    messages: &[u8],
+    lengths: &[u32],
+    sequence: u32,
+    output: &mut [u8],
+) -> Result<usize, Refusal>
+    ensures { record { number = answered result; length = result_unwrap_or result 0; output = output.new } ≡ written_out messages.now lengths.now sequence output.old }
 {
-    let number = judge(messages, lengths, output.len());
-    if number != 0 {
-        return Written { number, len: 0 };
-    }
+    judge(messages, lengths, output.len())?;
     let start = Block::HEADER + 2 * lengths.len();
     let len = start + messages.len();
     copy(output, start, messages);
     frame(&mut output[0..len], lengths, sequence);
-    Written { number: 0, len }
+    Ok(len)
 }
 
 // Checks 71, 72, 73.
-fn judge(messages: &[u8], lengths: &[u32], room: usize) -> u8
-    ensures { result ≡ write_number lengths.now messages.now room }
+fn judge(messages: &[u8], lengths: &[u32], room: usize) -> Result<(), Refusal>
+    ensures { answered result ≡ write_number lengths.now messages.now room }
 {
-    if are_good(lengths, messages.len()) {
-        if is_control_mixed(messages, lengths) {
-            return 72;
-        }
-        if room < Block::HEADER + 2 * lengths.len() + messages.len() {
-            return 73;
-        }
-        return 0;
+    if !are_good(lengths, messages.len()) {
+        return Err(Refusal::WriteMessages);
     }
-    71
+    if is_control_mixed(messages, lengths) {
+        return Err(Refusal::WriteControl);
+    }
+    if room < Block::HEADER + 2 * lengths.len() + messages.len() {
+        return Err(Refusal::WriteShort);
+    }
+    Ok(())
 }
 
 // 71: how many, how long, that they add up, and that the block is not too long.
@@ -75,12 +74,7 @@ fn are_good(lengths: &[u32], n: usize) -> bool
 fn are_long(lengths: &[u32]) -> bool
     ensures { result ≡ every (leb message_shortest) lengths.now }
 {
-    for i in 0..lengths.len() {
-        if lengths[i] < SHORTEST {
-            return false;
-        }
-    }
-    true
+    lengths.iter().all(|&n| SHORTEST <= n)
 }
 
 // The sum of at most 45 lengths: it does not wrap.
@@ -88,17 +82,7 @@ fn total(lengths: &[u32]) -> usize
     requires { length lengths.now ≤ messages_most }
     ensures { result ≡ sum lengths.now }
 {
-    let mut acc: usize = 0;
-    for i in 0..lengths.len() {
-        acc += wide(lengths[i]);
-    }
-    acc
-}
-
-fn wide(x: u32) -> usize
-    ensures { (result ≡ x) × (result < 4294967296) }
-{
-    x as usize
+    lengths.iter().map(|&n| n as usize).sum()
 }
 
 // 72: a message of category C among others.
@@ -117,11 +101,11 @@ fn is_any_control(messages: &[u8], lengths: &[u32]) -> bool
     ensures { result ≡ any_control (cut_by lengths.now messages.now) }
 {
     let mut first: usize = 0;
-    for i in 0..lengths.len() {
+    for &n in lengths {
         if messages[first] == b'C' {
             return true;
         }
-        first = first + wide(lengths[i]);
+        first = first + n as usize;
     }
     false
 }
@@ -131,9 +115,7 @@ pub fn copy(output: &mut [u8], at: usize, messages: &[u8])
     requires { at + length messages.now ≤ length output.old }
     ensures { output.new ≡ splice output.old at messages.now }
 {
-    for i in 0..messages.len() {
-        output[at + i] = messages[i];
-    }
+    output[at..at + messages.len()].copy_from_slice(messages);
 }
 
 /// Puts header, table and checksum in front of messages of these lengths, which stand in their place.
@@ -158,8 +140,9 @@ fn put_offsets(block: &mut [u8], lengths: &[u32])
     ensures { block.new ≡ splice block.old 10 (offsets (offset_at (length lengths.now)) lengths.now) }
 {
     let mut at = Block::HEADER + 2 * lengths.len();
+    // An index loop: i is the place in the table.
     for i in 0..lengths.len() {
         field::put16(block, Block::HEADER + 2 * i, at as u16);
-        at = at + wide(lengths[i]);
+        at = at + lengths[i] as usize;
     }
 }

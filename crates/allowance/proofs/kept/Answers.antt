@@ -1,16 +1,15 @@
-use Prim.Native.Nat.{◌-◌}
-use native.Mathlib.Omega.{arith}
-use borrow.Author.Rules.{rules}
-use Rattle.allowance.proofs.ByteLaws.{kept-start, kept_step, kept-end}
+use Rattle.std.proofs.Common.{max, rules, arith, tests, ◌∙◌}
+use Rattle.std.proofs.iter.Yields.{fronts}
+use Rattle.std.proofs.lemmas.Iterator.{YieldsList-from_slice, YieldsList-from_zip, YieldsList-from_map}
+use Rattle.std.proofs.lemmas.Iterator.Adapters.{fits_from_length, at_most_from_Zip, at_most_from_yields_List}
+use Rattle.std.proofs.lemmas.Iterator.Consumers.{sum_from_yields_List}
+use Rattle.allowance.proofs.ByteLaws.{larger-sum}
 use Rattle.allowance.proofs.kept.Goals as goal
 
-pub loop-i-init : goal.loop-i-init
-loop-i-init c = (search rules, (search rules, kept-start _))
-
-pub loop-i-preserved : goal.loop-i-preserved
-loop-i-preserved c =
-    let l = c in
-    (search rules, (omega (arith, l.loop-i.invariant.1.0, c.kept_of-total.ensures.1), omega (arith, c.kept_of-total.ensures.0, l.loop-i.invariant.1.1, kept_step l.args.bytes.now l.loop-i.i c.loop-i-test.true)))
+pub sum-requires-clause-fits : goal.sum-requires-clause-fits
+sum-requires-clause-fits c = fits_from_length _ _ 64 _ (at_most_from_Zip fronts (at_most_from_yields_List (YieldsList-from_slice c.args.shares.now cc) (omega arith))) c.map.ensures.closure (omega arith) (λ x r q k. search (rules, tests))
 
 pub returns : goal.returns
-returns c = omega (arith, c.loop-i.invariant.1.1, kept-end c.args.bytes.now c.loop-i.i c.loop-i-test.false)
+returns c =
+    sum_from_yields_List c.map.result _ c.sum.ensures.ran (YieldsList-from_map _ (λ p. max p.0 p.1) (YieldsList-from_zip (YieldsList-from_slice c.args.shares.now cc) (YieldsList-from_slice c.args.charges.now cc)) c.map.ensures.closure (λ x r q k. search (rules, tests)))
+    ∙ larger-sum c.args.shares.now c.args.charges.now (omega arith)

@@ -1,4 +1,4 @@
-use Rattle.std.proofs.Common.{◌-◌, ◌<◌, arith, rules, le-leb}
+use Rattle.std.proofs.Common.{◌<◌, arith, rules, le-leb}
 use borrow.Author.Tests.{lt-leb}
 use Rattle.lists.proofs.Searches.{all_start, all-fails, all-again, all_end}
 use Rattle.block.specs.Block.{count_in, no_control_at, control_among}

@@ -1,4 +1,4 @@
-use Rattle.std.proofs.Common.{◌≡◌, ◌+◌, ◌<◌, ◌≤◌, true, [], ◌∷◌, length, ◌∙◌, arith, lit<, rules, eq-eqb, ne_eqb}
+use Rattle.std.proofs.Common.{◌≡◌, ◌+◌, ◌≤◌, true, [], ◌∷◌, length, ◌∙◌, arith, lit<, rules, eq-eqb, ne_eqb}
 use Rattle.lists.specs.Lists.{at}
 use Rattle.lists.proofs.Tables.{one_of, none_of}
 use Rattle.block.specs.Block.{idle_block, is_control, message_at}

@@ -1,4 +1,4 @@
-use Rattle.std.proofs.Common.{◌-◌, rules, le-leb}
+use Rattle.std.proofs.Common.{rules, le-leb}
 use borrow.Author.Tests.{lt-leb}
 use Rattle.lists.proofs.Searches.{all_start, all-fails, all-again, all_end}
 use Rattle.block.specs.Block.{spaced}

@@ -1,20 +1,18 @@
 use mathlib.Core.Path.{refl}
-use Rattle.line.specs.Line.{done}
 use Rattle.opening.proofs.WriteLaws.{made-is}
-use Rattle.book.proofs.CallLaws.{refused, carried-out, make-none, make-many, make-length, make-zero, make-after}
+use Rattle.numbers.specs.declared.Refusal.TheVariants as refusal
+use Rattle.book.proofs.CallLaws.{turned_down, carried-out, make-none, make-many, make-length, make-zero, make-after}
 use Rattle.book.proofs.make.Goals as goal
 
 pub returns-then-n-lt1 : goal.returns-then-n-lt1
-unfolding done
-returns-then-n-lt1 c = refused _ _ refl _ (make-none _ _ c.if-n-lt1.true) refl
+returns-then-n-lt1 c = turned_down _ _ refl refusal.Make (make-none _ _ c.if-n-lt1.true)
 
 pub returns-then-n-gt-N_MAX : goal.returns-then-n-gt-N_MAX
-unfolding done
-returns-then-n-gt-N_MAX c = refused _ _ refl _ (make-many _ _ c.if-n-lt1.false c.if-n-gt-N_MAX.true) refl
+returns-then-n-gt-N_MAX c = turned_down _ _ refl refusal.Make (make-many _ _ c.if-n-lt1.false c.if-n-gt-N_MAX.true)
 
 pub returns-then-book-symbols : goal.returns-then-book-symbols
-unfolding done
-returns-then-book-symbols c = refused _ _ refl _ (make-length _ _ c.if-n-lt1.false c.if-n-gt-N_MAX.false c.if-book-symbols.true) refl
+returns-then-book-symbols c =
+    turned_down _ _ refl refusal.Make (make-length _ _ c.if-n-lt1.false c.if-n-gt-N_MAX.false c.if-book-symbols.true)
 
 pub returns : goal.returns
 returns c =

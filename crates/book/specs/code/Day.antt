@@ -2,7 +2,6 @@
 -- Assumes nothing.
 use Rattle.std.specs.Prelude.{ℕ, cond, List, eqb}
 use Rattle.field.specs.Field.{field}
-use Rattle.line.specs.declared.Gate.TheVariants as gate
 use Rattle.opening.specs.Opening.{sound}
 use Rattle.opening.specs.Layout.{day_at}
 

@@ -1,10 +1,10 @@
-use Prim.Native.Nat.{◌+◌, ◌-◌}
+use Prim.Native.Nat.{◌+◌}
 use mathlib.Core.Path.{ap}
 use native.Mathlib.Omega.{arith}
 use lib.ListN.{length}
 use Rattle.field.specs.Ascii.{Z}
 use Rattle.page.specs.Page.{quotes_in}
-use Rattle.feed.proofs.LetterLaws.{count-again, count-end, count_low, shown-end}
+use Rattle.feed.proofs.LetterLaws.{counted, count-again, count-end, count_low, shown-end}
 use borrow.Author.Rules.{rules}
 use Rattle.feed.proofs.behind.Goals as goal
 
@@ -23,10 +23,10 @@ loop-letter-preserved c = (
   (
     search rules,
     (
-      omega (arith, count_low _ _ c.is_shown.result c.counted-seen.ensures, c.loop-letter.invariant.0, c.loop-letter.invariant.1.1.0),
+      omega (arith, count_low _ _ c.is_shown.result (counted c.loop-letter.seen _ c.is_shown.result c.from-seen.ensures), c.loop-letter.invariant.0, c.loop-letter.invariant.1.1.0),
       (
-        omega (arith, count_low _ _ c.is_shown.result c.counted-seen.ensures, c.if-seen-n.false, c.loop-letter.invariant.1.1.1.0),
-        count-again _ _ _ _ _ _ _ c.loop-letter-test.true c.loop-letter.invariant.1.1.1.1 c.is_shown.ensures c.counted-seen.ensures,
+        omega (arith, count_low _ _ c.is_shown.result (counted c.loop-letter.seen _ c.is_shown.result c.from-seen.ensures), c.if-seen-n.false, c.loop-letter.invariant.1.1.1.0),
+        count-again _ _ _ _ _ _ _ c.loop-letter-test.true c.loop-letter.invariant.1.1.1.1 c.is_shown.ensures (counted c.loop-letter.seen _ c.is_shown.result c.from-seen.ensures),
       ),
     ),
   ),

@@ -1,8 +1,7 @@
-use Prim.Native.Nat.{◌-◌}
 use native.Mathlib.Omega.{arith}
 use Rattle.page.specs.Page.{quotes_in}
 use Rattle.snapshot.proofs.ShownLaws.{few}
-use Rattle.feed.proofs.LetterLaws.{count-again, count-end, count_low}
+use Rattle.feed.proofs.LetterLaws.{counted, count-again, count-end, count_low}
 use borrow.Author.Rules.{rules}
 use Rattle.feed.proofs.count.Goals as goal
 
@@ -17,8 +16,8 @@ loop-letter-preserved c = (
   (
     search rules,
     (
-      omega (arith, count_low _ _ c.is_shown.result c.counted-n.ensures, c.loop-letter.invariant.0, c.loop-letter.invariant.1.1.0),
-      count-again _ _ _ _ _ _ _ c.loop-letter-test.true c.loop-letter.invariant.1.1.1 c.is_shown.ensures c.counted-n.ensures,
+      omega (arith, count_low _ _ c.is_shown.result (counted c.loop-letter.n _ c.is_shown.result c.from-n.ensures), c.loop-letter.invariant.0, c.loop-letter.invariant.1.1.0),
+      count-again _ _ _ _ _ _ _ c.loop-letter-test.true c.loop-letter.invariant.1.1.1 c.is_shown.ensures (counted c.loop-letter.n _ c.is_shown.result c.from-n.ensures),
     ),
   ),
 )

@@ -1,7 +1,7 @@
 -- The odd-lot levels of one side as the code keeps them: four cells, best first, then empty ones (price 0), and what an item does to them,
 -- whatever stands in the cells. `proofs/ReadingLaws.antt` shows that on the cells of levels this is what `Levels.antt` says of levels.
 -- Assumes nothing.
-use Rattle.std.specs.Prelude.{ℕ, zero, suc, Bool, true, false, cond, List, [], ◌∷◌, ◌++◌, eqb}
+use Rattle.std.specs.Prelude.{ℕ, zero, suc, Bool, true, false, cond, List, [], ◌∷◌, ◌++◌, eqb, Result, Ok, Err}
 use Rattle.ranking.specs.declared.Side.{Side}
 use Rattle.ranking.specs.Ranking.{ahead}
 use Rattle.quote.specs.declared.Level.{Level}
@@ -9,9 +9,8 @@ use Rattle.quote.specs.Quote.{no_level, level_bytes}
 use Rattle.levels.specs.declared.Levels.{Levels}
 use Rattle.levels.specs.declared.Item.{Item}
 use Rattle.levels.specs.declared.Pair.{Pair}
-use Rattle.levels.specs.declared.Changed.{Changed}
-use Rattle.levels.specs.declared.Judged.{Judged}
-use Rattle.levels.specs.declared.Judged.TheVariants.{Pass, Refused}
+use Rattle.numbers.specs.declared.Rejection.{Rejection}
+use Rattle.numbers.specs.declared.Rejection.TheVariants.{FifthLevel}
 use Rattle.levels.specs.Levels.{empty_cell}
 
 -- ---- levels as cells
@@ -42,11 +41,6 @@ unfoldable pub standing_behind : Side → Level → Level → Level
 standing_behind s y x = cond (leads s y.price x.price) (standing x) no_level
 
 -- ---- one item
-
--- document 01's number of each case
-abbrev pub judged_number : Judged → ℕ
-judged_number Pass = 0
-judged_number (Refused n) = n
 
 -- of two levels, the one that goes first, then the other
 unfoldable pub ordered_of : Side → Level → Level → Pair
@@ -80,16 +74,16 @@ unfoldable pub replaced_of : Level → List Level → List Level
 replaced_of x [] = []
 replaced_of x (y ∷ ys) = cond (eqb y.price x.price) x y ∷ replaced_of x ys
 
-abbrev pub passed : List Level → Changed
-passed ls = record { judged = Pass; levels = record { cells = ls } }
+abbrev pub passed : List Level → Result Levels Rejection
+passed ls = Ok (record { cells = ls })
 
 abbrev pub level_of : ℕ → Item → Level
 level_of t i = record { price = i.price; size = i.shares; time = t }
 
--- "Zero shares remove the level of that price, if any; a known price is replaced; another is added", or refused where a level falls out
-unfoldable pub with_item : Side → ℕ → Item → Levels → Changed
+-- "Zero shares remove the level of that price, if any; a known price is replaced; another is added", or rejected where a level falls out
+unfoldable pub with_item : Side → ℕ → Item → Levels → Result Levels Rejection
 with_item s t i l =
     cond (eqb i.shares 0) (passed (without_of false i.price l.cells))
     (cond (holds_of i.price l.cells) (passed (replaced_of (level_of t i) l.cells))
     (cond (eqb (over_of s (level_of t i) l.cells).price 0) (passed (kept_of s (level_of t i) l.cells))
-    (record { judged = Refused 64; levels = l })))
+    (Err FifthLevel)))

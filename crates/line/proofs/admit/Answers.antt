@@ -28,8 +28,8 @@ overflow_cast-c c =
     let p = passes in omega (arith, p.table.few, p.counted) in
     let h = small in search rules
 
-pub overflow_cast-c-then-day : goal.overflow_cast-c-then-day
-overflow_cast-c-then-day c =
+pub overflow_cast-c-2 : goal.overflow_cast-c-2
+overflow_cast-c-2 c =
     let passes : Passed c.args.block.now c.args.c =
     passed _ _ c.requires.0 in
     let small : c.args.c < 2 ^ 32 =
@@ -38,22 +38,22 @@ overflow_cast-c-then-day c =
 
 pub returns-in_default : goal.returns-in_default
 returns-in_default c =
-    admit-duplicate _ _ _ _ _ c.requires.0 (sym c.is_idle.ensures ∙ c.if-is_idle.false) c.if-day.true
-    (rw c.sequence-sequence.ensures at (sym c.arrive-arrival.ensures ∙ c.in_default.is))
+    rw c.on-in_default.ensures (admit-duplicate _ _ _ _ _ c.requires.0 (sym c.is_idle.ensures ∙ c.if-is_idle.false) c.if-not-day.false
+    (rw c.sequence-sequence.ensures at (sym c.arrive-arrival.ensures ∙ c.in_default.is)))
 
 pub is_used_up-requires : goal.is_used_up-requires
 is_used_up-requires c = c.requires.1
 
 pub returns-then-is_used_up : goal.returns-then-is_used_up
 returns-then-is_used_up c =
-    admit-used _ _ _ _ _ c.requires.0 _ _ (sym c.is_idle.ensures ∙ c.if-is_idle.false) c.if-day.true
-    (rw c.sequence-sequence.ensures at (sym c.arrive-arrival.ensures ∙ c.in-Taken.is)) (sym c.is_used_up.ensures ∙ c.if-is_used_up.true)
-
-pub returns-then-day : goal.returns-then-day
-returns-then-day c =
-    admit-taken _ _ _ _ _ c.requires.0 _ _ _ _ (sym c.is_idle.ensures ∙ c.if-is_idle.false) c.if-day.true
-    (rw c.sequence-sequence.ensures at (sym c.arrive-arrival.ensures ∙ c.in-Taken.is)) (sym c.is_used_up.ensures ∙ c.if-is_used_up.false) c.warning.ensures
-    (rw c.sequence-sequence.ensures at c.advance.ensures)
+    rw c.on-then-is_used_up.ensures (admit-used _ _ _ _ _ c.requires.0 _ _ (sym c.is_idle.ensures ∙ c.if-is_idle.false) c.if-not-day.false
+    (rw c.sequence-sequence.ensures at (sym c.arrive-arrival.ensures ∙ c.in-Some.is)) (sym c.is_used_up.ensures ∙ c.if-is_used_up.true))
 
 pub returns : goal.returns
-returns c = admit-closed _ _ _ _ _ c.requires.0 (sym c.is_idle.ensures ∙ c.if-is_idle.false) c.if-day.false
+returns c =
+    admit-taken _ _ _ _ _ c.requires.0 _ _ _ _ (sym c.is_idle.ensures ∙ c.if-is_idle.false) c.if-not-day.false
+    (rw c.sequence-sequence.ensures at (sym c.arrive-arrival.ensures ∙ c.in-Some.is)) (sym c.is_used_up.ensures ∙ c.if-is_used_up.false) c.warning.ensures
+    (rw c.sequence-sequence.ensures at c.advance.ensures)
+
+pub returns-then-not-day : goal.returns-then-not-day
+returns-then-not-day c = rw c.on.ensures (admit-closed _ _ _ _ _ c.requires.0 (sym c.is_idle.ensures ∙ c.if-is_idle.false) c.if-not-day.true)

@@ -1,59 +1,46 @@
 use Prim.Native.Nat.{ℕ}
 use mathlib.Core.Path.{◌≡◌, sym, ap, ◌∙◌}
-use mathlib.Core.Bool.{true}
 use native.Mathlib.Omega.{arith}
 use lib.Dec.{eqb}
-use Rattle.opening.specs.Opening.{sound, rest_in}
+use Rattle.numbers.proofs.RefusalLaws.{passed_up}
+use Rattle.opening.specs.Opening.{rest_in}
 use Rattle.opening.proofs.OpeningLaws.{sound-of}
 use Rattle.opening.proofs.ReadLaws.{opening-room}
-use Rattle.line.proofs.GateLaws.{judge-unsound, judge-short, judge-closed, judge-refused, judge-admitted, open-low}
+use Rattle.line.proofs.GateLaws.{judge-unsound, judge-short, judge-closed, judge-refused, judge-admitted, opened, open-low}
 use Rattle.line.proofs.judge.Goals as goal
+
+pub returns-then-not-is_sound : goal.returns-then-not-is_sound
+returns-then-not-is_sound c = rw c.bare.ensures (judge-unsound _ _ _ _ (sym c.is_sound.ensures ∙ c.if-not-is_sound.true))
 
 pub returns-then-room-lt-ANSWER_LEN : goal.returns-then-room-lt-ANSWER_LEN
 returns-then-room-lt-ANSWER_LEN c =
-    let good : sound c.args.book.now ≡ true =
-    sym c.is_sound.ensures ∙ c.if-is_sound.true in
-    judge-short _ _ _ _ good c.if-room-lt-ANSWER_LEN.true
+    rw c.bare-then-room-lt-ANSWER_LEN.ensures (judge-short _ _ _ _ (sym c.is_sound.ensures ∙ c.if-not-is_sound.false) c.if-room-lt-ANSWER_LEN.true)
 
-pub line_state-state-requires : goal.line_state-state-requires
-line_state-state-requires c =
-    let good : sound c.args.book.now ≡ true =
-    sym c.is_sound.ensures ∙ c.if-is_sound.true in
-    good
+pub returns-in_err-old : goal.returns-in_err-old
+returns-in_err-old c =
+    rw (passed_up c.from_residual.result _ c.from_residual.ensures.1)
+    (judge-closed _ _ _ _ (sym c.is_sound.ensures ∙ c.if-not-is_sound.false) c.if-room-lt-ANSWER_LEN.false _ c.line_state.ensures _ _ c.in_err-old.ensures.value c.bare-2.ensures)
 
-pub returns-in_default : goal.returns-in_default
-returns-in_default c =
-    let good : sound c.args.book.now ≡ true =
-    sym c.is_sound.ensures ∙ c.if-is_sound.true in
-    judge-closed _ _ _ _ good c.if-room-lt-ANSWER_LEN.false _ c.line_state-state.ensures c.in_default.is
-
-pub returns-in_default-checked : goal.returns-in_default-checked
-returns-in_default-checked c =
-    let good : sound c.args.book.now ≡ true =
-    sym c.is_sound.ensures ∙ c.if-is_sound.true in
-    judge-refused _ _ _ _ good c.if-room-lt-ANSWER_LEN.false _ _ c.line_state-state.ensures c.in-Open.is _ _ _ c.check_block-checked.ensures c.in_default-checked.is c.number.ensures
+pub returns-in-Err : goal.returns-in-Err
+returns-in-Err c =
+    rw c.on.ensures
+    (judge-refused _ _ _ _ (sym c.is_sound.ensures ∙ c.if-not-is_sound.false) c.if-room-lt-ANSWER_LEN.false _
+    (opened c.args.book.now c.args.line c.args.block.now c.args.room (sym c.is_sound.ensures ∙ c.if-not-is_sound.false) c.if-room-lt-ANSWER_LEN.false _ c.line_state.ensures _ _ c.in_ok-old.ensures.value) _ (sym c.in-Err.is ∙ c.check_block-checked.ensures))
 
 pub get8-requires : goal.get8-requires
 get8-requires c =
-    let good : sound c.args.book.now ≡ true =
-    sym c.is_sound.ensures ∙ c.if-is_sound.true in
-    let z = sound-of _ good in
+    let z = sound-of _ (sym c.is_sound.ensures ∙ c.if-not-is_sound.false) in
     omega (arith, z.size, z.low)
 
 pub admit-requires : goal.admit-requires
-admit-requires c =
-    let good : sound c.args.book.now ≡ true =
-    sym c.is_sound.ensures ∙ c.if-is_sound.true in
-    (sym c.check_block-checked.ensures ∙ c.in-Pass.is, (opening-room _ good, open-low c.args.book.now c.args.line _ _ c.line_state-state.ensures c.in-Open.is))
+admit-requires c = (
+  sym c.check_block-checked.ensures ∙ c.in-Ok.is,
+  (opening-room _ (sym c.is_sound.ensures ∙ c.if-not-is_sound.false), open-low _ _ _ (opened c.args.book.now c.args.line c.args.block.now c.args.room (sym c.is_sound.ensures ∙ c.if-not-is_sound.false) c.if-room-lt-ANSWER_LEN.false _ c.line_state.ensures _ _ c.in_ok-old.ensures.value)),
+)
 
-pub returns-then-is_sound : goal.returns-then-is_sound
+pub returns-in-Ok : goal.returns-in-Ok
 unfolding rest_in
-returns-then-is_sound c =
-    let good : sound c.args.book.now ≡ true =
-    sym c.is_sound.ensures ∙ c.if-is_sound.true in
-    let day-is : eqb c.get8.result 1 ≡ (rest_in c.args.book.now).day =
-    ap (λ (x : ℕ). eqb x 1) c.get8.ensures in
-    judge-admitted _ _ _ _ good c.if-room-lt-ANSWER_LEN.false _ _ c.line_state-state.ensures c.in-Open.is _ _ day-is c.admit.ensures
-
-pub returns : goal.returns
-returns c = judge-unsound _ _ _ _ (sym c.is_sound.ensures ∙ c.if-is_sound.false)
+returns-in-Ok c =
+    let day-is : eqb c.get8.result 1 ≡ (rest_in c.args.book.now).day = ap (λ (x : ℕ). eqb x 1) c.get8.ensures in
+    judge-admitted _ _ _ _ (sym c.is_sound.ensures ∙ c.if-not-is_sound.false) c.if-room-lt-ANSWER_LEN.false _
+    (opened c.args.book.now c.args.line c.args.block.now c.args.room (sym c.is_sound.ensures ∙ c.if-not-is_sound.false) c.if-room-lt-ANSWER_LEN.false _ c.line_state.ensures _ _ c.in_ok-old.ensures.value) _ _ day-is c.admit.ensures

@@ -1,5 +1,7 @@
-use Rattle.calls.specs.Call.{end_day}
 use mathlib.Core.Path.{refl}
+use lib.ListN.{drop}
+use Rattle.field.specs.Field.{field}
+use Rattle.calls.specs.Call.{end_day}
 use Rattle.logcalls.proofs.RanLaws.{wrong-length, right-length, ran-bare}
 use Rattle.logchanges.proofs.end_day.Goals as goal
 
@@ -11,4 +13,4 @@ returns-then-args-ne0 c =
 pub returns : goal.returns
 returns c =
     let a = c.args.args.now in
-    right-length _ _ 0 a (end_day) _ c.if-args-ne0.false (ran-bare _ _ (end_day) _ _ _ _ c.end_day-number.ensures refl c.put_bare.ensures)
+    right-length _ _ 0 a (end_day) _ c.if-args-ne0.false (ran-bare _ _ (end_day) _ _ _ _ c.end_day-told.ensures refl c.put_told.ensures)

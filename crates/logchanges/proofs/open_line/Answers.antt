@@ -1,3 +1,5 @@
+use mathlib.Core.Path.{refl}
+use lib.ListN.{drop}
 use Rattle.field.specs.Field.{field}
 use Rattle.calls.specs.Call.{open_line}
 use Rattle.logcalls.proofs.RanLaws.{wrong-length, right-length, ran-bare}
@@ -11,4 +13,4 @@ returns-then-args-ne5 c =
 pub returns : goal.returns
 returns c =
     let a = c.args.args.now in
-    right-length _ _ 5 a (open_line (field a 0 4) (field a 4 1)) _ c.if-args-ne5.false (ran-bare _ _ (open_line (field a 0 4) (field a 4 1)) _ _ _ _ c.open_line-number.ensures (λ i. open_line (c.get32-line.ensures i) (c.get8-letter.ensures i)) c.put_bare.ensures)
+    right-length _ _ 5 a (open_line (field a 0 4) (field a 4 1)) _ c.if-args-ne5.false (ran-bare _ _ (open_line (field a 0 4) (field a 4 1)) _ _ _ _ c.open_line-told.ensures (λ i. open_line (c.get32-line.ensures i) (c.get8-letter.ensures i)) c.put_told.ensures)

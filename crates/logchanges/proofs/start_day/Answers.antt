@@ -1,5 +1,7 @@
-use Rattle.calls.specs.Call.{start_day}
 use mathlib.Core.Path.{refl}
+use lib.ListN.{drop}
+use Rattle.field.specs.Field.{field}
+use Rattle.calls.specs.Call.{start_day}
 use Rattle.logcalls.proofs.RanLaws.{wrong-length, right-length, ran-bare}
 use Rattle.logchanges.proofs.start_day.Goals as goal
 
@@ -11,4 +13,4 @@ returns-then-args-ne0 c =
 pub returns : goal.returns
 returns c =
     let a = c.args.args.now in
-    right-length _ _ 0 a (start_day) _ c.if-args-ne0.false (ran-bare _ _ (start_day) _ _ _ _ c.start_day-number.ensures refl c.put_bare.ensures)
+    right-length _ _ 0 a (start_day) _ c.if-args-ne0.false (ran-bare _ _ (start_day) _ _ _ _ c.start_day-told.ensures refl c.put_told.ensures)

@@ -15,29 +15,21 @@ use Rattle.logcalls.proofs.RoomLaws.{lent-most}
 use Rattle.logcalls.proofs.RanLaws.{too_short, long-enough, rest-is, lent-long, ran-take}
 use Rattle.logchanges.proofs.take_block.Goals as goal
 
-pub returns-then-end-lt12 : goal.returns-then-end-lt12
-returns-then-end-lt12 c =
+pub returns-then-args-lt12 : goal.returns-then-args-lt12
+returns-then-args-lt12 c =
     let a = c.args.args.now in
-    too_short _ _ 12 a (take (field a 0 4) (drop 12 a) (field a 4 8)) c.if-end-lt12.true
+    too_short _ _ 12 a (take (field a 0 4) (drop 12 a) (field a 4 8)) c.if-args-lt12.true
 
-pub overflow_add-e : goal.overflow_add-e
-overflow_add-e c =
-    let lent-short : c.lent-room.result ≤ answer_length =
-    rw c.lent-room.ensures (lent-most c.get64.result answer_length) in
-    omega (arith, lent-short)
+pub overflow_add-end : goal.overflow_add-end
+overflow_add-end c = omega (arith, c.lent-room.ensures, lent-most c.get64.result answer_length)
 
 pub slice_bounds-take_block-end-2 : goal.slice_bounds-take_block-end-2
-slice_bounds-take_block-end-2 c =
-    let lent-short : c.lent-room.result ≤ answer_length =
-    rw c.lent-room.ensures (lent-most c.get64.result answer_length) in
-    omega (arith, lent-short)
+slice_bounds-take_block-end-2 c = omega (arith, c.lent-room.ensures, lent-most c.get64.result answer_length)
 
 pub put_words-requires : goal.put_words-requires
 put_words-requires c =
-    let lent-short : c.lent-room.result ≤ answer_length =
-    rw c.lent-room.ensures (lent-most c.get64.result answer_length) in
     let o = c.args.output.now in
-    omega (arith, lent-long o c.lent-room.result _ refl (omega (arith, lent-short, c.requires)) c.take_block-told.new.answer c.take_block-told.auto.answer, c.requires)
+    omega (arith, lent-long o c.lent-room.result _ refl (omega (arith, c.lent-room.ensures, lent-most c.get64.result answer_length, c.requires)) c.take_block-told.new.answer c.take_block-told.auto.answer, c.requires)
 
 pub returns : goal.returns
 returns c =
@@ -50,7 +42,7 @@ returns c =
     a
     (take (field a 0 4) (drop 12 a) (field a 4 8))
     _
-    c.if-end-lt12.false
+    c.if-args-lt12.false
     (ran-take
     _
     _

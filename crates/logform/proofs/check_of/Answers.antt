@@ -1,22 +1,23 @@
-use Prim.Native.Nat.{◌-◌}
-use mathlib.Core.Path.{refl, ap, ◌∙◌}
-use borrow.Author.Rules.{rules}
-use Rattle.logform.specs.Log.{mixed, check_of}
+use Rattle.std.proofs.Common.{◌≡◌, ◌+◌, ◌*◌, ◌-◌, ℕ, refl, ap, ◌∙◌, rules, arith, length, take, drop, ◌/◌}
+use Rattle.logform.specs.Log.{mixed, check_from, check_of}
 use Rattle.logform.proofs.LogLaws.{word-again, byte-again, check-end}
 use Rattle.logform.proofs.check_of.Goals as goal
 
-pub loop-at-init : goal.loop-at-init
+pub loop-i-init : goal.loop-i-init
 unfolding check_of
-loop-at-init c = (search rules, refl)
+loop-i-init c = (search rules, refl)
 
-pub loop-at-preserved : goal.loop-at-preserved
-loop-at-preserved c = (search rules, word-again _ _ _ _ _ c.loop-at.invariant.1 c.loop-at-test.true (c.mix-h.ensures ∙ ap (mixed _) c.get32.ensures))
+pub loop-i-preserved : goal.loop-i-preserved
+loop-i-preserved c =
+    let at : 4 * (c.loop-i.i + 1) ≡ 4 * c.loop-i.i + 4 = omega arith in
+    (search rules, ap (λ (k : ℕ). check_from c.mix-h.result (drop k c.args.s.now)) at ∙ word-again c.args.s.now c.loop-i.h c.mix-h.result (4 * c.loop-i.i) _ c.loop-i.invariant.1 (omega arith) (c.mix-h.ensures ∙ ap (mixed _) c.get32.ensures))
 
-pub loop-at-2-init : goal.loop-at-2-init
-loop-at-2-init c = (search rules, c.loop-at.invariant.1)
-
-pub loop-at-2-preserved : goal.loop-at-2-preserved
-loop-at-2-preserved c = (search rules, byte-again _ _ _ _ _ c.loop-at-2.invariant.1 c.loop-at-2-test.true c.loop-at-2.invariant.0 (c.mix-h-in-loop-at-2.ensures ∙ ap (mixed _) c.get8.ensures))
+pub loop-x-preserved : goal.loop-x-preserved
+loop-x-preserved c =
+    let rest = take (length c.args.s.now - 4 * (length c.args.s.now / 4)) (drop (4 * (length c.args.s.now / 4)) c.args.s.now) in
+    byte-again rest c.loop-x.h c.mix-h-in-loop-x.result c.loop-x.x-index _ c.loop-x.invariant (search rules) (search rules) (c.mix-h-in-loop-x.ensures ∙ ap (mixed _) c.from.ensures)
 
 pub returns : goal.returns
-returns c = check-end _ _ _ _ c.loop-at-2.invariant.1 c.loop-at-2-test.false
+returns c =
+    let rest = take (length c.args.s.now - 4 * (length c.args.s.now / 4)) (drop (4 * (length c.args.s.now / 4)) c.args.s.now) in
+    check-end rest c.loop-x.h c.loop-x.x-index _ c.loop-x.invariant (search rules)

@@ -1,8 +1,13 @@
-use mathlib.Core.Path.{refl}
+use mathlib.Core.Path.{refl, ap, ◌∙◌}
+use Rattle.field.specs.Field.{splice}
 use Rattle.calls.specs.Call.{convert_len}
+use Rattle.logcalls.proofs.WordLaws.{bare-bytes}
 use Rattle.logqueries.proofs.AskLaws.{ran-words}
 use Rattle.logqueries.proofs.convert_len.Goals as goal
 
-pub returns : goal.returns
-returns c =
-    ran-words _ _ (convert_len c.args.args.now) _ _ _ _ c.convert_len-told.ensures refl refl c.requires c.put_words.ensures
+pub returns-in-Ok : goal.returns-in-Ok
+returns-in-Ok c = ran-words _ _ (convert_len c.args.args.now) _ _ _ _ c.in-Ok.ensures refl refl c.requires c.put_words.ensures
+
+pub returns-in-Err : goal.returns-in-Err
+returns-in-Err c =
+    rw c.refused.ensures.0 (ran-words _ _ (convert_len c.args.args.now) _ _ _ _ c.in-Err.ensures refl refl c.requires (c.refused.ensures.1 ∙ ap (splice _ 0) (bare-bytes _)))

@@ -1,4 +1,3 @@
-use Prim.Native.Nat.{◌-◌}
 use mathlib.Core.Path.{sym, ◌∙◌}
 use Rattle.lists.proofs.Searches.{first-start, first_found, first-again, first-end}
 use Rattle.makers.specs.Makers.{maker_place}

@@ -15,6 +15,6 @@ pub returns-in-83 : goal.returns-in-83
 unfolding clears
 returns-in-83 c = rw c.in-Offer.is (sym (one_of _ _ c.in-83.is))
 
-pub returns-in_default-mark : goal.returns-in_default-mark
+pub returns-in_default-matches : goal.returns-in_default-matches
 unfolding clears
-returns-in_default-mark c = rw c.in-Offer.is (sym (none_of _ _ c.in_default-mark.in_default-mark-own.rest.1))
+returns-in_default-matches c = rw c.in-Offer.is (sym (none_of _ _ c.in_default-matches.in_default-matches-own.rest.1))

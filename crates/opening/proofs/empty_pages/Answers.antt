@@ -1,4 +1,4 @@
-use Rattle.std.proofs.Common.{◌-◌, refl, rules}
+use Rattle.std.proofs.Common.{refl, rules}
 use Rattle.update.specs.Parts.{emptied}
 use Rattle.opening.proofs.WriteLaws.{each_start, each_again, each-end}
 use Rattle.opening.proofs.empty_pages.Goals as goal

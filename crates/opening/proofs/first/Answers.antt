@@ -1,6 +1,6 @@
-use Rattle.std.proofs.Common.{◌+◌, ◌-◌, ◌<◌, ◌≤◌, length, refl, arith, rules}
+use Rattle.std.proofs.Common.{◌+◌, ◌<◌, ◌≤◌, length, refl, arith, rules}
 use Rattle.lists.proofs.Searches.{first_found, first-again, first-end}
-use Rattle.opening.proofs.ReadLaws.{counted-room, page-symbol, has_symbol, find-start}
+use Rattle.opening.proofs.ReadLaws.{counted-room, page-symbol, find-start}
 use Rattle.page.specs.Layout.{page_length}
 use Rattle.opening.specs.Layout.{page_start, symbols_most}
 use Rattle.opening.proofs.first.Goals as goal

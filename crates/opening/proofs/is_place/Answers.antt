@@ -1,4 +1,4 @@
-use Rattle.std.proofs.Common.{◌+◌, ◌<◌, ◌≤◌, length, arith}
+use Rattle.std.proofs.Common.{◌+◌, ◌<◌, ◌≤◌, length, le-ltb, ◌∙◌, arith}
 use Rattle.opening.proofs.ReadLaws.{counted-room, place-counted, place-above}
 use Rattle.page.specs.Layout.{page_length}
 use Rattle.opening.specs.Layout.{page_start, symbols_most}
@@ -25,5 +25,6 @@ has_symbol-requires c =
 pub returns-then-k-count : goal.returns-then-k-count
 returns-then-k-count c = place-counted _ _ _ _ _ c.requires.1 c.if-k-count.true c.has_symbol.ensures
 
-pub returns : goal.returns
-returns c = place-above _ _ _ _ c.requires.1 c.if-k-count.false
+pub returns-else-k-count : goal.returns-else-k-count
+returns-else-k-count c =
+    le-ltb _ _ c.if-k-count.false ∙ place-above _ _ _ _ c.requires.1 c.if-k-count.false

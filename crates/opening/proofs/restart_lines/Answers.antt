@@ -1,4 +1,4 @@
-use Rattle.std.proofs.Common.{◌-◌, refl, ◌∙◌, rules}
+use Rattle.std.proofs.Common.{refl, ◌∙◌, rules}
 use native.Mathlib.Nat.{sub-zero}
 use Rattle.opening.proofs.WriteLaws.{restart-again, restart-end}
 use Rattle.opening.proofs.restart_lines.Goals as goal

@@ -1,8 +1,6 @@
-use Prim.Native.Nat.{◌-◌}
 use mathlib.Core.Path.{refl, sym, ◌∙◌}
 use native.Mathlib.Omega.{arith}
 use Rattle.lists.proofs.Searches.{first_found, first-again, first-end}
-use Rattle.protection.specs.code.Search.{letter_yes}
 use Rattle.protection.proofs.StepLaws.{search-found, search-none}
 use borrow.Author.Rules.{rules}
 use Rattle.protection.proofs.search.Goals as goal

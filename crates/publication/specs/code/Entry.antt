@@ -1,12 +1,11 @@
 -- The published entries as the code holds them, in the words of Publication: for the contracts of its steps.
 -- Assumes nothing.
-use Rattle.std.specs.Prelude.{ℕ, ◌+◌, Bool, ◌&&◌, cond, List, ◌++◌, eqb}
-use Rattle.std.proofs.Math.Option.{Option, none, some}
+use Rattle.std.specs.Prelude.{ℕ, ◌+◌, Bool, ◌&&◌, cond, List, ◌++◌, eqb, Option, None, Some}
 use Rattle.field.specs.Field.{field, be_bytes}
 use Rattle.ranking.specs.declared.Candidate.{Candidate}
 use Rattle.ranking.specs.declared.Reason.{Reason}
 use Rattle.ranking.specs.declared.Reason.TheVariants.{Price, Size, Time, Name}
-use Rattle.ranking.specs.Held.{of_side, lead_on}
+use Rattle.ranking.specs.Held.{of_side}
 use Rattle.publication.specs.declared.Entry.{Entry}
 use Rattle.publication.specs.declared.Published.{Published}
 use Rattle.walk.specs.declared.BestEntries.{BestEntries}
@@ -14,17 +13,17 @@ use Rattle.entries.specs.Entries.{Entries}
 
 -- a candidate, none if its price is 0
 unfoldable pub priced : Candidate → Option Candidate
-priced c = cond (eqb c.price 0) none (some c)
+priced c = cond (eqb c.price 0) None (Some c)
 
 -- what put a leader ahead, from the number that it carries
 unfoldable pub reason_of : ℕ → Option Reason
-reason_of n = cond (eqb n 1) (some Price) (cond (eqb n 2) (some Size) (cond (eqb n 3) (some Time) (cond (eqb n 4) (some Name) none)))
+reason_of n = cond (eqb n 1) (Some Price) (cond (eqb n 2) (Some Size) (cond (eqb n 3) (Some Time) (cond (eqb n 4) (Some Name) None)))
 
 unfoldable pub as_entries : BestEntries → Entries
 as_entries e =
     record {
-      national = λ s. priced (lead_on s e.national).best;
-      reason = λ s. reason_of (lead_on s e.national).decided;
+      national = λ s. priced (of_side s e.national).best;
+      reason = λ s. reason_of (of_side s e.national).decided;
       finra = λ s. priced (of_side s e.finra);
       odd = λ s. priced (of_side s e.odd);
     }

@@ -1,42 +1,17 @@
-use mathlib.Core.Path.{◌≡◌, sym, ◌∙◌}
-use mathlib.Core.Bool.{true}
-use Rattle.text.specs.Form.{symbol_good}
-use Rattle.opening.specs.Opening.{sound}
-use Rattle.calls.proofs.NumberLaws.{symbol-eleven}
-use Rattle.query.proofs.AskedLaws.{asked-unsound, asked-malformed, asked-unlisted, asked-listed}
+use Rattle.numbers.proofs.RefusalLaws.{passed_up}
+use Rattle.query.proofs.AskedLaws.{asked-unknown, asked-unmarked, asked-marked}
 use Rattle.query.proofs.judge.Goals as goal
 
 -- `query::judge` meets its contract.
 
-pub find-place-requires : goal.find-place-requires
-find-place-requires c =
-    let sound-is : sound c.args.book.now ≡ true =
-    sym c.is_sound.ensures ∙ c.if-is_sound.true in
-    let good-is : symbol_good c.args.symbol.now ≡ true =
-    sym c.is_symbol.ensures ∙ c.if-is_symbol.true in
-    (sound-is, symbol-eleven _ good-is)
+pub returns-in_err-page : goal.returns-in_err-page
+returns-in_err-page c =
+    rw (passed_up c.from_residual.result _ c.from_residual.ensures.1) (asked-unknown _ _ _ _ c.in_err-page.ensures)
 
-pub returns-in_default : goal.returns-in_default
-returns-in_default c =
-    let sound-is : sound c.args.book.now ≡ true =
-    sym c.is_sound.ensures ∙ c.if-is_sound.true in
-    let good-is : symbol_good c.args.symbol.now ≡ true =
-    sym c.is_symbol.ensures ∙ c.if-is_symbol.true in
-    asked-unlisted _ _ _ sound-is good-is _ c.find-place.ensures c.in_default.is
-
-pub returns-then-is_symbol : goal.returns-then-is_symbol
-returns-then-is_symbol c =
-    let sound-is : sound c.args.book.now ≡ true =
-    sym c.is_sound.ensures ∙ c.if-is_sound.true in
-    let good-is : symbol_good c.args.symbol.now ≡ true =
-    sym c.is_symbol.ensures ∙ c.if-is_symbol.true in
-    asked-listed _ _ _ sound-is good-is _ c.find-place.ensures _ _ c.in-At.is c.marked.ensures
-
-pub returns-then-is_sound : goal.returns-then-is_sound
-returns-then-is_sound c =
-    let sound-is : sound c.args.book.now ≡ true =
-    sym c.is_sound.ensures ∙ c.if-is_sound.true in
-    asked-malformed _ _ _ sound-is (sym c.is_symbol.ensures ∙ c.if-is_symbol.false)
+pub returns-in_err-side : goal.returns-in_err-side
+returns-in_err-side c =
+    rw (passed_up c.from_residual-in_err-side.result _ c.from_residual-in_err-side.ensures.1)
+    (asked-unmarked _ _ _ _ c.in_ok-page.ensures _ c.marked.ensures _ c.in_err-side.ensures.value)
 
 pub returns : goal.returns
-returns c = asked-unsound _ _ _ (sym c.is_sound.ensures ∙ c.if-is_sound.false)
+returns c = asked-marked _ _ _ _ c.in_ok-page.ensures _ c.marked.ensures _ c.in_ok-side.ensures.value

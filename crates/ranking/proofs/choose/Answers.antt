@@ -1,21 +1,17 @@
 use Rattle.std.proofs.Common.{true, false}
 use Rattle.ranking.proofs.ChoiceLaws.{choose-priceless, choose-sizeless, choose-by}
+use Rattle.ranking.proofs.choose.Goals.{else-x-ne0-via-then-x-ne0+then-x-ne0-2+else-compare, else-x-ne0-via-then-x-ne0+else-x-ne0-2, else-x-ne0-via-else-x-ne0}
 use Rattle.ranking.proofs.choose.Goals as goal
 
 -- `ranking::choose` meets its contract.
 
-pub returns-then-x-eq0 : goal.returns-then-x-eq0
-returns-then-x-eq0 c = choose-priceless _ _ _ c.if-x-eq0.true
-
-pub returns-then-x-eq0-2 : goal.returns-then-x-eq0-2
-returns-then-x-eq0-2 c = choose-sizeless _ _ _ c.if-x-eq0-2.true
-
-pub returns-then-compared : goal.returns-then-compared
-returns-then-compared c =
-    let q = c in
-    choose-by _ _ _ _ q.if-x-eq0.false q.if-x-eq0-2.false c.compare-compared.ensures true c.if-compared.true
+pub returns-then-compare : goal.returns-then-compare
+returns-then-compare c = choose-by _ _ _ _ c.if-x-ne0.true c.if-x-ne0-2.true c.compare.ensures true c.if-compare.true
 
 pub returns : goal.returns
 returns c =
-    let q = c in
-    choose-by _ _ _ _ q.if-x-eq0.false q.if-x-eq0-2.false c.compare-compared.ensures false c.if-compared.false
+    elim c.else-x-ne0.branch [
+      | else-x-ne0-via-then-x-ne0+then-x-ne0-2+else-compare w ↦ choose-by _ _ _ _ w.if-x-ne0.true w.if-x-ne0-2.true w.compare.ensures false w.if-compare.false
+      | else-x-ne0-via-then-x-ne0+else-x-ne0-2 w ↦ choose-sizeless _ _ _ w.if-x-ne0-2.false
+      | else-x-ne0-via-else-x-ne0 w ↦ choose-priceless _ _ _ w.if-x-ne0.false
+    ]

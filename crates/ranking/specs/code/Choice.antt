@@ -1,8 +1,7 @@
 -- The best so far and one candidate more, as a loop finds it: price 0 is none, and a rank makes both sides alike. A leader carries what put it ahead.
 -- proofs/Bridge.antt: this is `best` of the list of those that count, proofs/LeadLaws.antt: and `why_ahead` of it.
 -- Assumes nothing.
-use Rattle.std.specs.Prelude.{ℕ, zero, suc, ◌+◌, ◌-◌, Bool, false, cond, ◌==◌, nat_lt}
-use Rattle.std.proofs.Math.Option.{Option, none, some}
+use Rattle.std.specs.Prelude.{ℕ, zero, suc, ◌+◌, ◌-◌, Bool, false, cond, ◌==◌, nat_lt, Option, None, Some}
 use Rattle.ranking.specs.declared.Side.{Side}
 use Rattle.ranking.specs.declared.Side.TheVariants.{Bid, Offer}
 use Rattle.ranking.specs.declared.Candidate.{Candidate}
@@ -11,7 +10,6 @@ use Rattle.ranking.specs.declared.Reason.{Reason}
 use Rattle.ranking.specs.declared.Reason.TheVariants.{Price, Size, Time, Name}
 use Rattle.ranking.specs.declared.Compared.{Compared}
 use Rattle.ranking.specs.declared.Lead.{Lead}
-use Rattle.ranking.specs.declared.Leads.{Leads}
 use Rattle.ranking.specs.Ranking.{decide}
 use Rattle.ranking.specs.Held.{no_candidate, lateness}
 
@@ -22,7 +20,7 @@ rank_of Offer p = cond (p == 0) 0 (18446744073709551616 - p)
 
 -- and back, where price 0 or size 0 does not count
 unfoldable pub live : Candidate → Option Candidate
-live c = cond (c.price == 0) none (cond (c.size == 0) none (some c))
+live c = cond (c.price == 0) None (cond (c.size == 0) None (Some c))
 
 -- ---- the comparison, by ranks
 
@@ -78,14 +76,14 @@ lead_from s c i (suc k) l = lead_from s c (i + 1) k (lead_with s l (c i))
 
 -- ---- both sides
 
-unfoldable pub sides_from : (Side → ℕ → Candidate) → ℕ → ℕ → Sides → Sides
+unfoldable pub sides_from : (Side → ℕ → Candidate) → ℕ → ℕ → Sides Candidate → Sides Candidate
 sides_from c i k t = record { bid = best_from Bid (c Bid) i k t.bid; offer = best_from Offer (c Offer) i k t.offer }
 
-unfoldable pub step_sides : (Side → ℕ → Candidate) → ℕ → Sides → Sides
+unfoldable pub step_sides : (Side → ℕ → Candidate) → ℕ → Sides Candidate → Sides Candidate
 step_sides c i t = record { bid = choose Bid t.bid (c Bid i); offer = choose Offer t.offer (c Offer i) }
 
-unfoldable pub leads_from : (Side → ℕ → Candidate) → ℕ → ℕ → Leads → Leads
+unfoldable pub leads_from : (Side → ℕ → Candidate) → ℕ → ℕ → Sides Lead → Sides Lead
 leads_from c i k t = record { bid = lead_from Bid (c Bid) i k t.bid; offer = lead_from Offer (c Offer) i k t.offer }
 
-unfoldable pub step_leads : (Side → ℕ → Candidate) → ℕ → Leads → Leads
+unfoldable pub step_leads : (Side → ℕ → Candidate) → ℕ → Sides Lead → Sides Lead
 step_leads c i t = record { bid = lead_with Bid t.bid (c Bid i); offer = lead_with Offer t.offer (c Offer i) }

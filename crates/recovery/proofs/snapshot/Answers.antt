@@ -1,47 +1,28 @@
-use Prim.Native.Nat.{◌+◌, ◌≤◌, ◌<◌}
 use native.Mathlib.Omega.{arith}
-use lib.ListN.{length}
-use Rattle.page.specs.Layout.{page_length}
-use Rattle.opening.specs.Layout.{page_start, symbols_most}
-use Rattle.recovery.proofs.FedLaws.{lent-page, page-room, lent-long, symbol-lent, feed-refusal, feed-done}
+use Rattle.numbers.proofs.RefusalLaws.{passed_up}
+use Rattle.recovery.proofs.FedLaws.{known-room, lent-for, feed-refusal, feed-done}
 use Rattle.recovery.proofs.snapshot.Goals as goal
 
 -- `recovery::snapshot` meets its contract.
 
+pub returns-in_err-page : goal.returns-in_err-page
+returns-in_err-page c =
+    rw (passed_up c.from_residual.result _ c.from_residual.ensures.1) (feed-refusal _ _ _ _ c.in_err-page.ensures)
+
 pub overflow_mul-a : goal.overflow_mul-a
-overflow_mul-a c =
-    let room : (page_start c.in-Page.k + page_length ≤ length c.args.book.now) × (c.in-Page.k < symbols_most) =
-    page-room _ _ _ _ c.judge-asked.ensures c.in-Page.is in
-    omega (arith, room.1)
+overflow_mul-a c = omega (arith, (known-room _ _ _ c.in_ok-page.ensures).1)
 
 pub overflow_add-a : goal.overflow_add-a
-overflow_add-a c =
-    let room : (page_start c.in-Page.k + page_length ≤ length c.args.book.now) × (c.in-Page.k < symbols_most) =
-    page-room _ _ _ _ c.judge-asked.ensures c.in-Page.is in
-    omega (arith, room.1)
+overflow_add-a c = omega (arith, (known-room _ _ _ c.in_ok-page.ensures).1)
 
 pub overflow_add-e : goal.overflow_add-e
-overflow_add-e c =
-    let room : (page_start c.in-Page.k + page_length ≤ length c.args.book.now) × (c.in-Page.k < symbols_most) =
-    page-room _ _ _ _ c.judge-asked.ensures c.in-Page.is in
-    omega (arith, room.1)
+overflow_add-e c = omega (arith, (known-room _ _ _ c.in_ok-page.ensures).1)
 
 pub slice_bounds-fill-end : goal.slice_bounds-fill-end
-slice_bounds-fill-end c =
-    let room : (page_start c.in-Page.k + page_length ≤ length c.args.book.now) × (c.in-Page.k < symbols_most) =
-    page-room _ _ _ _ c.judge-asked.ensures c.in-Page.is in
-    omega (arith, room.0)
+slice_bounds-fill-end c = omega (arith, (known-room _ _ _ c.in_ok-page.ensures).0)
 
 pub fill-requires : goal.fill-requires
-fill-requires c =
-    record {
-      symbol = symbol-lent _ _ _ _ c.judge-asked.ensures c.in-Page.is;
-      page = lent-long _ _ _ _ c.judge-asked.ensures c.in-Page.is;
-    }
+fill-requires c = lent-for _ _ _ c.in_ok-page.ensures
 
-pub returns-in-Refused : goal.returns-in-Refused
-returns-in-Refused c = feed-refusal _ _ _ _ c.judge-asked.ensures _ c.in-Refused.is
-
-pub returns-in-Page : goal.returns-in-Page
-returns-in-Page c =
-    feed-done _ _ _ _ c.judge-asked.ensures _ _ _ c.in-Page.is (lent-page _ _) c.fill.ensures
+pub returns : goal.returns
+returns c = feed-done _ _ _ _ _ c.in_ok-page.ensures c.fill.ensures

@@ -4,8 +4,8 @@ use lib.ListN.{length}
 use Rattle.replay.proofs.StepLaws.{Replaying}
 use Rattle.replay.proofs.replay.Given as goal
 
-abbrev pub invariant-loop-at : goal.invariant-loop-at
-invariant-loop-at l = (l.end ≡ length l.initial.output) × Replaying l.initial.book l.log l.from l.initial.output l.book l.output l.at l.written
+abbrev pub invariant-loop-stepped : goal.invariant-loop-stepped
+invariant-loop-stepped l = (l.end ≡ length l.initial.output) × Replaying l.initial.book l.log l.from l.initial.output l.book l.output l.at l.written
 
-abbrev pub decreases-loop-at : goal.decreases-loop-at
-decreases-loop-at l = length l.log - l.at
+abbrev pub decreases-loop-stepped : goal.decreases-loop-stepped
+decreases-loop-stepped l = length l.log - l.at

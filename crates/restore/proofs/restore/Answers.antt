@@ -1,13 +1,12 @@
 use Rattle.restore.proofs.RestoreLaws.{no-head, not-made, then-replayed}
 use Rattle.restore.proofs.restore.Goals as goal
 
-pub returns-then-head-ne0 : goal.returns-then-head-ne0
-returns-then-head-ne0 c = no-head _ _ _ _ c.read_head-head.ensures c.if-head-ne0.true _ c.none.ensures
+pub returns-in-Err : goal.returns-in-Err
+returns-in-Err c = no-head _ _ _ _ _ c.in-Err.ensures c.none.ensures
 
-pub returns-then-number-ne0 : goal.returns-then-number-ne0
-returns-then-number-ne0 c =
-    not-made _ _ _ _ c.read_head-head.ensures c.if-head-ne0.false _ _ c.make-number.ensures c.if-number-ne0.true _ c.none-then-number-ne0.ensures
+pub returns-in-Ok-make : goal.returns-in-Ok-make
+returns-in-Ok-make c = then-replayed _ _ _ c.in-Ok.head c.in-Ok.ensures _ _ _ _ c.in-Ok-make.ensures c.replay.ensures
 
-pub returns : goal.returns
-returns c =
-    then-replayed _ _ _ _ c.read_head-head.ensures c.if-head-ne0.false _ _ c.make-number.ensures c.if-number-ne0.false _ _ _ c.replay.ensures
+pub returns-in-Err-make : goal.returns-in-Err-make
+returns-in-Err-make c =
+    not-made _ _ _ c.in-Ok.head c.in-Ok.ensures _ _ _ c.in-Err-make.ensures c.none-in-Err-make.ensures

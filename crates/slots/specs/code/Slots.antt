@@ -1,7 +1,6 @@
 -- A side of a letter's levels as the code has them: its first level as a candidate, and its four cells written.
 -- Assumes nothing.
-use Rattle.std.specs.Prelude.{ℕ, ◌+◌, List, [], ◌∷◌}
-use Rattle.std.proofs.Math.Option.{Option, none, some}
+use Rattle.std.specs.Prelude.{ℕ, ◌+◌, List, [], ◌∷◌, Option, None, Some}
 use Rattle.field.specs.Field.{splice}
 use Rattle.field.specs.Ascii.{space}
 use Rattle.lists.specs.Lists.{map_option}
@@ -14,8 +13,8 @@ use Rattle.page.specs.Layout.{slot_at, in_levels, first_key_at}
 use Rattle.page.specs.Page.{first_key, with_key}
 
 abbrev pub first_of : List Level → Option Level
-first_of [] = none
-first_of (x ∷ xs) = some x
+first_of [] = None
+first_of (x ∷ xs) = Some x
 
 unfoldable pub first_in : ℕ → List Level → Option Candidate
 first_in l vs = map_option (level_candidate l space) (first_of vs)

@@ -1,4 +1,3 @@
-use Prim.Native.Nat.{◌-◌}
 use mathlib.Core.Path.{refl, ap, ◌∙◌}
 use Rattle.ranking.specs.code.Choice.{choose}
 use Rattle.page.specs.Layout.{maker_count}

@@ -1,6 +1,6 @@
-use Prim.Native.Nat.{◌-◌}
 use native.Mathlib.Omega.{arith}
 use Rattle.sweep.proofs.LoopLaws.{going_start, going-unwanted, going-exhausted, going-again, going_end}
+use Rattle.sweep.proofs.NextLaws.{least-min}
 use Rattle.sweep.proofs.play_trading.Goals as goal
 
 -- `sweep::play_trading` meets its contract.
@@ -27,12 +27,12 @@ put_step-requires c =
     omega (arith, c.loop-i-test.true, c.loop-i.invariant.size, c.requires.steps_length_in_bounds)
 
 pub overflow_sub-wanted : goal.overflow_sub-wanted
-overflow_sub-wanted c = omega (arith, c.least-taken.ensures.1)
+overflow_sub-wanted c = (least-min _ _ _ c.min-taken.ensures).1
 
 pub loop-i-preserved : goal.loop-i-preserved
 loop-i-preserved c =
     going-again _ (λ i. (c.shared_slice_known-1.given i).fits) _ _ _ c.requires.steps_length_in_bounds _ _ _ _ c.loop-i.invariant _ c.next-best.ensures _ _
-    c.loop-i-test.true c.if-wanted-eq0.false c.if-best-eq0.false c.least-taken.ensures.0 c.put_step.auto.out c.put_step.ensures
+    c.loop-i-test.true c.if-wanted-eq0.false c.if-best-eq0.false (least-min _ _ _ c.min-taken.ensures).0 c.put_step.auto.out c.put_step.ensures
 
 pub shape_of-out : goal.shape_of-out
 shape_of-out c = c.loop-i.invariant.size

@@ -1,4 +1,3 @@
-use Prim.Native.Nat.{◌-◌}
 use Rattle.sweep.proofs.LoopLaws.{Going}
 use Rattle.sweep.proofs.play_trading.Given as goal
 

@@ -1,7 +1,6 @@
 -- What a step looks for, letter after letter: the best candidate behind the last one used. For the contracts of the code.
 -- Assumes nothing.
-use Rattle.std.specs.Prelude.{ℕ, ◌+◌, ◌*◌, ◌-◌, Bool, true, cond, List, eqb, length}
-use Rattle.std.proofs.Math.Option.{Option, none, some}
+use Rattle.std.specs.Prelude.{ℕ, ◌+◌, ◌*◌, ◌-◌, Bool, true, cond, List, eqb, length, Option, None, Some}
 use Rattle.field.specs.Field.{splice}
 use Rattle.lists.specs.Lists.{bind_option}
 use Rattle.ranking.specs.declared.Side.{Side}
@@ -15,7 +14,7 @@ unfoldable pub follows : Side → Candidate → Candidate → Bool
 follows s last x = cond (eqb last.price 0) true (by_rank s last x).ahead
 
 abbrev pub if_next : Side → Candidate → Candidate → Option Candidate
-if_next s last x = cond (follows s last x) (some x) none
+if_next s last x = cond (follows s last x) (Some x) None
 
 -- a letter's candidate, if it does
 unfoldable pub next_at : List ℕ → Side → Candidate → ℕ → Option Candidate

@@ -1,4 +1,4 @@
-use mathlib.Core.Path.{◌≡◌, sym, ap, ◌∙◌}
+use Rattle.std.proofs.Common.{◌≡◌, sym, ap, ◌∙◌}
 use Rattle.lists.specs.Lists.{at, upper}
 use Rattle.text.specs.Form.{maker_good}
 use Rattle.text.proofs.is_maker.Goals as goal
@@ -12,9 +12,9 @@ returns-then-is_upper c =
     ap upper (sym c.byte.ensures) ∙ sym c.is_upper.ensures in
     rw (first-is ∙ c.if-is_upper.true) c.is_padded.ensures
 
-pub returns : goal.returns
+pub returns-else-is_upper : goal.returns-else-is_upper
 unfolding maker_good
-returns c =
+returns-else-is_upper c =
     let first-is : upper (at c.args.s.now 0) ≡ c.is_upper.result =
     ap upper (sym c.byte.ensures) ∙ sym c.is_upper.ensures in
-    rw (first-is ∙ c.if-is_upper.false)
+    rw (first-is, c.if-is_upper.false)

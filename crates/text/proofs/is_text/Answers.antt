@@ -1,4 +1,3 @@
-use Prim.Native.Nat.{◌-◌}
 use native.Mathlib.Omega.{arith}
 use Rattle.text.proofs.FormLaws.{text-start, text-again, text-end}
 use borrow.Author.Rules.{rules}

@@ -1,13 +1,7 @@
-use Prim.Native.Nat.{◌<◌}
-use mathlib.Core.Path.{ap, ◌∙◌}
-use native.Mathlib.Omega.{arith}
-use Rattle.field.specs.Field.{splice}
-use Rattle.told.proofs.AnswerLaws.{quad_is}
-use borrow.Author.Rules.{rules}
+use Rattle.std.proofs.Common.{◌*◌, arith}
+use Rattle.field.proofs.PartLaws.{splice_put}
+use Rattle.told.specs.code.Steps.{quad}
 use Rattle.told.proofs.put_answer.Goals as goal
 
 pub returns : goal.returns
-returns c =
-    let code : c.args.told.code < 256 = search rules in
-    let flags : c.args.told.flags < 256 = search rules in
-    c.put32.ensures ∙ ap (splice _ _) (quad_is c.args.i _ _ (omega arith) code flags)
+returns c = splice_put c.args.answer.now (4 * c.args.i) _ _ (quad c.args.i c.args.told) c.copy_from_slice.ensures.after (omega arith)

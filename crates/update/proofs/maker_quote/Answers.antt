@@ -11,12 +11,12 @@ returns-then-fault-ne0 c = rw (ne_eqb _ _ c.if-fault-ne0.true)
 
 pub put_cell_over-requires : goal.put_cell_over-requires
 put_cell_over-requires c =
-    (c.requires, (maker-hit _ _ _ (sym c.maker_place-known.ensures ∙ c.in-At.is)).0)
+    (c.requires, (maker-hit _ _ _ (sym c.maker_place-known.ensures ∙ c.in-Some.is)).0)
 
-pub returns-in-At : goal.returns-in-At
-returns-in-At c =
+pub returns-in-Some : goal.returns-in-Some
+returns-in-Some c =
     rw c.if-fault-ne0.false
-    (maker-known _ c.requires _ _ _ _ _ (sym c.maker_place-known.ensures ∙ c.in-At.is) c.put_cell_over.ensures c.renewed.ensures)
+    (maker-known _ c.requires _ _ _ _ _ (sym c.maker_place-known.ensures ∙ c.in-Some.is) c.put_cell_over.ensures c.renewed.ensures)
 
 -- an empty quote of a maker without a cell
 
@@ -32,10 +32,10 @@ returns-in_default-free c =
 
 pub put_cell-requires : goal.put_cell-requires
 put_cell-requires c =
-    (c.requires, (free-hit _ _ (sym c.free_place-free.ensures ∙ c.in-At-free.is)).0)
+    (c.requires, (free-hit _ _ (sym c.free_place-free.ensures ∙ c.in-Some-free.is)).0)
 
 pub returns : goal.returns
 returns c =
     rw c.if-fault-ne0.false
-    (maker-new _ c.requires _ _ _ _ _ (sym c.maker_place-known.ensures ∙ c.in_default.is) (sym c.free_place-free.ensures ∙ c.in-At-free.is) (sym c.is_empty.ensures ∙ c.if-is_empty.false)
+    (maker-new _ c.requires _ _ _ _ _ (sym c.maker_place-known.ensures ∙ c.in_default.is) (sym c.free_place-free.ensures ∙ c.in-Some-free.is) (sym c.is_empty.ensures ∙ c.if-is_empty.false)
     c.put_cell.ensures c.renewed-2.ensures)

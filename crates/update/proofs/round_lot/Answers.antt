@@ -20,11 +20,16 @@ returns-then-is_idle c =
     rw c.if-fault-ne0.false
     (round-taken _ c.requires.page_len.0 _ c.requires.page_len.1 _ _ _ _ _ _ _ _ c.quote-standing.ensures c.over.ensures c.put_quote.ensures k.0 k.1 c.renewed.ensures)
 
-pub put_odd-code-requires : goal.put_odd-code-requires
-put_odd-code-requires c =
+pub put_odd-requires : goal.put_odd-requires
+put_odd-requires c =
     record { page_len = (c.put_quote.auto.page ∙ c.requires.page_len.0, c.requires.page_len.1); len = c.requires.len }
 
-pub returns : goal.returns
-returns c =
+pub returns-in-Ok : goal.returns-in-Ok
+returns-in-Ok c =
     rw c.if-fault-ne0.false
-    (round-taken _ c.requires.page_len.0 _ c.requires.page_len.1 _ _ _ _ _ _ _ _ c.quote-standing.ensures c.over.ensures c.put_quote.ensures c.put_odd-code.ensures.0 c.put_odd-code.ensures.1 c.renewed-2.ensures)
+    (round-taken _ c.requires.page_len.0 _ c.requires.page_len.1 _ _ _ _ _ _ _ _ c.quote-standing.ensures c.over.ensures c.put_quote.ensures (rw c.in-Ok.is at c.put_odd.ensures.0) c.put_odd.ensures.1 c.renewed-in-Ok.ensures)
+
+pub returns-in-Err : goal.returns-in-Err
+returns-in-Err c =
+    rw c.if-fault-ne0.false
+    (round-taken _ c.requires.page_len.0 _ c.requires.page_len.1 _ _ _ _ _ _ _ _ c.quote-standing.ensures c.over.ensures c.put_quote.ensures (c.code.ensures ∙ (rw c.in-Err.is at c.put_odd.ensures.0)) c.put_odd.ensures.1 c.renewed-in-Err.ensures)

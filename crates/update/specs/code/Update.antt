@@ -1,14 +1,15 @@
 -- What each message that names a page's symbol does to that page: its code, its change flags and the page after it.
 -- Assumes nothing.
-use Rattle.std.specs.Prelude.{ℕ, cond, List, eqb}
+use Rattle.std.specs.Prelude.{ℕ, cond, List, eqb, Result, Ok, Err}
 use Rattle.ranking.specs.declared.Side.{Side}
 use Rattle.ranking.specs.declared.Side.TheVariants.{Bid, Offer}
 use Rattle.quote.specs.declared.Quote.{Quote}
 use Rattle.levels.specs.declared.Item.{Item}
-use Rattle.levels.specs.declared.Changed.{Changed}
+use Rattle.levels.specs.declared.Levels.{Levels}
+use Rattle.numbers.specs.declared.Rejection.{Rejection}
+use Rattle.numbers.specs.Numbers.{code_of}
 use Rattle.levels.specs.Levels.{side_levels, Odd, odd_code}
-use Rattle.levels.specs.code.Cells.{judged_number}
-use Rattle.oddpart.specs.code.Part.{on_pass, with_part}
+use Rattle.oddpart.specs.code.Part.{with_part}
 use Rattle.message.specs.Message.{maker_code, status_code}
 use Rattle.entries.specs.Publication.{change_flags}
 use Rattle.page.specs.Page.{levels_for}
@@ -43,19 +44,18 @@ pub record Put : Type 0 where
   pub page : List ℕ
 
 -- a side of a letter's levels after a part with this mark and time, and these items of that side
-abbrev pub side_part : Side → ℕ → ℕ → ℕ → List Item → List ℕ → Changed
+abbrev pub side_part : Side → ℕ → ℕ → ℕ → List Item → List ℕ → Result Levels Rejection
 side_part s mark t l is p = with_part s mark t is (side_levels s (levels_for p l))
 
--- one side written, or both; a refusal writes nothing
-unfoldable pub one_side : Side → ℕ → Changed → List ℕ → Put
-one_side s l c p = record { code = judged_number c.judged; page = on_pass c.judged (with_cells s l c.levels.cells p) p }
+-- one side written, or both; a rejection writes nothing
+abbrev pub one_side : Side → ℕ → Result Levels Rejection → List ℕ → Put
+one_side s l (Ok v) p = record { code = 0; page = with_cells s l v.cells p }
+one_side s l (Err r) p = record { code = code_of r; page = p }
 
-unfoldable pub both_sides : ℕ → Changed → Changed → List ℕ → Put
-both_sides l b o p =
-    record {
-      code = on_pass b.judged (judged_number o.judged) (judged_number b.judged);
-      page = on_pass b.judged (on_pass o.judged (with_cells Offer l o.levels.cells (with_cells Bid l b.levels.cells p)) p) p;
-    }
+abbrev pub both_sides : ℕ → Result Levels Rejection → Result Levels Rejection → List ℕ → Put
+both_sides l (Ok b) (Ok o) p = record { code = 0; page = with_cells Offer l o.cells (with_cells Bid l b.cells p) }
+both_sides l (Ok b) (Err r) p = record { code = code_of r; page = p }
+both_sides l (Err r) o p = record { code = code_of r; page = p }
 
 -- Q K: a fault rejects it; with 60 to 64 the round part alone is in force
 unfoldable pub round_lot_on : ℕ → ℕ → Quote → Odd → List ℕ → Updated

@@ -1,30 +1,15 @@
-use mathlib.Core.Path.{sym, ◌∙◌}
-use mathlib.Core.Bool.{true, false}
-use Rattle.venue.proofs.BlockLaws.{number-block, number-rules, number-placed}
+use Rattle.venue.specs.Venue.{venue_number}
+use borrow.Author.Rules.{rules}
 use Rattle.venue.proofs.judge.Goals as goal
 
-pub are_good-requires : goal.are_good-requires
-are_good-requires c = sym c.is_block_good.ensures ∙ c.if-is_block_good.true
+pub returns-then-not-is_block_good : goal.returns-then-not-is_block_good
+unfolding venue_number
+returns-then-not-is_block_good c = search rules
 
-pub are_placed-requires : goal.are_placed-requires
-are_placed-requires c = let s = c in sym s.is_block_good.ensures ∙ s.if-is_block_good.true
+pub returns-then-not-are_placed : goal.returns-then-not-are_placed
+unfolding venue_number
+returns-then-not-are_placed c = search rules
 
-pub returns-then-are_placed : goal.returns-then-are_placed
-returns-then-are_placed c =
-    let g = c in
-    let s = g in
-    number-placed _ (sym s.is_block_good.ensures ∙ s.if-is_block_good.true) true (sym g.are_good.ensures ∙ g.if-are_good.true) (sym c.are_placed.ensures ∙ c.if-are_placed.true)
-
-pub returns-then-are_good : goal.returns-then-are_good
-returns-then-are_good c =
-    let g = c in
-    let s = g in
-    number-placed _ (sym s.is_block_good.ensures ∙ s.if-is_block_good.true) false (sym g.are_good.ensures ∙ g.if-are_good.true) (sym c.are_placed.ensures ∙ c.if-are_placed.false)
-
-pub returns-else-are_good : goal.returns-else-are_good
-returns-else-are_good c =
-    let s = c in
-    number-rules _ (sym s.is_block_good.ensures ∙ s.if-is_block_good.true) (sym c.are_good.ensures ∙ c.if-are_good.false)
-
-pub returns-else-is_block_good : goal.returns-else-is_block_good
-returns-else-is_block_good c = number-block _ (sym c.is_block_good.ensures ∙ c.if-is_block_good.false)
+pub returns : goal.returns
+unfolding venue_number
+returns c = search rules

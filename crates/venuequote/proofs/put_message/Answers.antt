@@ -3,20 +3,10 @@ use Rattle.venuequote.proofs.put_message.Goals as goal
 
 pub put_quote-requires : goal.put_quote-requires
 put_quote-requires c =
-    let k = c in
-    let q = k in
-    let s = q in
-    (ready-quote _ _ q.layout_of-layout.ensures _ k.in-Quote.is s.requires.0, length-quote _ _ q.layout_of-layout.ensures _ _ k.in-Quote.is s.requires.1)
+    (ready-quote _ _ c.layout_of.ensures _ c.in-Some.is c.requires.0, length-quote _ _ c.layout_of.ensures _ _ c.in-Some.is c.requires.1)
 
-pub returns-in-Quote : goal.returns-in-Quote
-returns-in-Quote c =
-    let k = c in
-    let q = k in
-    let s = q in
-    quote-is _ _ s.layout_of-layout.ensures _ _ _ q.in-Quote.is k.put_quote.ensures
+pub returns-in-Some : goal.returns-in-Some
+returns-in-Some c = quote-is _ _ c.layout_of.ensures _ _ _ c.in-Some.is c.put_quote.ensures
 
-pub returns-in-Other : goal.returns-in-Other
-returns-in-Other c =
-    let k = c in
-    let q = k in
-    ready-other _ _ k.layout_of-layout.ensures c.in-Other.is q.requires.0
+pub returns-in_default : goal.returns-in_default
+returns-in_default c = ready-other _ _ c.layout_of.ensures c.in_default.is c.requires.0

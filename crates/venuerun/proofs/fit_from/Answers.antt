@@ -1,4 +1,4 @@
-use Rattle.std.proofs.Common.{◌-◌, true, arith, rules}
+use Rattle.std.proofs.Common.{arith, rules}
 use Rattle.venuerun.proofs.StandLaws.{reached, here, there}
 use Rattle.venuerun.proofs.TurnLaws.{fit-stands, fit-start, fit-stop, fit-again, fit-end}
 use Rattle.venuerun.proofs.fit_from.Goals as goal

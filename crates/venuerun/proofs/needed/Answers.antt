@@ -1,4 +1,4 @@
-use Rattle.std.proofs.Common.{◌-◌, arith}
+use Rattle.std.proofs.Common.{arith}
 use Rattle.venuerun.proofs.StandLaws.{reached, here}
 use Rattle.venuerun.proofs.NeededLaws.{needed-start, needed-with, needed-again, needed-end}
 use Rattle.venuerun.proofs.needed.Goals as goal

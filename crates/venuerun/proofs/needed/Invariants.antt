@@ -1,4 +1,3 @@
-use Rattle.std.proofs.Common.{◌-◌}
 use Rattle.venuerun.proofs.NeededLaws.{Needing}
 use Rattle.venuerun.proofs.needed.Given as goal
 

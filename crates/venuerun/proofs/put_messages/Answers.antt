@@ -1,4 +1,4 @@
-use Rattle.std.proofs.Common.{◌-◌, refl, ◌∙◌, arith}
+use Rattle.std.proofs.Common.{refl, ◌∙◌, arith}
 use Rattle.venuerun.proofs.StandLaws.{reached, here, ready-here}
 use Rattle.venuerun.proofs.TurnLaws.{put-start, put-room, put-lent, put-again, put-end}
 use Rattle.venuerun.proofs.put_messages.Goals as goal

@@ -1,4 +1,3 @@
-use Rattle.std.proofs.Common.{◌-◌}
 use Rattle.venuerun.proofs.TurnLaws.{Putting}
 use Rattle.venuerun.proofs.put_messages.Given as goal
 

@@ -1,4 +1,4 @@
-use Rattle.std.proofs.Common.{◌-◌, sym, refl, ◌∙◌, arith}
+use Rattle.std.proofs.Common.{sym, refl, ◌∙◌, arith}
 use Rattle.block.specs.Sequence.{next_of}
 use Rattle.venuerun.proofs.StandLaws.{ready-is}
 use Rattle.venuerun.proofs.VenueLaws.{run-longest}

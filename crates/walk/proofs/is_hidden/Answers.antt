@@ -1,16 +1,24 @@
+use Rattle.std.proofs.Common.{sym, ap, ◌∙◌, eq-eqb, not}
+use Rattle.lists.proofs.Tests.{clash}
 use Rattle.walk.proofs.LeadingLaws.{hidden-none, hidden-full, hidden-d, hidden-size}
+use Rattle.walk.proofs.is_hidden.Goals.{then-top-full, else-top-full}
 use Rattle.walk.proofs.is_hidden.Goals as goal
 
 -- `walk::is_hidden` meets its contract.
 
-pub returns-then-top-eq0 : goal.returns-then-top-eq0
-returns-then-top-eq0 c = hidden-none _ _ _ _ c.if-top-eq0.true
-
-pub returns-then-top-full : goal.returns-then-top-full
-returns-then-top-full c = hidden-full _ _ _ _ c.if-top-eq0.false _ c.full.ensures c.if-top-full.true
-
 pub returns-then-has_d : goal.returns-then-has_d
-returns-then-has_d c = hidden-d _ _ _ _ c.if-top-eq0.false _ c.full.ensures c.if-top-full.false _ c.has_d.ensures c.if-has_d.true
+returns-then-has_d c =
+    elim c.if-top-full.branch [
+      | then-top-full w ↦ w.value-is ∙ eq-eqb _ _ w.if-top-full.true ∙ hidden-full _ _ _ _ c.if-top-ne0.true _ c.full.ensures w.if-top-full.true
+      | else-top-full w ↦ c.if-has_d.true ∙ hidden-d _ _ _ _ c.if-top-ne0.true _ c.full.ensures w.if-top-full.false _ w.has_d.ensures (sym w.value-is ∙ c.if-has_d.true)
+    ]
 
-pub returns : goal.returns
-returns c = hidden-size _ _ _ _ c.if-top-eq0.false _ c.full.ensures c.if-top-full.false _ c.has_d.ensures c.if-has_d.false
+pub returns-else-has_d : goal.returns-else-has_d
+returns-else-has_d c =
+    elim c.if-top-full.branch [
+      | then-top-full w ↦ clash (sym (w.value-is ∙ eq-eqb _ _ w.if-top-full.true) ∙ c.if-has_d.false)
+      | else-top-full w ↦ hidden-size _ _ _ _ c.if-top-ne0.true _ c.full.ensures w.if-top-full.false _ w.has_d.ensures (sym w.value-is ∙ c.if-has_d.false)
+    ]
+
+pub returns-else-top-ne0 : goal.returns-else-top-ne0
+returns-else-top-ne0 c = ap not (eq-eqb _ _ c.if-top-ne0.false) ∙ hidden-none _ _ _ _ c.if-top-ne0.false

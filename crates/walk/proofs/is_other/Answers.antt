@@ -1,5 +1,5 @@
 use borrow.Author.Rules.{rules}
-use Prim.Native.Nat.{◌-◌, ◌+◌}
+use Prim.Native.Nat.{◌+◌}
 use mathlib.Core.Path.{refl}
 use Rattle.field.specs.Ascii.{Z}
 use Rattle.walk.proofs.KeyLaws.{other-found, other-again, other-end}

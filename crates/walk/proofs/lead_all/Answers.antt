@@ -1,4 +1,3 @@
-use Prim.Native.Nat.{◌-◌}
 use mathlib.Core.Path.{refl}
 use Rattle.walk.proofs.StepLaws.{lead-again, lead-end}
 use borrow.Author.Rules.{rules}

@@ -1,4 +1,3 @@
-use Prim.Native.Nat.{◌-◌}
 use mathlib.Core.Path.{refl}
 use Rattle.walk.proofs.CellLaws.{Next, cells-start, cells-read, cells_free, cells-end}
 use Rattle.ranking.proofs.ChoiceLaws.{sides-again, sides-end}

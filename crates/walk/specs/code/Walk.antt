@@ -1,7 +1,6 @@
 -- What the walk looks at, one candidate after another, in the words of Entries and Page: for the contracts of its steps.
 -- Assumes nothing.
-use Rattle.std.specs.Prelude.{ℕ, ◌+◌, ◌-◌, ◌≤◌, ◌≡◌, Bool, true, false, cond, List, eqb, ltb}
-use Rattle.std.proofs.Math.Option.{Option}
+use Rattle.std.specs.Prelude.{ℕ, ◌+◌, ◌-◌, ◌≤◌, ◌≡◌, Bool, true, false, cond, List, eqb, ltb, Option}
 use Rattle.field.specs.Field.{part}
 use Rattle.field.specs.Ascii.{A, D, S, Z, space}
 use Rattle.lists.specs.Lists.{bind_option, is_some}
@@ -11,7 +10,6 @@ use Rattle.ranking.specs.declared.Sides.{Sides}
 use Rattle.ranking.specs.declared.Side.TheVariants.{Bid, Offer}
 use Rattle.ranking.specs.Held.{no_candidate, or_none, both_sides, no_lead}
 use Rattle.ranking.specs.declared.Lead.{Lead}
-use Rattle.ranking.specs.declared.Leads.{Leads}
 use Rattle.ranking.specs.code.Choice.{live, choose, lead_with, lead_from}
 use Rattle.ranking.specs.code.Chosen.{any_other}
 use Rattle.quote.specs.Quote.{candidate_of, level_candidate, level_in, quote_length, level_length}
@@ -36,7 +34,7 @@ unfoldable pub maker_at : List ℕ → Side → ℕ → Option Candidate
 maker_at p s k = bind_option (maker_in (part p (cell_at k) cell_length)) (maker_candidate s)
 
 -- the FINRA best of both sides
-unfoldable pub finra_sides : List ℕ → Sides
+unfoldable pub finra_sides : List ℕ → Sides Candidate
 finra_sides p = both_sides (λ s. or_none (finra_best (occupied (makers_in p)) s))
 
 -- a letter's national candidate, D's by its FINRA best f; one that doesn't count has no price or no size
@@ -123,7 +121,7 @@ unfoldable pub led_by : List ℕ → Side → Candidate → Shown → ℕ → Le
 led_by p s f m by = cond (eqb m.size 0) no_lead (record { best = standing_at p s f m.letter; decided = by })
 
 -- both sides' leaders of the letters A to l
-unfoldable pub leaders_of : List ℕ → ℕ → Sides → Leads
+unfoldable pub leaders_of : List ℕ → ℕ → Sides Candidate → Sides Lead
 leaders_of p l f = record { bid = lead_from Bid (standing_at p Bid f.bid) A (l + 1 - A) no_lead; offer = lead_from Offer (standing_at p Offer f.offer) A (l + 1 - A) no_lead }
 
 -- ---- the best odd lot above a bar

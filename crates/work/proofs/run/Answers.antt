@@ -1,4 +1,3 @@
-use Prim.Native.Nat.{◌-◌}
 use native.Mathlib.Omega.{arith}
 use Rattle.block.proofs.CheckLaws.{passed, passed-readable}
 use Rattle.work.proofs.RunLaws.{going_start, going-again, going_end, message-place, message-is}

@@ -1,4 +1,3 @@
-use Prim.Native.Nat.{◌-◌}
 use Rattle.work.proofs.RunLaws.{Going}
 use Rattle.work.proofs.run.Given as goal
 

@@ -13,30 +13,30 @@ slice_bounds-find-end c = symbol-inside _ _ _ c.requires.msg_value refl
 
 pub returns-in_default : goal.returns-in_default
 returns-in_default c =
-    told-nowhere _ c.requires.book_value.0 _ c.requires.book_value.1 _ _ c.requires.msg_value refl (sym c.find-place.ensures ∙ c.in_default.is)
+    told-nowhere _ c.requires.book_value.0 _ c.requires.book_value.1 _ _ c.requires.msg_value refl (sym c.find.ensures ∙ c.in_default.is)
 
 pub overflow_mul-a : goal.overflow_mul-a
 overflow_mul-a c =
-    let hit : let k = c.in-At.k in (k < symbols_most) × (page_start k + page_length ≤ length c.args.book.now) =
-    page-inside _ c.requires.book_value.0 _ _ (sym c.find-place.ensures ∙ c.in-At.is) in
+    let hit : let k = c.in-Some.k in (k < symbols_most) × (page_start k + page_length ≤ length c.args.book.now) =
+    page-inside _ c.requires.book_value.0 _ _ (sym c.find.ensures ∙ c.in-Some.is) in
     omega (arith, hit)
 
 pub overflow_add-a : goal.overflow_add-a
 overflow_add-a c =
-    let hit : let k = c.in-At.k in (k < symbols_most) × (page_start k + page_length ≤ length c.args.book.now) =
-    page-inside _ c.requires.book_value.0 _ _ (sym c.find-place.ensures ∙ c.in-At.is) in
+    let hit : let k = c.in-Some.k in (k < symbols_most) × (page_start k + page_length ≤ length c.args.book.now) =
+    page-inside _ c.requires.book_value.0 _ _ (sym c.find.ensures ∙ c.in-Some.is) in
     omega (arith, hit)
 
 pub overflow_add-e : goal.overflow_add-e
 overflow_add-e c =
-    let hit : let k = c.in-At.k in (k < symbols_most) × (page_start k + page_length ≤ length c.args.book.now) =
-    page-inside _ c.requires.book_value.0 _ _ (sym c.find-place.ensures ∙ c.in-At.is) in
+    let hit : let k = c.in-Some.k in (k < symbols_most) × (page_start k + page_length ≤ length c.args.book.now) =
+    page-inside _ c.requires.book_value.0 _ _ (sym c.find.ensures ∙ c.in-Some.is) in
     omega (arith, hit)
 
 pub slice_bounds-odd_lot-end : goal.slice_bounds-odd_lot-end
 slice_bounds-odd_lot-end c =
-    let hit : let k = c.in-At.k in (k < symbols_most) × (page_start k + page_length ≤ length c.args.book.now) =
-    page-inside _ c.requires.book_value.0 _ _ (sym c.find-place.ensures ∙ c.in-At.is) in
+    let hit : let k = c.in-Some.k in (k < symbols_most) × (page_start k + page_length ≤ length c.args.book.now) =
+    page-inside _ c.requires.book_value.0 _ _ (sym c.find.ensures ∙ c.in-Some.is) in
     omega (arith, hit)
 
 pub slice_bounds-odd_lot-count-2 : goal.slice_bounds-odd_lot-count-2
@@ -45,10 +45,10 @@ slice_bounds-odd_lot-count-2 c = omega (arith, odd-items _ _ _ c.requires.msg_va
 pub slice_bounds-odd_lot-start-2 : goal.slice_bounds-odd_lot-start-2
 slice_bounds-odd_lot-start-2 c = omega (arith, odd-items _ _ _ c.requires.msg_value)
 
-pub odd_lot-effect-requires : goal.odd_lot-effect-requires
-odd_lot-effect-requires c =
+pub odd_lot-code-requires : goal.odd_lot-code-requires
+odd_lot-code-requires c =
     record { page_len = (search rules, c.requires.book_value.1); len = (odd-items _ _ _ c.requires.msg_value).1 }
 
 pub returns : goal.returns
 returns c =
-    told_at _ c.requires.book_value.0 _ c.requires.book_value.1 _ _ c.requires.msg_value refl _ (sym c.find-place.ensures ∙ c.in-At.is) c.odd_lot-effect.result.code c.odd_lot-effect.result.flags _ (rw items-are at c.odd_lot-effect.ensures)
+    told_at _ c.requires.book_value.0 _ c.requires.book_value.1 _ _ c.requires.msg_value refl _ (sym c.find.ensures ∙ c.in-Some.is) c.odd_lot-code.result.code c.odd_lot-code.result.flags _ (rw items-are at c.odd_lot-code.ensures)

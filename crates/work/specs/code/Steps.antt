@@ -6,7 +6,7 @@ use Rattle.block.specs.Block.{messages_of}
 use Rattle.message.specs.Message.{partly_taken}
 use Rattle.told.specs.declared.Tally.{Tally}
 use Rattle.opening.specs.Opening.{pages_in}
-use Rattle.told.specs.Told.{quads, tally}
+use Rattle.told.specs.Told.{quads}
 use Rattle.work.specs.Work.{flags_of, publications, code_on, message_on, messages_on, told_on}
 use Rattle.told.specs.declared.Told.{Told}
 use Rattle.told.specs.code.Steps.{tally_of}

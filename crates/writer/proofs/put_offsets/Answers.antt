@@ -1,4 +1,3 @@
-use Prim.Native.Nat.{◌-◌}
 use mathlib.Core.Path.{refl, ◌∙◌}
 use native.Mathlib.Omega.{arith}
 use Rattle.lists.proofs.Searches.{sum_step}
@@ -22,8 +21,8 @@ loop-i-preserved c =
         (
           length-put _ _ _ _ p.put16.ensures (omega arith) ∙ k.loop-i.invariant.1.1.0,
           (
-            omega (arith, k.loop-i.invariant.1.1.1.0, sum_step s.args.lengths.now k.loop-i.i (omega arith), c.wide-at.ensures.0),
-            rw c.wide-at.ensures.0 (offsets-again _ _ _ _ _ _ (omega arith) k.loop-i.invariant.1.1.1.1 p.put16.ensures),
+            omega (arith, k.loop-i.invariant.1.1.1.0, sum_step s.args.lengths.now k.loop-i.i (omega arith)),
+            offsets-again _ _ _ _ _ _ (omega arith) k.loop-i.invariant.1.1.1.1 p.put16.ensures,
           ),
         ),
       ),

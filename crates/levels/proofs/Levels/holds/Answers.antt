@@ -1,11 +1,12 @@
-use lib.ListN.{length}
-use mathlib.Core.Path.{◌≡◌}
-use Rattle.levels.proofs.CellLaws.{holds-is, length-of-map}
-use borrow.Author.Rules.{rules}
+use Rattle.std.proofs.Common.{◌∙◌, rules, eqb}
+use Rattle.std.proofs.lemmas.Iterator.{YieldsList-from_slice}
+use Rattle.std.proofs.lemmas.Iterator.Search.{any_from_yields_List}
+use borrow.Author.Tests.{tests}
+use Rattle.quote.specs.declared.Level.{Level}
+use Rattle.levels.proofs.CellLaws.{holds-any}
 use Rattle.levels.proofs.Levels.holds.Goals as goal
 
 pub returns : goal.returns
 returns c =
-    let four : length c.args.self.cells ≡ 4 =
-    search (length-of-map, rules) in
-    holds-is _ _ four _ _ _ _ _ c.is_held-h3.ensures c.is_held-h2.ensures c.is_held-h1.ensures c.is_held.ensures
+    any_from_yields_List (λ (y : Level). eqb y.price c.args.price) _ _ _ c.any.ensures.ran (YieldsList-from_slice c.args.self.cells (cc)) (λ x b q k. search (rules, tests))
+    ∙ holds-any c.args.price c.args.self.cells
