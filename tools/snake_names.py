@@ -15,7 +15,7 @@ CAMEL = re.compile(r"^[a-z][a-z0-9]*(?:[A-Z][a-z0-9]*)+$")
 # names of the older library, which old proofs cite
 LEFT = set()
 # lemmas that would bear the name of a definition
-DASHED = "by_name by_rank cells_at code_by convert_number first_by first_key goes_on kept_from listed_in not_made odd_step offset_at one_side \
+DASHED = "by_name by_rank cells_at code_by convert_number first_by first_key goes_on listed_in not_made odd_step offset_at one_side \
 read_behind read_out ready_by size_in step_by".split()
 
 
