@@ -1,5 +1,5 @@
 import re
-p='/tmp/x/e1/crates/walk/src/lib.rt'
+p='SCRATCH/e1/crates/walk/src/lib.rt'
 s=open(p).read()
 new='''
 // The leader among letters of one price.

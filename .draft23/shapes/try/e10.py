@@ -1,4 +1,4 @@
-p='/tmp/x/e10/crates/walk/src/lib.rt'; s=open(p).read()
+p='SCRATCH/e10/crates/walk/src/lib.rt'; s=open(p).read()
 a=s.index('// The leader of the letters A to `last`: `top` is'); b=s.index('// The best odd lot among the letters of a set.')
 s=s[:a]+'''
 fn below(key: u32) -> u32

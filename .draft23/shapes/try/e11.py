@@ -1,4 +1,4 @@
-p='/tmp/x/e11/crates/walk/src/lib.rt'; s=open(p).read()
+p='SCRATCH/e11/crates/walk/src/lib.rt'; s=open(p).read()
 a=s.index('fn bid_national('); b=s.index('fn below(')
 s=s[:a]+'''
 fn entry_of(side: Side) -> usize

@@ -1,5 +1,5 @@
-p='/tmp/x/e12/crates/walk/src/lib.rt'; s=open(p).read()
-t=open('/tmp/x/e11/crates/walk/src/lib.rt').read()
+p='SCRATCH/e12/crates/walk/src/lib.rt'; s=open(p).read()
+t=open('SCRATCH/e11/crates/walk/src/lib.rt').read()
 i=s.index('fn national(page: &[u8], side: Side, last: usize, finra: Candidate, top: u32')
 i=s.rindex('// The leader of the letters A to',0,i); j=s.index('// The best odd lot among the letters of a set.')
 s=s[:i]+s[j:]

@@ -1,4 +1,4 @@
-p='/tmp/x/e13/crates/walk/src/lib.rt'; s=open(p).read()
+p='SCRATCH/e13/crates/walk/src/lib.rt'; s=open(p).read()
 a=s.index('struct Lead2 {'); b=s.index('// Whether a letter other than the leader counts.\nfn others')
 s=s[:a]+'''
 struct Mark {

@@ -1,4 +1,4 @@
-p='/tmp/x/e15/crates/walk/src/lib.rt'; s=open(p).read()
+p='SCRATCH/e15/crates/walk/src/lib.rt'; s=open(p).read()
 a=s.index('fn led(page'); b=s.index('fn copied(')
 s=s[:a]+'''
 fn decided_by(page: &[u8], side: Side, d: bool, lead: u32, decided: u32) -> u32

@@ -1,5 +1,5 @@
-p='/tmp/x/e16/crates/walk/src/lib.rt'; s=open(p).read()
-e14=open('/tmp/x/e14/crates/walk/src/lib.rt').read()
+p='SCRATCH/e16/crates/walk/src/lib.rt'; s=open(p).read()
+e14=open('SCRATCH/e14/crates/walk/src/lib.rt').read()
 a=s.index('struct Lead2 {'); b=s.index('// Whether a letter other than the leader counts.\nfn others')
 x=e14.index('struct Mark {'); y=e14.index('struct Marks {'); z=e14.index('// What a letter has on a side'); w=e14.index('fn with_letter(')
 s=s[:a]+e14[x:y]+e14[z:w]+'''
@@ -86,7 +86,7 @@ fn side_bests(page: &[u8], side: Side, last: usize, finra: Candidate) -> SideBes
 }
 
 '''+s[b:]
-e15=open('/tmp/x/e15/crates/walk/src/lib.rt').read()
+e15=open('SCRATCH/e15/crates/walk/src/lib.rt').read()
 a=s.index('struct Odd {'); b=s.index('pub fn walk_page(')
 x=e15.index('fn odd_by('); y=e15.index('fn plain_finra(')
 s=s[:a]+e15[x:y]+s[b:]

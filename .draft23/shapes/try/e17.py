@@ -1,5 +1,5 @@
-p='/tmp/x/e17/crates/walk/src/lib.rt'; s=open(p).read()
-e13=open('/tmp/x/e13/crates/walk/src/lib.rt').read()
+p='SCRATCH/e17/crates/walk/src/lib.rt'; s=open(p).read()
+e13=open('SCRATCH/e13/crates/walk/src/lib.rt').read()
 a=s.index('struct Mark {'); b=s.index('fn leading(')
 x=e13.index('struct Mark {'); y=e13.index('struct Marks {'); z=e13.index('// What a letter has on a side'); w=e13.index('fn with_letter(')
 s=s[:a]+e13[x:y]+e13[z:w].replace('d: Mark)','finra: Candidate)').replace('        return d;','        return Mark { key: keys::key(side, finra.price), size: finra.size, time: finra.time, place: 68, decided: 0 };')+s[b:]

@@ -1,5 +1,5 @@
-p='/tmp/x/e19/crates/walk/src/lib.rt'; s=open(p).read()
-s0=open('/tmp/x/s0/crates/walk/src/lib.rt').read()
+p='SCRATCH/e19/crates/walk/src/lib.rt'; s=open(p).read()
+s0=open('SCRATCH/s0/crates/walk/src/lib.rt').read()
 # makers of s0
 a=s.index('struct Spot {'); b=s.index('// The FINRA best of a walk')
 x=s0.index('// One maker cell more, both sides.'); y=s0.index('// The FINRA best of a walk')

@@ -1,4 +1,4 @@
-p='/tmp/x/e2/crates/walk/src/lib.rt'
+p='SCRATCH/e2/crates/walk/src/lib.rt'
 s=open(p).read()
 i=s.index('fn oddest(');j=s.index('fn bid_national')
 s=s[:i]+'''// The best of first levels: its letter.

@@ -1,4 +1,4 @@
-p='/tmp/x/e20/crates/walk/src/lib.rt'; s=open(p).read()
+p='SCRATCH/e20/crates/walk/src/lib.rt'; s=open(p).read()
 s=s.replace('''fn walk_plain(page: &[u8], last: usize) -> BestEntries
 {
     let finra = walk_finra(page, last);

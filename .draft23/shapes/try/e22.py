@@ -1,5 +1,5 @@
-p='/tmp/x/e22/crates/walk/src/lib.rt'; s=open(p).read()
-e17=open('/tmp/x/e17/crates/walk/src/lib.rt').read()
+p='SCRATCH/e22/crates/walk/src/lib.rt'; s=open(p).read()
+e17=open('SCRATCH/e17/crates/walk/src/lib.rt').read()
 a=s.index('struct Mark {'); b=s.index('fn lead_bids(')
 x=e17.index('struct Mark {'); y=e17.index('fn leading(')
 s=s[:a]+e17[x:y]+s[b:]

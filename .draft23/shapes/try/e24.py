@@ -1,6 +1,6 @@
 import re
-p='/tmp/x/e24/crates/walk/src/lib.rt'; s=open(p).read()
-e21=open('/tmp/x/e21/crates/walk/src/lib.rt').read()
+p='SCRATCH/e24/crates/walk/src/lib.rt'; s=open(p).read()
+e21=open('SCRATCH/e21/crates/walk/src/lib.rt').read()
 def fn(n,src=e21):
     return re.search(r'\nfn '+n+r'\(.*?\n}\n',src,re.S).group(0)
 i=s.index('// The best odd lots beyond the national bests, both sides.'); j=s.index('/// The six best entries of a page whose letters behind')

@@ -1,5 +1,5 @@
 import re
-p='/tmp/x/e25/crates/walk/src/lib.rt'; s=open(p).read()
+p='SCRATCH/e25/crates/walk/src/lib.rt'; s=open(p).read()
 a=s.index('fn bid_national('); b=s.index('\nfn below(')
 s=s[:a]+'''
 // Whether all letters have to be looked at.

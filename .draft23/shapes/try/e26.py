@@ -1,4 +1,4 @@
-p='/tmp/x/e26/crates/walk/src/lib.rt'; s=open(p).read()
+p='SCRATCH/e26/crates/walk/src/lib.rt'; s=open(p).read()
 s=s.replace('''    if is_plain(side, last, top, same, who) {
         return lead_all(page, side, last, finra);
     }

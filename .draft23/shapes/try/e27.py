@@ -1,6 +1,6 @@
 import re
-p='/tmp/x/e27/crates/walk/src/lib.rt'; s=open(p).read()
-e20=open('/tmp/x/e20/crates/walk/src/lib.rt').read()
+p='SCRATCH/e27/crates/walk/src/lib.rt'; s=open(p).read()
+e20=open('SCRATCH/e20/crates/walk/src/lib.rt').read()
 def fn(n,src):
     return re.search(r'\nfn '+n+r'\(.*?\n}\n',src,re.S).group(0)
 a=s.index('fn national(page'); b=s.index('\nfn below(')

@@ -1,4 +1,4 @@
-p='/tmp/x/e28/crates/walk/src/lib.rt'; s=open(p).read()
+p='SCRATCH/e28/crates/walk/src/lib.rt'; s=open(p).read()
 s=s.replace('return walk_plain(page, last, both(finra));','return entries(walk_plain(page, last, both(finra)));')
 s=s.replace('\nfn walk_plain(','''
 fn led(l: Lead) -> Lead
@@ -13,8 +13,8 @@ fn entries(e: BestEntries) -> BestEntries
 
 fn walk_plain(''')
 open(p,'w').write(s)
-p='/tmp/x/e29/crates/walk/src/lib.rt'; s=open(p).read()
-e28=open('/tmp/x/e28/crates/walk/src/lib.rt').read()
+p='SCRATCH/e29/crates/walk/src/lib.rt'; s=open(p).read()
+e28=open('SCRATCH/e28/crates/walk/src/lib.rt').read()
 import re
 def fn(n,src=e28):
     return re.search(r'\nfn '+n+r'\(.*?\n}\n',src,re.S).group(0)

@@ -1,5 +1,5 @@
 import re
-d='/tmp/x/e3/crates/'
+d='SCRATCH/e3/crates/'
 p=d+'page/src/lib.rt'; s=open(p).read()
 s=s.replace('pub const LEN: usize = Page::KEYS + 4 * Page::KEY_ROW;','pub const MAKER_KEYS: usize = Page::KEYS + 4 * Page::KEY_ROW;\n\n    pub const LEN: usize = Page::MAKER_KEYS + 128;')
 s+='''

@@ -1,5 +1,5 @@
 import re
-p='/tmp/x/e30/crates/walk/src/lib.rt'; s=open(p).read()
+p='SCRATCH/e30/crates/walk/src/lib.rt'; s=open(p).read()
 s=s.replace('use ranking::Sides;','use ranking::Sides;\nuse quote::Level;')
 # ---- makers
 a=s.index('// One maker cell more, both sides.'); b=s.index('// The FINRA best of a walk')

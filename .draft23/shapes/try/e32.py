@@ -1,5 +1,5 @@
 import re
-p='/tmp/x/e32/crates/walk/src/lib.rt'; s=open(p).read()
+p='SCRATCH/e32/crates/walk/src/lib.rt'; s=open(p).read()
 def cut(n):
     global s
     m=re.search(r'\nfn '+n+r'\(.*?\n}\n',s,re.S); s=s[:m.start()]+s[m.end():]
@@ -47,14 +47,14 @@ fn copied(c: Candidate) -> Candidate
 s=s.replace('odd_by(page, Side::Bid, stands(finra.bid), bar_bid, fb, ob)','odd_by(page, Side::Bid, finra.bid, bar_bid, fb, ob) as usize').replace('odd_by(page, Side::Offer, stands(finra.offer), bar_offer, fo, oo)','odd_by(page, Side::Offer, finra.offer, bar_offer, fo, oo) as usize')
 open(p,'w').write(s)
 # e31: s0 nationals + M + O(e32)
-s0=open('/tmp/x/s0/crates/walk/src/lib.rt').read()
+s0=open('SCRATCH/s0/crates/walk/src/lib.rt').read()
 import os,shutil
-shutil.copytree('/tmp/x/s0','/tmp/x/e31')
+shutil.copytree('SCRATCH/s0','SCRATCH/e31')
 t=s0
 a=t.index('// One maker cell more, both sides.'); b=t.index('// The FINRA best of a walk')
-t=t[:a]+open('/tmp/shape/makers.rt').read()+t[b:]
+t=t[:a]+open('SCRATCH/shape/makers.rt').read()+t[b:]
 a=t.index('// The best odd lot of the letters A to `last` that is beyond'); b=t.index('/// The six best entries of a page whose letters behind')
 x=s.index('\nfn below('); y=s.index('/// The six best entries of a page whose letters behind')
 t=t[:a]+s[x:y]+t[b:]
 t=t.replace('use ranking::Sides;','use ranking::Sides;\nuse quote::Level;\nuse page::Slot;')
-open('/tmp/x/e31/crates/walk/src/lib.rt','w').write(t)
+open('SCRATCH/e31/crates/walk/src/lib.rt','w').write(t)

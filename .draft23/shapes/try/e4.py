@@ -1,4 +1,4 @@
-d='/tmp/x/e4/crates/'
+d='SCRATCH/e4/crates/'
 p=d+'walk/src/lib.rt'; s=open(p).read()
 i=s.index('// One maker cell more, both sides.'); j=s.index('// The FINRA best of a walk')
 s=s[:i]+'''

@@ -1,4 +1,4 @@
-d='/tmp/x/e5/crates/'
+d='SCRATCH/e5/crates/'
 p=d+'keysets/src/lib.rt'; s=open(p).read()
 s+='''
 pub fn leaders(page: &[u8], at: usize, d: u32) -> u64

@@ -1,5 +1,5 @@
 import re
-d='/tmp/x/e6/crates/'
+d='SCRATCH/e6/crates/'
 p=d+'walk/src/lib.rt'; s=open(p).read()
 # makers with floors
 i=s.index('fn maker_of('); j=s.index('// The FINRA best of a walk')
@@ -184,7 +184,7 @@ fn condition_of(page: &[u8], letter: u32, d: u32) -> u32
     field::get8(page, page::slot_at(letter as usize)) as u32
 }
 '''+nat+off
-t=open('/tmp/x/e4/crates/walk/src/lib.rt').read()
+t=open('SCRATCH/e4/crates/walk/src/lib.rt').read()
 s+=t[t.index('// The best odd lots beyond the national bests, both sides.'):]
 a=s.index('    let top_bid = top_key('); b=s.index('    let odd = walk_odd(page, last')
 s=s[:a]+'''    let bid = bid_national(page, finra.bid);

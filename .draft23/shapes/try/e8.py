@@ -1,5 +1,5 @@
 import re
-d='/tmp/x/e8/crates/'
+d='SCRATCH/e8/crates/'
 p=d+'walk/src/lib.rt'; s=open(p).read()
 i=s.index('fn bid_national('); 
 nat='''

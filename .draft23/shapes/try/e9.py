@@ -1,4 +1,4 @@
-d='/tmp/x/e9/crates/'
+d='SCRATCH/e9/crates/'
 p=d+'walk/src/lib.rt'; s=open(p).read()
 i=s.index('fn odd_set('); j=s.index('pub fn walk_page(')
 s=s[:i]+'''

@@ -1,5 +1,5 @@
 import re
-d='/tmp/x/f1/crates/'
+d='SCRATCH/f1/crates/'
 p=d+'page/src/lib.rt'; s=open(p).read()
 s=s.replace('    pub const LEN: usize = Page::KEYS + 4 * Page::KEY_ROW;','''    pub const SIZES: usize = Page::KEYS + 4 * Page::KEY_ROW;
 

@@ -1,5 +1,5 @@
 import re
-d='/tmp/x/f2/crates/'
+d='SCRATCH/f2/crates/'
 p=d+'page/src/lib.rt'; s=open(p).read()
 s=s.replace('    pub const LEN: usize = Page::CONDITIONS + 26;','''    pub const MAKER_KEYS: usize = Page::CONDITIONS + 26;
 

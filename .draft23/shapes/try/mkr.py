@@ -1,5 +1,5 @@
 #!/usr/bin/env python3
-# mk.py DIR PREFIX: compile DIR's crates (unproved) to /tmp/x/obj/PREFIX.o with C symbols PREFIX_fn
+# mk.py DIR PREFIX: compile DIR's crates (unproved) to SCRATCH/obj/PREFIX.o with C symbols PREFIX_fn
 import re,sys,os,subprocess,glob,shutil
 d=os.path.abspath(sys.argv[1]); pre=sys.argv[2]
 src=open(d+'/crates/quotebook/src/lib.rt').read()
@@ -26,7 +26,7 @@ o.append('}')
 os.makedirs(d+'/crates/drive/src',exist_ok=True)
 open(d+'/crates/drive/src/main.rt','w').write('\n'.join(o)+'\n')
 libs=[l for l in open(d+'/crates.txt') if l.startswith('quotebook:')][0].split(':')[1].split()
-work='/tmp/x/work-'+pre; shutil.rmtree(work,ignore_errors=True); os.makedirs(work+'/tc/bin')
+work='SCRATCH/work-'+pre; shutil.rmtree(work,ignore_errors=True); os.makedirs(work+'/tc/bin')
 clang='KIT/on/x86_64/toolchain/bin/clang'
 os.symlink('KIT/toolchain/lib',work+'/tc/lib')
 open(work+'/tc/bin/clang','w').write(f'''#!/bin/bash
@@ -58,6 +58,6 @@ def w(fn,args,ret):
     return f'define {ty[ret]} @{pre}{fn}({", ".join(ps)}) #0 {{\nstart:\n'+'\n'.join(p0)+f'\n  %r = call {ty[ret]} @"quotebook::{fn}"({", ".join(call)})\n  ret {ty[ret]} %r\n}}\n'
 for f,ps,r_ in fns: s+=w(f,ps,r_)
 open(work+'/w.ll','w').write(s)
-os.makedirs('/tmp/x/obj',exist_ok=True)
-subprocess.run([clang,'--target=x86_64-unknown-linux-gnu','-march=x86-64','-ffunction-sections','-fdata-sections','-mllvm','-trap-unreachable','-mllvm','-no-trap-after-noreturn','-c','-x','ir',work+'/w.ll','-o',f'/tmp/x/obj/{pre}.o','-fPIC','-O3','-Xclang','-fmerge-functions','-mllvm','-mergefunc-use-aliases','-Rpass-missed=inline','-Rpass=inline'],check=True)
+os.makedirs('SCRATCH/obj',exist_ok=True)
+subprocess.run([clang,'--target=x86_64-unknown-linux-gnu','-march=x86-64','-ffunction-sections','-fdata-sections','-mllvm','-trap-unreachable','-mllvm','-no-trap-after-noreturn','-c','-x','ir',work+'/w.ll','-o',f'SCRATCH/obj/{pre}.o','-fPIC','-O3','-Xclang','-fmerge-functions','-mllvm','-mergefunc-use-aliases','-Rpass-missed=inline','-Rpass=inline'],check=True)
 print('ok',pre)

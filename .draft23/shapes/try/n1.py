@@ -1,5 +1,5 @@
 import re
-p='/tmp/x/n1/crates/walk/src/lib.rt'; s=open(p).read()
+p='SCRATCH/n1/crates/walk/src/lib.rt'; s=open(p).read()
 a=s.index('// The leader among letters of one price.'); b=s.index('// Whether a letter other than the leader counts.\nfn others')
 s=s[:a]+'''
 struct Mark {

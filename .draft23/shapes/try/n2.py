@@ -1,5 +1,5 @@
 import re
-p='/tmp/x/n2/crates/walk/src/lib.rt'; s=open(p).read()
+p='SCRATCH/n2/crates/walk/src/lib.rt'; s=open(p).read()
 a=s.index('\nfn both('); b=s.index('\nfn below(')
 s=s[:a]+'''
 fn led(l: Lead) -> Lead

@@ -1,5 +1,5 @@
 import re
-p='/tmp/x/n3/crates/walk/src/lib.rt'; s=open(p).read()
+p='SCRATCH/n3/crates/walk/src/lib.rt'; s=open(p).read()
 a=s.index('\nfn mark('); b=s.index('\nfn loses(')
 s=s[:a]+'''
 fn mark(page: &[u8], side: Side, i: u32, finra: Candidate) -> Mark

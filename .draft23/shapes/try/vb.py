@@ -1,6 +1,6 @@
 import re,sys
 src,dst=sys.argv[1:3]
-p=f'/tmp/x/{dst}/crates/walk/src/lib.rt'; s=open(p).read()
+p=f'SCRATCH/{dst}/crates/walk/src/lib.rt'; s=open(p).read()
 a=s.index('// The leader as a candidate.'); b=s.index('// A candidate, field by field')
 s=s[:a]+'''// The leader as a candidate.
 fn led(page: &[u8], side: Side, finra: Candidate, who: u32) -> Lead

@@ -1,5 +1,5 @@
 import re,sys
-p=f'/tmp/x/{sys.argv[1]}/crates/walk/src/lib.rt'; s=open(p).read()
+p=f'SCRATCH/{sys.argv[1]}/crates/walk/src/lib.rt'; s=open(p).read()
 m=re.search(r'fn who\(.*?\n}\n',s,re.S)
 s=s[:m.start()]+'''fn coded(leader: Shown, by: u32) -> u32
 {

@@ -1,5 +1,5 @@
 import re
-p='/tmp/v/crates/walk/src/lib.rt'; s=open(p).read()
+p='SCRATCH/v/crates/walk/src/lib.rt'; s=open(p).read()
 # led
 a=s.index('// The leader as a candidate.'); b=s.index('// A candidate, field by field')
 s=s[:a]+'''// The leader as a candidate, by its letter, 0 for none, and what put it ahead.

@@ -1,5 +1,5 @@
 import re
-p='/tmp/v/crates/walk/src/lib.rt'; s=open(p).read()
+p='SCRATCH/v/crates/walk/src/lib.rt'; s=open(p).read()
 a=s.index('// The best odd lots beyond the national bests, both sides.'); b=s.index('/// The six best entries of a page whose letters behind')
 s=s[:a]+'''// The higher of a guess and a bar.
 fn raised(floor: u32, bar: u32) -> u32

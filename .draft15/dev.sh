@@ -1,1 +1,0 @@
-cd ${ROOM:-CHECKOUT}; for c in "$@"; do rt dev $c 2>&1 | grep -v '^library\|^logic /\|^fn.*: proved\|^struct\|^enum\|unchanged\|note: large\|was not admitted\|cannot be unfolded because it was not' | cut -c1-${W:-400} | head -${H:-20}; done
