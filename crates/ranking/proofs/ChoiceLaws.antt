@@ -124,9 +124,13 @@ module _ (s : Side) (x b : Candidate) where
       rank-tie r h k z = z ∙ larger-tie Price (rank_of s x.price) (rank_of s b.price) (by_rest x b) (ltb-false _ _ (sym f ∙ k)) (ltb-false _ _ (sym e ∙ h))
 
 module _ (s : Side) (x b : Candidate) (p q : ℕ) (e : p ≡ rank_of s x.price) (f : q ≡ rank_of s b.price) where
-  pub rank-apart : (p ≡ q → ⊥) → by (ltb q p) Price ≡ by_rank s x b
+  pub rank-less : p < q → by false Price ≡ by_rank s x b
   unfolding by_rank
-  rank-apart n = rw (← e, ← f) (larger-apart Price p q (by_rest x b) n)
+  rank-less h = rw (← e, ← f) (larger-less Price p q (by_rest x b) h)
+
+  pub rank-greater : q < p → by true Price ≡ by_rank s x b
+  unfolding by_rank
+  rank-greater h = rw (← e, ← f) (larger-more Price p q (by_rest x b) h)
 
   pub rank-same : (r : Compared) → p ≡ q → r ≡ by_rest x b → r ≡ by_rank s x b
   unfolding by_rank

@@ -1,7 +1,7 @@
 // Which candidate is better, and what decided it.
 #![tactic(auto)]
 
-ghost use Rattle.std.specs.Prelude.{◌≡◌, nat_lt};
+ghost use Rattle.std.specs.Prelude.{◌≡◌, true, false, nat_lt};
 ghost use Rattle.ranking.specs.code.Choice.{rank_of, by_rest, by_rank, choose, beyond_of, lead_by, lead_with};
 
 /// Bids or offers. Every definition, law and loop that serves both takes it as a parameter.
@@ -104,21 +104,35 @@ pub fn is_behind(side: Side, price: u64, best: Candidate) -> bool
     rank(side, price) < rank(side, best.price)
 }
 
+// Ahead by a step, and behind. Each step asks for less and for more, and answers one of these two: with one answer worked out from both
+// (`ahead: other < own`) an order took a third more time.
+fn ahead_by(by: Reason) -> Compared
+    ensures { result ≡ record { ahead = true; by = by } }
+{
+    Compared { ahead: true, by }
+}
+
+fn behind_by(by: Reason) -> Compared
+    ensures { result ≡ record { ahead = false; by = by } }
+{
+    Compared { ahead: false, by }
+}
+
 // The comparison of x with a candidate of the same price: by larger size, earlier time, lower name.
 fn by_rest(x: Candidate, best: Candidate) -> Compared
     ensures { result ≡ by_rest x best }
 {
-    if x.size != best.size {
-        return Compared {
-            ahead: best.size < x.size,
-            by: Reason::Size,
-        };
+    if best.size < x.size {
+        return ahead_by(Reason::Size);
     }
-    if x.time != best.time {
-        return Compared {
-            ahead: x.time < best.time,
-            by: Reason::Time,
-        };
+    if x.size < best.size {
+        return behind_by(Reason::Size);
+    }
+    if x.time < best.time {
+        return ahead_by(Reason::Time);
+    }
+    if best.time < x.time {
+        return behind_by(Reason::Time);
     }
     Compared {
         ahead: x.name < best.name,
@@ -132,11 +146,11 @@ pub fn compare(side: Side, x: Candidate, best: Candidate) -> Compared
 {
     let own = rank(side, x.price);
     let other = rank(side, best.price);
-    if own != other {
-        return Compared {
-            ahead: other < own,
-            by: Reason::Price,
-        };
+    if own < other {
+        return behind_by(Reason::Price);
+    }
+    if other < own {
+        return ahead_by(Reason::Price);
     }
     by_rest(x, best)
 }
@@ -145,7 +159,10 @@ pub fn compare(side: Side, x: Candidate, best: Candidate) -> Compared
 pub fn choose(side: Side, best: Candidate, x: Candidate) -> Candidate
     ensures { result ≡ choose side best x }
 {
-    if x.price != 0 && x.size != 0 && compare(side, x, best).ahead {
+    if x.price == 0 || x.size == 0 {
+        return best;
+    }
+    if compare(side, x, best).ahead {
         return x;
     }
     best
