@@ -188,6 +188,6 @@ module _ (s : Side) (t : ℕ) (i : Item) (l r : Levels) where
       unfolding with_item
       item-added q = rw (ne_eqb i.shares 0 h, ← eh, e, ← eo, eq-eqb over.price 0 q, ← ek)
 
-      pub item-full : (over.price ≡ 0 → ⊥) → Err FifthLevel ≡ with_item s t i l
+      pub item-full : (over.price ≡ 0 → ⊥) → Err (record { by = FifthLevel; levels = l }) ≡ with_item s t i l
       unfolding with_item
       item-full q = rw (ne_eqb i.shares 0 h, ← eh, e, ← eo, ne_eqb over.price 0 q)

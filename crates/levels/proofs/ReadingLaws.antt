@@ -18,7 +18,7 @@ use Rattle.quote.specs.Quote.{no_level}
 use Rattle.levels.specs.declared.Levels.{Levels}
 use Rattle.levels.specs.declared.Item.{Item}
 use Rattle.levels.specs.declared.Pair.{Pair}
-use Rattle.numbers.specs.declared.Rejection.{Rejection}
+use Rattle.levels.specs.declared.Rejected.{Rejected}
 use Rattle.numbers.specs.declared.Rejection.TheVariants.{FifthLevel}
 use Rattle.levels.specs.Levels.{without, insert, item_on, empty_cell, ranked}
 use Rattle.levels.specs.code.Cells.{padded_cells, cells_of, leads, standing, standing_behind, ordered_of, kept_of, over_of, head_or, without_of, holds_of, replaced_of, passed, level_of, with_item}
@@ -220,22 +220,22 @@ over-full s x (suc k) (y ∷ ys) n h r = go (leads s x.price y.price) refl (over
 
 -- ---- one item
 
--- the levels after an item or a part as cells, or the rejection
-abbrev pub side_answer : Option (List Level) → Result Levels Rejection
-side_answer None = Err FifthLevel
-side_answer (Some ms) = passed (cells_of ms)
+-- the levels after an item or a part as cells, or the rejection with the old ones
+abbrev pub side_answer : Levels → Option (List Level) → Result Levels Rejected
+side_answer old None = Err (record { by = FifthLevel; levels = old })
+side_answer old (Some ms) = passed (cells_of ms)
 
 module _ (s : Side) (t : ℕ) where
   item-new : (i : Item) (ls : List Level) → eqb i.price 0 ≡ false → Ranked s ls → (b : Bool) → ltb (length ls) 4 ≡ b
-      → cond (eqb (over_of s (level_of t i) (cells_of ls)).price 0) (passed (kept_of s (level_of t i) (cells_of ls))) (Err FifthLevel)
-      ≡ side_answer (cond b (Some (insert s (level_of t i) ls)) None)
+      → cond (eqb (over_of s (level_of t i) (cells_of ls)).price 0) (passed (kept_of s (level_of t i) (cells_of ls))) (Err (record { by = FifthLevel; levels = record { cells = cells_of ls } }))
+      ≡ side_answer (record { cells = cells_of ls }) (cond b (Some (insert s (level_of t i) ls)) None)
   item-new i ls n r true f =
       let k : (kept_of s (level_of t i) (cells_of ls) ≡ cells_of (insert s (level_of t i) ls)) × (over_of s (level_of t i) (cells_of ls) ≡ no_level) =
       kept-cells s (level_of t i) 4 ls n (ltb-true (length ls) 4 f) r in
       rw (k.1, k.0)
   item-new i ls n r false f = rw (over-full s (level_of t i) 4 ls n (ltb-false (length ls) 4 f) r)
 
-  pub item-cells : (i : Item) (ls : List Level) → eqb i.price 0 ≡ false → length ls ≤ 4 → Ranked s ls → with_item s t i (record { cells = cells_of ls }) ≡ side_answer (item_on s t i ls)
+  pub item-cells : (i : Item) (ls : List Level) → eqb i.price 0 ≡ false → length ls ≤ 4 → Ranked s ls → with_item s t i (record { cells = cells_of ls }) ≡ side_answer (record { cells = cells_of ls }) (item_on s t i ls)
   unfolding with_item item_on
   item-cells i ls n h r = rw (holds-cells i.price z 4 ls h) (go (eqb i.shares 0) (holds_of i.price ls) refl)
     where
@@ -245,8 +245,8 @@ module _ (s : Side) (t : ℕ) where
       go : (a b : Bool) → holds_of i.price ls ≡ b
           → cond a (passed (without_of false i.price (cells_of ls)))
           (cond b (passed (replaced_of (level_of t i) (cells_of ls)))
-          (cond (eqb (over_of s (level_of t i) (cells_of ls)).price 0) (passed (kept_of s (level_of t i) (cells_of ls))) (Err FifthLevel)))
-          ≡ side_answer (cond a (Some (without i.price ls)) (cond (ltb (length (without i.price ls)) 4) (Some (insert s (level_of t i) (without i.price ls))) None))
+          (cond (eqb (over_of s (level_of t i) (cells_of ls)).price 0) (passed (kept_of s (level_of t i) (cells_of ls))) (Err (record { by = FifthLevel; levels = record { cells = cells_of ls } }))))
+          ≡ side_answer (record { cells = cells_of ls }) (cond a (Some (without i.price ls)) (cond (ltb (length (without i.price ls)) 4) (Some (insert s (level_of t i) (without i.price ls))) None))
       go true b f = ap passed (without-cells i.price z s 4 ls h r)
       go false true f =
           rw (lt-ltb (length (without i.price ls)) 4 (omega (arith, held-shorter i.price ls f)))

@@ -23,6 +23,21 @@ pub struct Item {
     pub shares: u32,
 }
 
+/// A rejected item: why, and the levels, which it left as they were.
+#[derive(Clone, Copy)]
+pub struct Rejected {
+    pub by: Rejection,
+    pub levels: Levels,
+}
+
+impl From<Rejected> for Rejection {
+    ghost from_gives = { λ rejected rejection. rejection ≡ rejected.by };
+
+    fn from(rejected: Rejected) -> Rejection {
+        rejected.by
+    }
+}
+
 // Two levels, the one that ranks first, then the other.
 #[derive(Clone, Copy)]
 struct Pair {
@@ -145,7 +160,7 @@ impl Levels {
     }
 
     /// The levels with one item taken: zero shares remove the level of its price, a known price is replaced, another is added, or rejected with 64 where four stand.
-    pub fn with_item(self, side: Side, item: Item, time: u64) -> Result<Levels, Rejection>
+    pub fn with_item(self, side: Side, item: Item, time: u64) -> Result<Levels, Rejected>
         ensures { result ≡ with_item side time item self }
     {
         if item.shares == 0 {
@@ -163,7 +178,9 @@ impl Levels {
         if put.over.price == 0 {
             return Ok(put.levels);
         }
-        Err(Rejection::FifthLevel)
+        let by = Rejection::FifthLevel;
+        let levels = self;
+        Err(Rejected { by, levels })
     }
 }
 

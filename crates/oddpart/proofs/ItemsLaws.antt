@@ -13,7 +13,7 @@ use Rattle.ranking.specs.declared.Side.{Side}
 use Rattle.quote.specs.declared.Level.{Level}
 use Rattle.levels.specs.declared.Item.{Item}
 use Rattle.levels.specs.declared.Levels.{Levels}
-use Rattle.numbers.specs.declared.Rejection.{Rejection}
+use Rattle.levels.specs.declared.Rejected.{Rejected}
 use Rattle.numbers.specs.declared.Rejection.TheVariants.{FifthLevel}
 use Rattle.levels.specs.Levels.{item_on, items_on, cleared_by}
 use Rattle.levels.specs.code.Cells.{cells_of, passed}
@@ -27,8 +27,8 @@ Priced [] = Unit {0}
 Priced (i ∷ is) = (eqb i.price 0 ≡ false) × Priced is
 
 -- what a side gives: the cells of its levels, or 64
-abbrev pub Gives : Result Levels Rejection → Option (List Level) → Type 0
-Gives c None = c ≡ Err FifthLevel
+abbrev pub Gives : Result Levels Rejected → Option (List Level) → Type 0
+Gives c None = (l : Levels) × (c ≡ Err (record { by = FifthLevel; levels = l }))
 Gives c (Some ms) = c ≡ passed (cells_of ms)
 
 module _ (s : Side) (t : ℕ) where
@@ -39,8 +39,8 @@ module _ (s : Side) (t : ℕ) where
     where
       go : (o : Option (List Level)) → item_on s t i ls ≡ o
           → ((ms : List Level) → length ms ≤ 4 → Ranked s ms → Gives (with_items s t is (record { cells = cells_of ms })) (items_on s t is ms))
-          → Gives (on_pass (side_answer o) (with_items s t is)) (bind_option o (items_on s t is))
-      go None x down = refl
+          → Gives (on_pass (side_answer (record { cells = cells_of ls }) o) (with_items s t is)) (bind_option o (items_on s t is))
+      go None x down = (record { cells = cells_of ls }, refl)
       go (Some ms) x down = down ms (item-short s t i ls ms x h) (item-ranked s t i ls ms x p.0 r)
 
   pub part-cells : (mark : ℕ) (is : List Item) (ls : List Level) → Priced is → length ls ≤ 4 → Ranked s ls → Gives (with_part s mark t is ls) (items_on s t is (cleared_by mark s ls))

@@ -18,7 +18,7 @@ use Rattle.quote.specs.declared.Level.{Level}
 use Rattle.quote.specs.Quote.{no_level}
 use Rattle.levels.specs.declared.Levels.{Levels}
 use Rattle.levels.specs.declared.Item.{Item}
-use Rattle.numbers.specs.declared.Rejection.{Rejection}
+use Rattle.levels.specs.declared.Rejected.{Rejected}
 use Rattle.std.specs.Prelude.{Result, Ok, Err}
 use Rattle.levels.specs.Levels.{clears, cleared_by, named, touches, items_bad, odd_bad, item_at, items_from, odd_in, clear_marks}
 use Rattle.levels.specs.code.Cells.{padded_cells, cells_of, with_item}
@@ -92,13 +92,13 @@ module _ (sd : Side) (t : ℕ) (s : List ℕ) (from n : ℕ) where
   pub items-start : (l : Levels) → with_items sd t (items_from s (from + 0) (n - 0)) l ≡ with_items sd t (items_from s from n) l
   items-start l = simp (sub-zero, add-zero)
 
-  module _ (w : Result Levels Rejection) (l : Levels) where
-    module _ (i : ℕ) (h : i < n) (inv : with_items sd t (items_from s (from + i) (n - i)) l ≡ w) (it : Item) (a : it ≡ item_at s (from + i)) (ch : Result Levels Rejection) (e : ch ≡ with_item sd t it l) where
+  module _ (w : Result Levels Rejected) (l : Levels) where
+    module _ (i : ℕ) (h : i < n) (inv : with_items sd t (items_from s (from + i) (n - i)) l ≡ w) (it : Item) (a : it ≡ item_at s (from + i)) (ch : Result Levels Rejected) (e : ch ≡ with_item sd t it l) where
       items-step : with_items sd t (items_from s (from + i) (n - i)) l ≡ on_pass ch (with_items sd t (items_from s (from + i + 1) (n - (i + 1))))
       unfolding with_items items_from
       items-step = rw (less_one n i h, ← a, ← e)
 
-      pub items-rejected : (x : Rejection) → ch ≡ Err x → Err x ≡ w
+      pub items-rejected : (x : Rejected) → ch ≡ Err x → Err x ≡ w
       items-rejected x r = sym (items-step ∙ rw r) ∙ inv
 
       pub items-again : (k : Levels) → ch ≡ Ok k → with_items sd t (items_from s (from + (i + 1)) (n - (i + 1))) k ≡ w

@@ -9,7 +9,7 @@ ghost use Rattle.page.specs.Page.{levels_for};
 ghost use Rattle.numbers.specs.Numbers.{coded};
 ghost use Rattle.oddpart.specs.code.Part.{touched_by, start_of, with_part};
 
-use levels::{Item, Levels};
+use levels::{Item, Levels, Rejected};
 use numbers::Rejection;
 use ranking::Side;
 
@@ -42,7 +42,7 @@ fn start(page: &[u8], letter: usize, side: Side, mark: u8) -> Levels
     slots::levels(page, letter, side)
 }
 
-/// A side of a letter's levels after a part: the clear mark, then n items in order, the first being item `from`.
+/// A side of a letter's levels after a part: the clear mark, then n items in order, the first being item `from`. A rejection has the levels before its item.
 pub fn with_part(
     page: &[u8],
     letter: usize,
@@ -52,7 +52,7 @@ pub fn with_part(
     from: usize,
     n: usize,
     time: u64,
-) -> Result<Levels, Rejection>
+) -> Result<Levels, Rejected>
     requires page_len { length page.now ≡ page_length }
     requires a_le_letter { (ascii.A ≤ letter) × (letter ≤ ascii.Z) }
     requires n_in_bounds { item_length * (from + n) ≤ length items.now }

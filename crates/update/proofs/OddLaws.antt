@@ -19,7 +19,7 @@ use Rattle.quote.specs.Quote.{quote_length}
 use Rattle.keys.specs.Keys.{key_length}
 use Rattle.field.specs.Low.{low}
 use Rattle.levels.specs.declared.Levels.{Levels}
-use Rattle.numbers.specs.declared.Rejection.{Rejection}
+use Rattle.levels.specs.declared.Rejected.{Rejected}
 use Rattle.numbers.specs.Numbers.{code_of}
 use Rattle.levels.specs.Levels.{Standing, side_levels, Odd, side_items, touches, odd_bad, fifth, odd_code, items_from, odd_in, side_in, side_length}
 use Rattle.levels.specs.code.Cells.{cells_of}
@@ -41,19 +41,19 @@ use Rattle.update.proofs.SlotLaws.{put-odd-is}
 
 -- ---- one side, and both
 
-module _ (s : Side) (l : ℕ) (p : List ℕ) (k c : Result Levels Rejection) (e : c ≡ k) where
-  pub one-rejected : (x : Rejection) → c ≡ Err x → ◌≡◌ {A = Put} (record { code = code_of x; page = p }) (one_side s l k p)
+module _ (s : Side) (l : ℕ) (p : List ℕ) (k c : Result Levels Rejected) (e : c ≡ k) where
+  pub one-rejected : (x : Rejected) → c ≡ Err x → ◌≡◌ {A = Put} (record { code = code_of x.by; page = p }) (one_side s l k p)
   one-rejected x f = rw (← e, f)
 
   pub one_written : (v : Levels) (p' : List ℕ) → c ≡ Ok v → p' ≡ with_cells s l v.cells p → ◌≡◌ {A = Put} (record { code = 0; page = p' }) (one_side s l k p)
   one_written v p' f g = rw (g, ← e, f)
 
-module _ (l : ℕ) (p : List ℕ) (j k b : Result Levels Rejection) (e : b ≡ j) where
-  pub bids-rejected : (x : Rejection) → b ≡ Err x → ◌≡◌ {A = Put} (record { code = code_of x; page = p }) (both_sides l j k p)
+module _ (l : ℕ) (p : List ℕ) (j k b : Result Levels Rejected) (e : b ≡ j) where
+  pub bids-rejected : (x : Rejected) → b ≡ Err x → ◌≡◌ {A = Put} (record { code = code_of x.by; page = p }) (both_sides l j k p)
   bids-rejected x f = rw (← e, f)
 
-  module _ (v : Levels) (q : b ≡ Ok v) (o : Result Levels Rejection) (d : o ≡ k) where
-    pub offers-rejected : (x : Rejection) → o ≡ Err x → ◌≡◌ {A = Put} (record { code = code_of x; page = p }) (both_sides l j k p)
+  module _ (v : Levels) (q : b ≡ Ok v) (o : Result Levels Rejected) (d : o ≡ k) where
+    pub offers-rejected : (x : Rejected) → o ≡ Err x → ◌≡◌ {A = Put} (record { code = code_of x.by; page = p }) (both_sides l j k p)
     offers-rejected x f = rw (← e, ← d, q, f)
 
     pub both-written : (w : Levels) (y z : List ℕ) → o ≡ Ok w → y ≡ with_cells Bid l v.cells p → z ≡ with_cells Offer l w.cells y → ◌≡◌ {A = Put} (record { code = 0; page = z }) (both_sides l j k p)
@@ -176,7 +176,7 @@ module _ (p : List ℕ) (w : length p ≡ page_length) (l : ℕ) (u : upper l �
         bids-touched e f d = go (side_run Bid o v) refl (gives Bid)
           where
             go : (x : Option (List Level)) → side_run Bid o v ≡ x → Gives (side_part Bid mark t l (items_from s 0 bids) p) x → Taken l o p r
-            go None k m = by None (Some v.offers) k (still Offer o v (offer-touched ∙ f)) r (d ∙ rw m)
+            go None k m = by None (Some v.offers) k (still Offer o v (offer-touched ∙ f)) r (d ∙ rw m.1)
             go (Some ls) k m =
                 let n : Standing = record { bids = ls; offers = v.offers } in
                 by (Some ls) (Some v.offers) k (still Offer o v (offer-touched ∙ f)) r (d ∙ rw m (λ i. record { code = 0; page = (bid-put n e ∙ offer-left n (put_side Bid l o n p) f) i }))
@@ -186,7 +186,7 @@ module _ (p : List ℕ) (w : length p ≡ page_length) (l : ℕ) (u : upper l �
         offers-touched e f d = go (side_run Offer o v) refl (gives Offer)
           where
             go : (y : Option (List Level)) → side_run Offer o v ≡ y → Gives (side_part Offer mark t l (items_from s bids offers) p) y → Taken l o p r
-            go None k m = by (Some v.bids) None (still Bid o v (bid-touched ∙ e)) k r (d ∙ rw m)
+            go None k m = by (Some v.bids) None (still Bid o v (bid-touched ∙ e)) k r (d ∙ rw m.1)
             go (Some ls) k m =
                 let n : Standing = record { bids = v.bids; offers = ls } in
                 by (Some v.bids) (Some ls) (still Bid o v (bid-touched ∙ e)) k r (d ∙ rw m (λ i. record { code = 0; page = (ap (with_cells Offer l (cells_of ls)) (bid-left n e) ∙ offer-put n (put_side Bid l o n p) f) i }))
@@ -197,8 +197,8 @@ module _ (p : List ℕ) (w : length p ≡ page_length) (l : ℕ) (u : upper l �
           where
             go : (x : Option (List Level)) → side_run Bid o v ≡ x → Gives (side_part Bid mark t l (items_from s 0 bids) p) x
                 → (y : Option (List Level)) → side_run Offer o v ≡ y → Gives (side_part Offer mark t l (items_from s bids offers) p) y → Taken l o p r
-            go None k m y k' m' = by None y k k' r (d ∙ rw m)
-            go (Some ls) k m None k' m' = by (Some ls) None k k' r (d ∙ rw (m, m'))
+            go None k m y k' m' = by None y k k' r (d ∙ rw m.1)
+            go (Some ls) k m None k' m' = by (Some ls) None k k' r (d ∙ rw (m, m'.1))
             go (Some ls) k m (Some ns) k' m' =
                 let n : Standing = record { bids = ls; offers = ns } in
                 by (Some ls) (Some ns) k k' r (d ∙ rw (m, m') (λ i. record { code = 0; page = (ap (with_cells Offer l (cells_of ns)) (bid-put n e) ∙ offer-put n (put_side Bid l o n p) f) i }))

@@ -9,7 +9,7 @@ use Rattle.quote.specs.Quote.{no_level, level_bytes}
 use Rattle.levels.specs.declared.Levels.{Levels}
 use Rattle.levels.specs.declared.Item.{Item}
 use Rattle.levels.specs.declared.Pair.{Pair}
-use Rattle.numbers.specs.declared.Rejection.{Rejection}
+use Rattle.levels.specs.declared.Rejected.{Rejected}
 use Rattle.numbers.specs.declared.Rejection.TheVariants.{FifthLevel}
 use Rattle.levels.specs.Levels.{empty_cell}
 
@@ -74,16 +74,16 @@ unfoldable pub replaced_of : Level → List Level → List Level
 replaced_of x [] = []
 replaced_of x (y ∷ ys) = cond (eqb y.price x.price) x y ∷ replaced_of x ys
 
-abbrev pub passed : List Level → Result Levels Rejection
+abbrev pub passed : List Level → Result Levels Rejected
 passed ls = Ok (record { cells = ls })
 
 abbrev pub level_of : ℕ → Item → Level
 level_of t i = record { price = i.price; size = i.shares; time = t }
 
 -- "Zero shares remove the level of that price, if any; a known price is replaced; another is added", or rejected where a level falls out
-unfoldable pub with_item : Side → ℕ → Item → Levels → Result Levels Rejection
+unfoldable pub with_item : Side → ℕ → Item → Levels → Result Levels Rejected
 with_item s t i l =
     cond (eqb i.shares 0) (passed (without_of false i.price l.cells))
     (cond (holds_of i.price l.cells) (passed (replaced_of (level_of t i) l.cells))
     (cond (eqb (over_of s (level_of t i) l.cells).price 0) (passed (kept_of s (level_of t i) l.cells))
-    (Err FifthLevel)))
+    (Err (record { by = FifthLevel; levels = l }))))

@@ -6,7 +6,7 @@ use Rattle.ranking.specs.declared.Side.TheVariants.{Bid, Offer}
 use Rattle.quote.specs.declared.Quote.{Quote}
 use Rattle.levels.specs.declared.Item.{Item}
 use Rattle.levels.specs.declared.Levels.{Levels}
-use Rattle.numbers.specs.declared.Rejection.{Rejection}
+use Rattle.levels.specs.declared.Rejected.{Rejected}
 use Rattle.numbers.specs.Numbers.{code_of}
 use Rattle.levels.specs.Levels.{side_levels, Odd, odd_code}
 use Rattle.oddpart.specs.code.Part.{with_part}
@@ -44,18 +44,18 @@ pub record Put : Type 0 where
   pub page : List ℕ
 
 -- a side of a letter's levels after a part with this mark and time, and these items of that side
-abbrev pub side_part : Side → ℕ → ℕ → ℕ → List Item → List ℕ → Result Levels Rejection
+abbrev pub side_part : Side → ℕ → ℕ → ℕ → List Item → List ℕ → Result Levels Rejected
 side_part s mark t l is p = with_part s mark t is (side_levels s (levels_for p l))
 
 -- one side written, or both; a rejection writes nothing
-abbrev pub one_side : Side → ℕ → Result Levels Rejection → List ℕ → Put
+abbrev pub one_side : Side → ℕ → Result Levels Rejected → List ℕ → Put
 one_side s l (Ok v) p = record { code = 0; page = with_cells s l v.cells p }
-one_side s l (Err r) p = record { code = code_of r; page = p }
+one_side s l (Err r) p = record { code = code_of r.by; page = p }
 
-abbrev pub both_sides : ℕ → Result Levels Rejection → Result Levels Rejection → List ℕ → Put
+abbrev pub both_sides : ℕ → Result Levels Rejected → Result Levels Rejected → List ℕ → Put
 both_sides l (Ok b) (Ok o) p = record { code = 0; page = with_cells Offer l o.cells (with_cells Bid l b.cells p) }
-both_sides l (Ok b) (Err r) p = record { code = code_of r; page = p }
-both_sides l (Err r) o p = record { code = code_of r; page = p }
+both_sides l (Ok b) (Err r) p = record { code = code_of r.by; page = p }
+both_sides l (Err r) o p = record { code = code_of r.by; page = p }
 
 -- Q K: a fault rejects it; with 60 to 64 the round part alone is in force
 unfoldable pub round_lot_on : ℕ → ℕ → Quote → Odd → List ℕ → Updated
