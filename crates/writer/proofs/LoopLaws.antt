@@ -7,11 +7,11 @@ use mathlib.Core.List.{List, [], ◌∷◌}
 use native.Mathlib.Omega.{arith}
 use native.Mathlib.Nat.{add-zero}
 use native.Mathlib.Numerals.{add-one}
-use lib.ListN.{length, take, drop, get_or, drop_of_length-le}
+use lib.ListN.{length, set, take, drop, get_or, drop_of_length-le}
 use lib.Seq.{drop-cons, drop-drop, get_or-take, get_or-drop}
 use borrow.Author.Tests.{eq-eqb, ne_eqb}
 use Rattle.field.specs.Field.{part, splice, be_bytes}
-use Rattle.field.proofs.Laws.{splice-join, splice-part, length-splice}
+use Rattle.field.proofs.Laws.{splice-join, splice-one, splice-part, length-splice}
 use Rattle.block.specs.Block.{offset_at, is_control}
 use Rattle.block.specs.Written.{offsets, cut_by, any_control}
 
@@ -21,6 +21,21 @@ cons-at l i h = drop-cons l i 0 h ∙ ap (λ (k : ℕ). get_or l i 0 ∷ drop k 
 splice-none : (s : List ℕ) (at : ℕ) → at ≤ length s → s ≡ splice s at []
 unfolding part
 splice-none s at h = sym (splice-part s at 0 (omega arith))
+
+-- ---- a copy
+
+pub copy-again : (s m w : List ℕ) (at i : ℕ) → i < length m → at + i < length s → splice s (at + i) (drop i m) ≡ w
+    → splice (set s (at + i) (get_or m i 0)) (at + (i + 1)) (drop (i + 1) m) ≡ w
+copy-again s m w at i h l inv =
+    let e : at + (i + 1) ≡ at + i + 1 = omega arith in
+    ap (λ (k : ℕ). splice (set s (at + i) (get_or m i 0)) k (drop (i + 1) m)) e
+    ∙ ap (λ (z : List ℕ). splice z (at + i + 1) (drop (i + 1) m)) (splice-one s (at + i) (get_or m i 0) l)
+    ∙ splice-join s (at + i) 1 (get_or m i 0 ∷ []) (drop (i + 1) m) refl
+    ∙ ap (splice s (at + i)) (sym (cons-at m i h))
+    ∙ inv
+
+pub copy-end : (s m w : List ℕ) (at i : ℕ) → length m ≤ i → at + i ≤ length s → splice s (at + i) (drop i m) ≡ w → s ≡ w
+copy-end s m w at i h l inv = splice-none s (at + i) l ∙ ap (splice s (at + i)) (sym (drop_of_length-le m h)) ∙ inv
 
 -- ---- the table
 

@@ -115,7 +115,9 @@ pub fn copy(output: &mut [u8], at: usize, messages: &[u8])
     requires { at + length messages.now ≤ length output.old }
     ensures { output.new ≡ splice output.old at messages.now }
 {
-    output[at..at + messages.len()].copy_from_slice(messages);
+    for (i, &byte) in messages.iter().enumerate() {
+        output[at + i] = byte;
+    }
 }
 
 /// Puts header, table and checksum in front of messages of these lengths, which stand in their place.
