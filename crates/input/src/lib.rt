@@ -2,7 +2,7 @@
 #![tactic(auto)]
 
 ghost use Rattle.std.specs.Prelude.{◌≡◌, ◌+◌, ◌≤◌, length, IfOk, OnOk};
-ghost use Rattle.input.specs.Input.{input_length};
+ghost use Rattle.input.specs.Input.{input_length, head_length, block_most};
 
 use numbers::Refusal;
 use output::Output;
@@ -42,7 +42,7 @@ impl<'a> Record<'a> {
 }
 
 /// Standard input and its buffer, into which the longest record fits: the bytes from `from` to `to` are read and not yet used.
-#[derive(Drop)]
+#[derive(Clone, Copy)]
 pub struct Input {
     input: Stdin,
     bytes: [u8; Input::LEN],
@@ -87,7 +87,7 @@ impl Input {
         let at = self.from;
         let line = self.bytes[at];
         let len = u16::from_be_bytes([self.bytes[at + 1], self.bytes[at + 2]]);
-        let end = Record::HEAD + usize::from(len);
+        let end = record_len(len);
         self.hold(out, end, Stop::Cut)?;
         let bytes = self.used(end);
         Ok(Record {
@@ -158,6 +158,14 @@ impl Input {
         };
         got
     }
+}
+
+// Bytes of a record with a block of `len` bytes.
+fn record_len(len: u16) -> usize
+    ensures whole { result ≡ head_length + len }
+    ensures most { result ≤ head_length + block_most }
+{
+    Record::HEAD + usize::from(len)
 }
 
 // Whether the reading goes on, of a tape that has `to` bytes where n are asked for.

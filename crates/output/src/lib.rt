@@ -8,7 +8,7 @@ use itoa::Buffer;
 use std::io::{Stderr, Stdout};
 
 /// Standard output and its buffer: the first `filled` bytes wait.
-#[derive(Drop)]
+#[derive(Clone, Copy)]
 pub struct Output {
     output: Stdout,
     errors: Stderr,

@@ -1,12 +1,20 @@
 // What the tape program prints: a refused setup, a cut tape, a block and its messages, a symbol and its entries.
 #![tactic(auto)]
 
+ghost use Rattle.std.specs.Prelude.{◌≤◌, ◌≡◌, length};
+ghost use Rattle.text.specs.Form.{name_length};
+ghost use Rattle.entries.specs.Publication.{publication_length};
+ghost use Rattle.print.specs.Print.{label_length, entry_count};
+
 use output::Output;
 use publication::Entry;
 use text::Maker;
 
 // "the answer buffer's four bytes at 4i hold i, the code, the change flags and 0"
 const QUAD: usize = 4;
+
+// A kind, a side and a space.
+const LABEL_LEN: usize = 3;
 
 /// What a block got.
 #[derive(Clone, Copy)]
@@ -47,7 +55,7 @@ pub fn put_block(out: &mut Output, got: Got, answer: &[u8]) {
         ],
     );
     let (answers, _) = answer.as_chunks::<QUAD>();
-    let count = got.messages.min(answers.len());
+    let count = least(got.messages, answers.len());
     for &[index, code, flags, _] in &answers[..count] {
         out.put_line(
             b"msg",
@@ -56,8 +64,16 @@ pub fn put_block(out: &mut Output, got: Got, answer: &[u8]) {
     }
 }
 
+fn least(a: usize, b: usize) -> usize
+    ensures { result ≤ b }
+{
+    a.min(b)
+}
+
 /// A symbol and its six entries.
-pub fn put_symbol(out: &mut Output, name: &[u8], publication: &[u8]) {
+pub fn put_symbol(out: &mut Output, name: &[u8], publication: &[u8])
+    requires { length publication.now ≡ publication_length }
+{
     out.put_text(b"sym ");
     out.put_name(name);
     out.put(b'\n');
@@ -69,27 +85,51 @@ pub fn put_symbol(out: &mut Output, name: &[u8], publication: &[u8]) {
         (Kind::Odd, b"OB "),
         (Kind::Odd, b"OO "),
     ];
+    put_entries(out, &labels, publication);
+}
+
+// Each entry behind its label.
+fn put_entries(out: &mut Output, labels: &[(Kind, &[u8; LABEL_LEN])], publication: &[u8])
+    requires labels_len { length labels.now ≡ entry_count }
+    requires publication_len { length publication.now ≡ publication_length }
+{
     let (entries, _) = publication.as_chunks::<{ Entry::LEN }>();
     for (&(kind, label), entry) in labels.iter().zip(entries) {
-        out.put_text(label);
-        put_entry(out, kind, entry);
+        put_entry(out, kind, label, entry);
     }
 }
 
-// One entry: name, condition, price and size; none is four spaces and zeros.
-fn put_entry(out: &mut Output, kind: Kind, entry: &[u8; Entry::LEN]) {
+// One entry behind its label: name, condition, price and size; none is four spaces and zeros.
+fn put_entry(out: &mut Output, kind: Kind, label: &[u8], entry: &[u8; Entry::LEN])
+    requires { length label.now ≡ label_length }
+{
+    out.put_text(label);
     if entry[0] == b' ' {
         out.put_text(b"- - 0 0\n");
         return;
     }
-    // a maker's name has four bytes; of the others the first is the letter, and a national entry's condition is its second byte
-    let (width, condition) = match kind {
-        Kind::National => (1, entry[1]),
-        Kind::Finra => (Maker::LEN, b'R'),
-        Kind::Odd => (1, b'-'),
-    };
-    out.put_name(&entry[..width]);
+    out.put_name(&entry[..name_width(kind)]);
     let price = field::get64(entry, Entry::PRICE);
     let size = field::get32(entry, Entry::SIZE);
-    out.put_line(&[b' ', condition], &[price, u64::from(size)]);
+    out.put_line(&[b' ', condition(kind, entry)], &[price, u64::from(size)]);
+}
+
+// A maker's name has four bytes; of the others the first is the letter.
+fn name_width(kind: Kind) -> usize
+    ensures { result ≤ name_length }
+{
+    match kind {
+        Kind::National => 1,
+        Kind::Finra => Maker::LEN,
+        Kind::Odd => 1,
+    }
+}
+
+// A national entry's condition is its second byte.
+fn condition(kind: Kind, entry: &[u8; Entry::LEN]) -> u8 {
+    match kind {
+        Kind::National => entry[1],
+        Kind::Finra => b'R',
+        Kind::Odd => b'-',
+    }
 }
