@@ -71,7 +71,7 @@ fn least(a: usize, b: usize) -> usize
 }
 
 /// A symbol and its six entries.
-pub fn put_symbol(out: &mut Output, name: &[u8], publication: &[u8])
+pub fn put_whole_symbol(out: &mut Output, name: &[u8], publication: &[u8])
     requires { length publication.now ≡ publication_length }
 {
     out.put_text(b"sym ");
@@ -86,6 +86,27 @@ pub fn put_symbol(out: &mut Output, name: &[u8], publication: &[u8])
         (Kind::Odd, b"OO "),
     ];
     put_entries(out, &labels, publication);
+}
+
+/// A symbol and each whole entry of a publication of any length, six at most.
+pub fn put_symbol(out: &mut Output, name: &[u8], publication: &[u8]) {
+    out.put_text(b"sym ");
+    out.put_name(name);
+    out.put(b'\n');
+    let labels = [b"NB ", b"NO ", b"FB ", b"FO ", b"OB ", b"OO "];
+    let (entries, _) = publication.as_chunks::<{ Entry::LEN }>();
+    for (label, entry) in labels.iter().zip(entries) {
+        put_entry(out, kind_of(*label), *label, entry);
+    }
+}
+
+// The kind of the entry behind a label.
+fn kind_of(label: &[u8; LABEL_LEN]) -> Kind {
+    match label[0] {
+        b'N' => Kind::National,
+        b'F' => Kind::Finra,
+        _ => Kind::Odd,
+    }
 }
 
 // Each entry behind its label.

@@ -50,6 +50,6 @@ fn put_symbols(out: &mut Output, book: &[u8], n: u8)
         let mut publication = [0u8; Book::PUBLICATION_LEN];
         // a symbol that is listed is not refused
         let _ = query::read(book, symbol, &mut publication);
-        print::put_symbol(out, symbol, &publication);
+        print::put_whole_symbol(out, symbol, &publication);
     }
 }
